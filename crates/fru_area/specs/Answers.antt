@@ -1,0 +1,19 @@
+-- What a call answers, against what reading gives.
+use Rattle.std.specs.Prelude.{◌≡◌, ⊤, Result, Ok, Err}
+use Rattle.fru_area.specs.declared.fault.FruFault.{FruFault}
+use Rattle.fru_area.specs.declared.fault.FruFault.TheVariants.{OutOfMemory}
+
+-- want of memory says nothing of what is read; another fault is the one that reading gives
+abbrev pub GivesFault : {X : Type 0} → FruFault → Result X FruFault → Type 0
+GivesFault OutOfMemory read = ⊤
+GivesFault fault read = read ≡ Err fault
+
+-- the call answered what reading gives, unless memory ran out
+abbrev pub Gives : {X : Type 0} → Result X FruFault → Result X FruFault → Type 0
+Gives (Ok x) read = read ≡ Ok x
+Gives (Err fault) read = GivesFault fault read
+
+-- a result with what is seen of its value
+abbrev pub seen : {X Y : Type 0} → (X → Y) → Result X FruFault → Result Y FruFault
+seen view (Ok x) = Ok (view x)
+seen view (Err fault) = Err fault

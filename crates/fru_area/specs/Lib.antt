@@ -1,0 +1,6 @@
+pub mod Headers
+pub mod Walks
+pub mod Texts
+pub mod Names
+pub mod Areas
+pub mod Answers

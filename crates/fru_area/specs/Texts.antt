@@ -1,0 +1,55 @@
+-- The text of a field (FRU definition 1.0, section 13), in UTF-8.
+use Rattle.std.specs.Prelude.{ℕ, zero, suc, ◌+◌, ◌*◌, ◌-◌, ◌/◌, ◌%◌, Bool, ◌==◌, nat_lt, if◌then◌else◌, List, [], ◌∷◌, ◌++◌, length, slice_index, encode_utf8, codes}
+use Rattle.std.specs.List.{flat_map}
+use Rattle.std.specs.Char.Utf16.{utf16_lossy_chars}
+use Rattle.hex.specs.Hex.{encode_lower}
+use Rattle.fru_area.specs.Walks.{Raw}
+
+-- the character of a nibble of BCD plus
+abbrev pub bcd_char : ℕ → ℕ
+bcd_char nibble = if nat_lt nibble 10 then 48 + nibble else slice_index (codes " -.:,_") (nibble - 10)
+
+-- BCD plus, the high nibble first
+abbrev pub bcd_text : List ℕ → List ℕ
+bcd_text bytes = flat_map (λ byte. bcd_char (byte / 16) ∷ bcd_char (byte % 16) ∷ []) bytes
+
+-- bytes as one number, the low byte first
+abbrev pub little_endian : List ℕ → ℕ
+little_endian [] = 0
+little_endian (byte ∷ bytes) = byte + 256 * little_endian bytes
+
+-- the lowest groups of six bits of a number, so many of them, each as a character from 20h on
+abbrev pub six_bit_chars : ℕ → ℕ → List ℕ
+six_bit_chars zero bits = []
+six_bit_chars (suc count) bits = (32 + bits % 64) ∷ six_bit_chars count (bits / 64)
+
+-- 6-bit ASCII, packed from the low bits up; bits that are left over are dropped
+abbrev pub six_bit_text : List ℕ → List ℕ
+six_bit_text bytes = six_bit_chars (8 * length bytes / 6) (little_endian bytes)
+
+-- Latin 1, a character for each byte
+abbrev pub latin_text : List ℕ → List ℕ
+latin_text bytes = flat_map encode_utf8 bytes
+
+-- the units of 2-byte Unicode, the low byte first, and U+FFFD for an odd byte at the end
+abbrev pub unicode_units : List ℕ → List ℕ
+unicode_units [] = []
+unicode_units (odd ∷ []) = 0xFFFD ∷ []
+unicode_units (low ∷ high ∷ bytes) = (low + 256 * high) ∷ unicode_units bytes
+
+-- 2-byte Unicode: a surrogate pair is one character, and a surrogate without its partner is U+FFFD
+abbrev pub unicode_text : List ℕ → List ℕ
+unicode_text bytes = flat_map encode_utf8 (utf16_lossy_chars (unicode_units bytes))
+
+-- the text of a field by its type: binary as hexadecimal, BCD plus, 6-bit ASCII, or text by the area's language
+unfoldable pub text_of : Bool → Raw → List ℕ
+text_of english raw =
+    if raw.kind == 0 then encode_lower raw.bytes
+    else if raw.kind == 1 then bcd_text raw.bytes
+    else if raw.kind == 2 then six_bit_text raw.bytes
+    else if english then latin_text raw.bytes
+    else unicode_text raw.bytes
+
+-- whether a field is text by the area's language
+abbrev pub is_text : Raw → Bool
+is_text raw = raw.kind == 3

@@ -1,0 +1,94 @@
+ghost use Rattle.std.specs.Prelude.{◌≡◌, ◌≤◌, ◌<◌, ◌∷◌, ◌++◌, [], length, IfSome, IfNone, IfOk, OnOk, OnErr};
+
+use crate::FieldName;
+use arrayvec::ArrayString;
+use bmc_base::OutOfMemory;
+use std::alloc::Global;
+use std::marker::Model;
+
+/// The text of a field: at most 128 bytes of UTF-8, held without the heap.
+#[derive(Drop)]
+pub struct FieldText {
+    text: ArrayString<128>,
+}
+
+impl Model for FieldText {
+    ghost use Rattle.std.specs.Prelude.{ℕ, List, ◌≤◌, length};
+
+    ghost Value = { List ℕ };
+
+    ghost view = { λ t. t.text.bytes };
+
+    ghost invariant = { λ t. length t.text.bytes ≤ 128 };
+}
+
+impl FieldText {
+    /// The text, or none above 128 bytes. It takes no memory.
+    pub fn new(text: &str) -> Option<FieldText>
+        ensures found { IfSome result (λ t. t ≡ text.now) }
+        ensures none { IfNone result (128 < length text.now) }
+    {
+        let mut held = ArrayString::new();
+        match held.try_push_str(text) {
+            Ok(()) => Some(FieldText { text: held }),
+            Err(_) => None,
+        }
+    }
+
+    /// The text, read.
+    pub fn as_str(&self) -> &str
+        ensures text { result.now ≡ self.now }
+        ensures most { length self.now ≤ 128 }
+    {
+        self.text.as_str()
+    }
+}
+
+/// A field of a record.
+#[derive(Drop)]
+pub struct Field {
+    pub name: FieldName,
+    pub text: FieldText,
+}
+
+/// Fields, in the order of the record.
+#[derive(Drop)]
+pub struct FieldList {
+    fields: Vec<Field>,
+}
+
+impl Model for FieldList {
+    ghost use Rattle.std.specs.Prelude.{List};
+    ghost use Rattle.fru_area.specs.declared.field.Field.{Field};
+
+    ghost Value = { List Field };
+
+    ghost view = { λ l. l.fields.items };
+}
+
+impl FieldList {
+    /// No fields, and room for a few.
+    pub fn new(alloc: Global) -> Result<FieldList, OutOfMemory>
+        ensures { IfOk result (λ fields. fields ≡ []) }
+    {
+        let fields = Vec::with_capacity(alloc, 8)?;
+        Ok(FieldList { fields })
+    }
+
+    /// Appends a field, or changes nothing.
+    pub fn push(&mut self, alloc: Global, item: Field) -> Result<(), OutOfMemory>
+        ensures ok { OnOk result (self.new ≡ self.old ++ item ∷ []) }
+        ensures err { OnErr result (self.new ≡ self.old) }
+    {
+        let _ = alloc;
+        self.fields.push(item)?;
+        Ok(())
+    }
+
+    /// The fields, read.
+    pub fn as_slice(&self) -> &[Field]
+        ensures { result.now ≡ self.now }
+    {
+        &self.fields
+    }
+}

@@ -1,0 +1,55 @@
+ghost use Rattle.std.specs.Prelude.{◌≡◌};
+ghost use Rattle.fru_area.specs.Headers.{checksum, header};
+
+use crate::FruFault;
+
+/// Where the areas begin, in multiples of 8 bytes; 0 where an area is absent (FRU definition 1.0,
+/// section 8).
+#[derive(Clone, Copy, Debug, PartialEq, Eq)]
+pub struct Header {
+    /// The chassis information area.
+    pub chassis: u8,
+    /// The board information area.
+    pub board: u8,
+    /// The product information area.
+    pub product: u8,
+    /// The multirecord area, of which nothing is read here.
+    pub multi: u8,
+}
+
+/// The sum of the bytes, modulo 256. It is zero over a header or an area with its checksum.
+pub fn area_sum(bytes: &[u8]) -> u8
+    ensures { result ≡ checksum bytes.now }
+{
+    let mut sum: u8 = 0;
+    for byte in bytes {
+        sum = sum.wrapping_add(*byte);
+    }
+    sum
+}
+
+/// The common header, or the first of its rules that is broken: `FruShort`, `FruTooLong`,
+/// `HeaderVersion`, `HeaderChecksum`. It takes no memory.
+#[tactic(auto, unfolding(crate::specs::Headers::header))]
+pub fn read_header(bytes: &[u8]) -> Result<Header, FruFault>
+    ensures { result ≡ header bytes.now }
+{
+    if bytes.len() < 8 {
+        return Err(FruFault::FruShort);
+    }
+    if bytes.len() > 4096 {
+        return Err(FruFault::FruTooLong);
+    }
+    if bytes[0] != 1 {
+        return Err(FruFault::HeaderVersion);
+    }
+    if area_sum(&bytes[..8]) != 0 {
+        return Err(FruFault::HeaderChecksum);
+    }
+    Ok(Header {
+        chassis: bytes[2],
+        board: bytes[3],
+        product: bytes[4],
+        multi: bytes[5],
+    })
+}

@@ -1,0 +1,20 @@
+//! The common header and the information areas of a FRU record, by the IPMI Platform Management FRU
+//! Information Storage Definition 1.0: where areas lie, their checksums, and their fields as text.
+//! Whole records stand on it.
+#![tactic(auto)]
+
+mod area;
+mod fault;
+mod field;
+mod header;
+mod law;
+mod name;
+mod text;
+
+pub use area::{area_bytes, is_all_text, read_area};
+pub use fault::{Area, FruFault};
+pub use field::{Field, FieldList, FieldText};
+pub use header::{Header, area_sum, read_header};
+pub use law::one_reading;
+pub use name::FieldName;
+pub use text::field_text;
