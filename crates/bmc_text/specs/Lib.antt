@@ -1,0 +1,4 @@
+pub mod Items
+pub mod Feeds
+pub mod Reading
+pub mod Hex
