@@ -1,0 +1,3 @@
+pub mod PlainBoards
+pub mod Histories
+pub mod Runs

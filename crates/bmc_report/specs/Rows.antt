@@ -1,0 +1,29 @@
+-- The rows of the list of FRUs.
+use Rattle.std.specs.Prelude.{ℕ, ◌+◌, ◌/◌, ◌%◌, nat_lt, ◌==◌, ◌||◌, if◌then◌else◌, List, [], ◌∷◌, ◌++◌, codes, decimal, chars, encode_utf8}
+use Rattle.std.specs.List.{flat_map}
+use Rattle.bmc_base.specs.Places.{Place}
+use Rattle.fru_area.specs.Names.{name_text}
+use Rattle.fru_area.specs.declared.field.Field.{Field}
+
+-- a lower-case hexadecimal digit
+abbrev pub hex_digit : ℕ → ℕ
+hex_digit value = if nat_lt value 10 then 48 + value else 87 + value
+
+-- a character between quotes: \" and \\ for these two, \x and two digits for one below 20h and for 7Fh, else itself
+abbrev pub escaped : ℕ → List ℕ
+escaped char =
+    if char == 34 || char == 92 then 92 ∷ char ∷ []
+    else if nat_lt char 32 || char == 127 then codes "\\x" ++ (hex_digit (char / 16) ∷ hex_digit (char % 16) ∷ [])
+    else encode_utf8 char
+
+-- a text between quotes
+unfoldable pub quoted : List ℕ → List ℕ
+quoted text = codes "\"" ++ flat_map escaped (chars text) ++ codes "\""
+
+-- a field in the row of its FRU
+unfoldable pub field_row : Field → List ℕ
+field_row field = codes " " ++ name_text field.name ++ codes "=" ++ quoted field.text
+
+-- the row of a FRU: its place, and its fields in the order of the record
+unfoldable pub fru_row : Place → List Field → List ℕ
+fru_row place fields = codes "fru " ++ decimal place.bus ++ codes " " ++ decimal place.address ++ flat_map field_row fields ++ codes "\n"

@@ -1,0 +1,8 @@
+//! The printed texts of a run, exactly. The run of a script stands on it.
+#![tactic(auto)]
+
+mod refusal;
+mod row;
+
+pub use refusal::{Refusal, push_refused_line};
+pub use row::push_fru_row;

@@ -1,0 +1,83 @@
+ghost use Rattle.std.specs.Prelude.{◌≡◌, ◌<◌, ◌++◌, OnOk, string_bytes};
+ghost use Rattle.std.specs.List.{flat_map};
+ghost use Rattle.bmc_report.specs.Rows.{escaped, quoted, hex_digit, field_row, fru_row};
+
+use bmc_base::{OutOfMemory, Place};
+use fru_area::Field;
+use std::fmt::Write;
+
+// A lower-case hexadecimal digit.
+fn hex_digit_of(value: u32) -> char
+    requires { value < 16 }
+    ensures value { result ≡ hex_digit value }
+    ensures ascii { result < 128 }
+{
+    if value < 10 {
+        char::from(b'0' + value as u8)
+    } else {
+        char::from(b'a' + (value - 10) as u8)
+    }
+}
+
+// Appends a character of a quoted text.
+fn push_escaped(out: &mut String, char: char) -> Result<(), OutOfMemory>
+    ensures { OnOk result (string_bytes out.new ≡ string_bytes out.old ++ escaped char) }
+{
+    let code = u32::from(char);
+    if code == 34 || code == 92 {
+        out.push('\\')?;
+        out.push(char)?;
+    } else if code < 32 || code == 127 {
+        out.push_str("\\x")?;
+        out.push(hex_digit_of(code / 16))?;
+        out.push(hex_digit_of(code % 16))?;
+    } else {
+        out.push(char)?;
+    }
+    Ok(())
+}
+
+// Appends a text between quotes.
+#[tactic(auto, unfolding(crate::specs::Rows::quoted))]
+fn push_quoted(out: &mut String, text: &str) -> Result<(), OutOfMemory>
+    ensures { OnOk result (string_bytes out.new ≡ string_bytes out.old ++ quoted text.now) }
+{
+    out.push('"')?;
+    for char in text.chars() {
+        push_escaped(out, char)?;
+    }
+    out.push('"')?;
+    Ok(())
+}
+
+// Appends a field of a row.
+#[tactic(auto, using(std::proofs::Common::append_assoc), unfolding(crate::specs::Rows::field_row))]
+fn push_field(out: &mut String, field: &Field) -> Result<(), OutOfMemory>
+    ensures { OnOk result (string_bytes out.new ≡ string_bytes out.old ++ field_row field.now) }
+{
+    let name = field.name;
+    write!(out, " {name}=")?;
+    push_quoted(out, field.text.as_str())
+}
+
+fn push_fields(out: &mut String, fields: &[Field]) -> Result<(), OutOfMemory>
+    ensures { OnOk result (string_bytes out.new ≡ string_bytes out.old ++ flat_map field_row fields.now) }
+{
+    for field in fields {
+        push_field(out, field)?;
+    }
+    Ok(())
+}
+
+/// Appends the row of a FRU in the list of FRUs: its place, and its fields in the order of the record.
+#[tactic(auto, using(std::proofs::Common::append_assoc), unfolding(crate::specs::Rows::fru_row))]
+pub fn push_fru_row(out: &mut String, place: Place, fields: &[Field]) -> Result<(), OutOfMemory>
+    ensures { OnOk result (string_bytes out.new ≡ string_bytes out.old ++ fru_row place fields.now) }
+{
+    let bus = place.bus();
+    let address = place.address();
+    write!(out, "fru {bus} {address}")?;
+    push_fields(out, fields)?;
+    out.push('\n')?;
+    Ok(())
+}
