@@ -1,0 +1,75 @@
+ghost use Rattle.std.specs.Prelude.{◌≡◌, ◌++◌, [], OnOk, OnErr, MatchResult, string_bytes};
+ghost use Rattle.std.specs.Io.KnownBytes.{Appends};
+ghost use Rattle.bmc_io.specs.Sinks.{AppendsFront};
+ghost use Rattle.bmc_machine.specs.Runs.{final_list, row_of};
+ghost use Rattle.bmc_replay.specs.Kept.{frus_of};
+ghost use Rattle.bmc_replay.specs.Statuses.{WriteCause};
+ghost use Rattle.bmc_replay.specs.Gathering.{Gathers};
+
+use crate::board::read_plain_board;
+use crate::stop::Stop;
+use bmc_base::{Bytes, OutOfMemory, Place};
+use bmc_io::{Sink, put_all};
+use bmc_report::push_fru_row;
+use std::alloc::Global;
+use std::collections::BTreeMap;
+
+/// How many bytes of text are gathered before they are written.
+pub const GATHERED: usize = 64 * 1024;
+
+/// Writes all that is gathered, or a front of it.
+pub fn flush<K: Sink>(text: &mut String, output: &mut K) -> Result<(), Stop>
+    ensures all { OnOk result (Appends (K.taken output.old) (K.taken output.new) (string_bytes text.old)) }
+    ensures none { OnOk result (string_bytes text.new ≡ []) }
+    ensures front { AppendsFront (K.taken output.old) (K.taken output.new) (string_bytes text.old) }
+    ensures cause { MatchResult result (λ _. K.faults output.new ≡ K.faults output.old) (λ stop. WriteCause stop (K.faults output.old) (K.faults output.new)) }
+{
+    put_all(output, text.as_str().as_bytes())?;
+    text.clear();
+    Ok(())
+}
+
+/// Writes all that is gathered where it has grown large, or a front of it.
+pub fn relieve<K: Sink>(text: &mut String, output: &mut K) -> Result<(), Stop>
+    ensures all { OnOk result (Gathers (K.taken output.old) (K.taken output.new) (string_bytes text.old) (string_bytes text.new) []) }
+    ensures front { OnErr result (AppendsFront (K.taken output.old) (K.taken output.new) (string_bytes text.old)) }
+    ensures cause { MatchResult result (λ _. K.faults output.new ≡ K.faults output.old) (λ stop. WriteCause stop (K.faults output.old) (K.faults output.new)) }
+{
+    if text.len() < GATHERED {
+        return Ok(());
+    }
+    flush(text, output)
+}
+
+// Gathers the row of a FRU.
+fn push_row(
+    alloc: Global,
+    text: &mut String,
+    place: Place,
+    bytes: &[u8],
+) -> Result<(), OutOfMemory>
+    ensures { OnOk result (string_bytes text.new ≡ string_bytes text.old ++ row_of (record { place = place; bytes = bytes.now })) }
+{
+    match read_plain_board(alloc, bytes)? {
+        Some(fields) => push_fru_row(text, place, fields.as_slice()),
+        None => push_fru_row(text, place, &[]),
+    }
+}
+
+/// Gathers the row of each FRU, and writes what grows large on the way.
+pub fn push_list<K: Sink>(
+    alloc: Global,
+    frus: &BTreeMap<Place, Bytes>,
+    text: &mut String,
+    output: &mut K,
+) -> Result<(), Stop>
+    ensures all { OnOk result (Gathers (K.taken output.old) (K.taken output.new) (string_bytes text.old) (string_bytes text.new) (final_list (frus_of frus.now.entries))) }
+    ensures front { OnErr result (AppendsFront (K.taken output.old) (K.taken output.new) (string_bytes text.old ++ final_list (frus_of frus.now.entries))) }
+    ensures cause { MatchResult result (λ _. K.faults output.new ≡ K.faults output.old) (λ stop. WriteCause stop (K.faults output.old) (K.faults output.new)) }
+{
+    'frus: for (place, bytes) in frus.iter() {
+        push_row(alloc, text, *place, bytes.as_slice())?;
+        relieve(text, output)?;
+    }
+    Ok(())
+}
