@@ -1,5 +1,5 @@
 -- 6-bit ASCII, three bytes at a time.
-use Rattle.std.proofs.Common.{◌≡◌, ℕ, zero, suc, ◌+◌, ◌*◌, ◌/◌, ◌%◌, ◌^◌, ◌-◌, ◌<◌, ◌≤◌, ◌⊎◌, inl, inr, List, [], ◌∷◌, ◌++◌, length, get_or, refl, arith, ap, ap₂, sym, ◌∙◌, append-nil, append_assoc, length-append}
+use Rattle.std.proofs.Common.{◌≡◌, ℕ, zero, suc, ◌+◌, ◌*◌, ◌/◌, ◌%◌, ◌^◌, ◌-◌, ◌<◌, ◌≤◌, min, ◌⊎◌, inl, inr, List, [], ◌∷◌, ◌++◌, length, refl, arith, ap, ap₂, sym, ◌∙◌, append-nil, append_assoc, length-append}
 use Rattle.fru_area.specs.Texts.{little_endian, six_bit_chars, six_bit_text}
 
 pub length-six_bit_chars : (count bits : ℕ) → length (six_bit_chars count bits) ≡ count
@@ -32,17 +32,27 @@ six_bit_chars_four count low high h =
     s1
     ∙ ap (λ (t : List ℕ). (32 + low % 64) ∷ t) (s2 ∙ ap (λ (t : List ℕ). (32 + low / 64 % 64) ∷ t) (s3 ∙ ap (λ (t : List ℕ). (32 + low / 64 / 64 % 64) ∷ t) s4))
 
-six_bit_text_three : (a b c : ℕ) (later : List ℕ) → a < 256 → b < 256 → c < 256 → six_bit_text (a ∷ b ∷ c ∷ later) ≡ six_bit_chars 4 (little_endian (a ∷ b ∷ c ∷ [])) ++ six_bit_text later
-six_bit_text_three a b c later ha hb hc =
+six_bit_text_three : (a b c : ℕ) (later : List ℕ) → little_endian (a ∷ b ∷ c ∷ []) < 16777216 → six_bit_text (a ∷ b ∷ c ∷ later) ≡ six_bit_chars 4 (little_endian (a ∷ b ∷ c ∷ [])) ++ six_bit_text later
+six_bit_text_three a b c later h =
     let number : little_endian (a ∷ b ∷ c ∷ later) ≡ little_endian (a ∷ b ∷ c ∷ []) + 16777216 * little_endian later = omega arith in
     let count : 8 * suc (suc (suc (length later))) / 6 ≡ suc (suc (suc (suc (8 * length later / 6)))) = omega arith in
-    rw (count, number) (six_bit_chars_four (8 * length later / 6) (little_endian (a ∷ b ∷ c ∷ [])) (little_endian later) (omega arith))
+    rw (count, number) (six_bit_chars_four (8 * length later / 6) (little_endian (a ∷ b ∷ c ∷ [])) (little_endian later) h)
 
 -- a group of three bytes, or of all that is left, comes off the front
-pub six_bit_text_group : (group later : List ℕ) → (length group ≡ 3) ⊎ (later ≡ []) → ((k : ℕ) → get_or group k 0 < 256) → six_bit_text (group ++ later) ≡ six_bit_chars (8 * length group / 6) (little_endian group) ++ six_bit_text later
-six_bit_text_group group later (inr none) h = rw (none, append-nil) (sym (append-nil _))
-six_bit_text_group (a ∷ b ∷ c ∷ []) later (inl three) h = six_bit_text_three a b c later (h 0) (h 1) (h 2)
+six_bit_text_group : (group later : List ℕ) → (length group ≡ 3) ⊎ (later ≡ []) → little_endian group < 16777216 → six_bit_text (group ++ later) ≡ six_bit_chars (8 * length group / 6) (little_endian group) ++ six_bit_text later
+six_bit_text_group group later (inr none) h = rw (none, append-nil group) (sym (append-nil _))
+six_bit_text_group (a ∷ b ∷ c ∷ []) later (inl three) h = six_bit_text_three a b c later h
 six_bit_text_group [] later (inl three) h = absurd (omega arith)
 six_bit_text_group (a ∷ []) later (inl three) h = absurd (omega arith)
 six_bit_text_group (a ∷ b ∷ []) later (inl three) h = absurd (omega arith)
 six_bit_text_group (a ∷ b ∷ c ∷ d ∷ group) later (inl three) h = absurd (omega arith)
+
+pub three_or_all : (group later : List ℕ) (n : ℕ) → length group ≡ min n 3 → length later + length group ≡ n → (length group ≡ 3) ⊎ (later ≡ [])
+three_or_all group [] n g l = inr refl
+three_or_all group (byte ∷ later) n g l = inl (omega arith)
+
+-- the text of one group more
+pub six_bit_text_more : (text new rest group later all : List ℕ) (bits : ℕ) → rest ≡ group ++ later → (length group ≡ 3) ⊎ (later ≡ []) → bits ≡ little_endian group → bits < 16777216 → new ≡ text ++ six_bit_chars (8 * length group / 6) bits → text ++ six_bit_text rest ≡ all → new ++ six_bit_text later ≡ all
+six_bit_text_more text new rest group later all bits e k b most p inv =
+    let front = six_bit_text_group group later k (rw b at most) in
+    rw (p, append_assoc, b) (rw (e, front) at inv)

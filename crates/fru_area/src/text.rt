@@ -82,7 +82,8 @@ fn six_bit_text(bytes: &[u8]) -> FieldText
 // At most three bytes as one number.
 fn group_bits(group: &[u8]) -> u32
     requires { length group.now ≤ 3 }
-    ensures { result ≡ little_endian group.now }
+    ensures exact { result ≡ little_endian group.now }
+    ensures most { result < 16777216 }
 {
     match group {
         [] => 0,
