@@ -1,5 +1,5 @@
 -- What private functions hand on.
-use Rattle.std.specs.Prelude.{ℕ, ◌+◌, ◌≡◌, ◌<◌, ◌≤◌, List, [], ◌∷◌, ◌++◌, length, encode_utf8, Option, Some, None}
+use Rattle.std.specs.Prelude.{ℕ, ◌+◌, ◌≡◌, ◌<◌, ◌≤◌, List, [], ◌∷◌, ◌++◌, length, encode_utf8, decimal, Option, Some, None}
 use Rattle.std.specs.Option.{unwrap_or}
 use Rattle.std.specs.Char.Utf16.{lone_unit_char}
 use Rattle.fru_area.specs.Texts.{unicode_units, unicode_text}
@@ -40,3 +40,8 @@ pub record IsFirstChar (bytes : List ℕ) (c : ℕ) (later : List ℕ) : Type 0 
 -- the character of a unit that is in no pair
 abbrev pub unit_char_of : ℕ → ℕ
 unit_char_of unit = unwrap_or (lone_unit_char unit) 0xFFFD
+
+-- what the name of a custom field ends with
+abbrev pub number_text : FieldName → List ℕ
+number_text (Custom area number) = decimal number
+number_text _ = []

@@ -44,6 +44,23 @@ impl FieldText {
         }
     }
 
+    /// The same text once more. It takes no memory.
+    pub fn copied(&self) -> FieldText
+        ensures { result ≡ self.now }
+    {
+        let mut text = ArrayString::new();
+        text.push_str(self.text.as_str());
+        FieldText { text }
+    }
+
+    // A text at the end.
+    pub(crate) fn push_str(&mut self, text: &str)
+        requires { length self.old + length text.now ≤ 128 }
+        ensures { self.new ≡ self.old ++ text.now }
+    {
+        self.text.push_str(text);
+    }
+
     // A character at the end.
     pub(crate) fn push(&mut self, c: char)
         requires { length self.old + length (encode_utf8 c) ≤ 128 }
