@@ -4,3 +4,4 @@ pub mod Texts
 pub mod Names
 pub mod Areas
 pub mod Answers
+pub mod Views

@@ -29,3 +29,9 @@ name_text ProductSerialNumber = codes "PRODUCT_SERIAL_NUMBER"
 name_text ProductAssetTag = codes "PRODUCT_ASSET_TAG"
 name_text ProductFruVersionId = codes "PRODUCT_FRU_VERSION_ID"
 name_text (Custom area number) = custom_prefix area ++ decimal number
+
+-- The names of fields: those of the enum, and custom ones numbered from 1. An area of at most 2,040 bytes has no
+-- more.
+abbrev pub IsName : FieldName → Type 0
+IsName (Custom area number) = (1 ≤ number) × (number ≤ 2040)
+IsName _ = ⊤

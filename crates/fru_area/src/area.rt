@@ -1,10 +1,12 @@
-ghost use Rattle.std.specs.Prelude.{◌≡◌, ◌<◌, ◌≤◌, length, IfOk};
+ghost use Rattle.std.specs.Prelude.{◌≡◌, ◌+◌, ◌<◌, ◌≤◌, length, IfOk, IfSome};
 ghost use Rattle.fru_area.specs.Headers.{area_at};
 ghost use Rattle.fru_area.specs.Walks.{raw_fields};
 ghost use Rattle.fru_area.specs.Areas.{area_fields, all_text};
 ghost use Rattle.fru_area.specs.Answers.{Gives, seen};
+ghost use Rattle.fru_area.specs.Walks.{first_field};
+ghost use Rattle.fru_area.specs.Views.{found_view, IsNext};
 
-use crate::{Area, FieldList, FieldName, FruFault, area_sum};
+use crate::{Area, Field, FieldList, FieldName, FruFault, area_sum, field_text};
 use std::alloc::Global;
 
 /// The area that begins at a byte, whole, or the first of its rules that is broken: `AreaOutside`,
@@ -35,6 +37,66 @@ pub fn area_bytes(area: Area, bytes: &[u8], start: usize) -> Result<&[u8], FruFa
     Ok(found)
 }
 
+// A field as it stands, and the bytes behind it.
+#[derive(Clone, Copy)]
+struct RawField<'a> {
+    kind: u8,
+    bytes: &'a [u8],
+    rest: &'a [u8],
+}
+
+// The field at the front of the bytes up to the checksum, or none at the end mark.
+#[tactic(auto, unfolding(crate::specs::Walks::first_field))]
+fn raw_field(area: Area, bytes: &[u8]) -> Result<Option<RawField<'_>>, FruFault>
+    ensures exact { seen found_view result ≡ first_field area bytes.now }
+    ensures smaller { IfOk result (λ found. IfSome found (λ raw. length raw.rest.now < length bytes.now)) }
+    ensures short { IfOk result (λ found. IfSome found (λ raw. (raw.kind ≤ 3) × (length raw.bytes.now ≤ 63))) }
+{
+    let Some((head, after)) = bytes.split_first() else {
+        return Err(FruFault::NoEnd(area));
+    };
+    if *head == 0xC1 {
+        return Ok(None);
+    }
+    let count = usize::from(*head % 64);
+    if after.len() < count {
+        return Err(FruFault::FieldOutside(area));
+    }
+    let (text, rest) = after.split_at(count);
+    Ok(Some(RawField {
+        kind: *head / 64,
+        bytes: text,
+        rest,
+    }))
+}
+
+// The name of a field, and the names and the number of a custom field that are left for later ones.
+#[derive(Clone, Copy)]
+struct NextName<'a> {
+    name: FieldName,
+    later: &'a [FieldName],
+    number: u16,
+}
+
+fn next_name(area: Area, names: &[FieldName], number: u16) -> NextName<'_>
+    requires { number < 65535 }
+    ensures named { IsNext area names.now number result }
+    ensures most { result.number ≤ number + 1 }
+{
+    match names.split_first() {
+        Some((name, later)) => NextName {
+            name: *name,
+            later,
+            number,
+        },
+        None => NextName {
+            name: FieldName::Custom(area, number),
+            later: names,
+            number: number + 1,
+        },
+    }
+}
+
 /// The fields of a whole area with its checksum, from byte `start` on. The first N get the names,
 /// further ones are custom fields from 1. `FieldOutside` or `NoEnd` is the first rule that is broken.
 pub fn read_area<const N: usize>(
@@ -49,8 +111,20 @@ pub fn read_area<const N: usize>(
     requires short { length bytes.now ≤ 2040 }
     ensures { Gives result (area_fields area english names.entry bytes.now start) }
 {
-    let _ = (area, bytes, start, english, names);
-    Ok(FieldList::new(alloc)?)
+    let mut fields = FieldList::new(alloc)?;
+    let mut rest = &bytes[start..bytes.len() - 1];
+    let mut names = &names[..];
+    let mut number = 1;
+    while let Some(raw) = raw_field(area, rest)? {
+        let next = next_name(area, names, number);
+        let name = next.name;
+        let text = field_text(raw.kind, english, raw.bytes);
+        fields.push(alloc, Field { name, text })?;
+        names = next.later;
+        number = next.number;
+        rest = raw.rest;
+    }
+    Ok(fields)
 }
 
 /// Whether the fields of a whole area, from byte `start` on, break no rule and each is text by the
@@ -59,6 +133,17 @@ pub fn is_all_text(area: Area, bytes: &[u8], start: usize) -> bool
     requires { start < length bytes.now }
     ensures { result ≡ all_text (raw_fields area bytes.now start) }
 {
-    let _ = (area, bytes, start);
-    true
+    let mut rest = &bytes[start..bytes.len() - 1];
+    loop {
+        match raw_field(area, rest) {
+            Ok(Some(raw)) => {
+                if raw.kind != 3 {
+                    return false;
+                }
+                rest = raw.rest;
+            }
+            Ok(None) => return true,
+            Err(_) => return false,
+        }
+    }
 }

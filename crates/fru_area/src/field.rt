@@ -1,4 +1,4 @@
-ghost use Rattle.std.specs.Prelude.{◌≡◌, ◌≤◌, ◌<◌, ◌∷◌, ◌++◌, [], length, IfSome, IfNone, IfOk, OnOk, OnErr};
+ghost use Rattle.std.specs.Prelude.{◌≡◌, ◌≤◌, ◌<◌, ◌+◌, ◌∷◌, ◌++◌, [], length, encode_utf8, IfSome, IfNone, IfOk, OnOk, OnErr};
 
 use crate::FieldName;
 use arrayvec::ArrayString;
@@ -33,6 +33,49 @@ impl FieldText {
             Ok(()) => Some(FieldText { text: held }),
             Err(_) => None,
         }
+    }
+
+    /// An empty text.
+    pub fn empty() -> FieldText
+        ensures { result ≡ [] }
+    {
+        FieldText {
+            text: ArrayString::new(),
+        }
+    }
+
+    /// The same text once more. It takes no memory.
+    pub fn copied(&self) -> FieldText
+        ensures { result ≡ self.now }
+    {
+        let mut text = ArrayString::new();
+        text.push_str(self.text.as_str());
+        FieldText { text }
+    }
+
+    // A text at the end.
+    pub(crate) fn push_str(&mut self, text: &str)
+        requires { length self.old + length text.now ≤ 128 }
+        ensures { self.new ≡ self.old ++ text.now }
+    {
+        self.text.push_str(text);
+    }
+
+    // A character at the end.
+    pub(crate) fn push(&mut self, c: char)
+        requires { length self.old + length (encode_utf8 c) ≤ 128 }
+        ensures { self.new ≡ self.old ++ encode_utf8 c }
+    {
+        self.text.push(c);
+    }
+
+    // A character of ASCII at the end.
+    pub(crate) fn push_ascii(&mut self, byte: u8)
+        requires room { length self.old < 128 }
+        requires ascii { byte < 128 }
+        ensures { self.new ≡ self.old ++ byte ∷ [] }
+    {
+        self.push(char::from(byte));
     }
 
     /// The text, read.

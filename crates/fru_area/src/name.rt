@@ -1,7 +1,8 @@
-ghost use Rattle.std.specs.Prelude.{Some};
-ghost use Rattle.fru_area.specs.Names.{name_text};
+ghost use Rattle.std.specs.Prelude.{◌≡◌, ◌≤◌, ◌++◌, ℕ, length, decimal, Some, IfSome, IfNone};
+ghost use Rattle.fru_area.specs.Names.{name_text, custom_prefix, IsName};
+ghost use Rattle.fru_area.specs.Views.{number_text};
 
-use crate::Area;
+use crate::{Area, FieldText};
 use std::fmt;
 
 /// The name of a field of a record (FRU definition 1.0, sections 10 to 12).
@@ -26,4 +27,65 @@ pub enum FieldName {
     ProductFruVersionId,
     /// A custom field of an area, numbered from 1.
     Custom(Area, u16),
+}
+
+impl FieldName {
+    /// The name as text, as `BOARD_SERIAL_NUMBER` or `BOARD_INFO_AM1`. It takes no memory.
+    pub fn text(&self) -> FieldText
+        ensures { result ≡ name_text self.now }
+    {
+        let mut text = FieldText::empty();
+        text.push_str(self.stem());
+        if let FieldName::Custom(_, number) = self {
+            text.push_str(itoa::Buffer::new().format(*number));
+        }
+        text
+    }
+
+    // The name, but for the number of a custom field.
+    #[tactic(auto, unfolding(crate::specs::Names::name_text))]
+    fn stem(&self) -> &'static str
+        ensures text { result.now ++ number_text self.now ≡ name_text self.now }
+        ensures short { length result.now ≤ 24 }
+    {
+        match self {
+            FieldName::ChassisType => "CHASSIS_TYPE",
+            FieldName::ChassisPartNumber => "CHASSIS_PART_NUMBER",
+            FieldName::ChassisSerialNumber => "CHASSIS_SERIAL_NUMBER",
+            FieldName::BoardManufactureDate => "BOARD_MANUFACTURE_DATE",
+            FieldName::BoardManufacturer => "BOARD_MANUFACTURER",
+            FieldName::BoardProductName => "BOARD_PRODUCT_NAME",
+            FieldName::BoardSerialNumber => "BOARD_SERIAL_NUMBER",
+            FieldName::BoardPartNumber => "BOARD_PART_NUMBER",
+            FieldName::BoardFruVersionId => "BOARD_FRU_VERSION_ID",
+            FieldName::ProductManufacturer => "PRODUCT_MANUFACTURER",
+            FieldName::ProductProductName => "PRODUCT_PRODUCT_NAME",
+            FieldName::ProductPartNumber => "PRODUCT_PART_NUMBER",
+            FieldName::ProductVersion => "PRODUCT_VERSION",
+            FieldName::ProductSerialNumber => "PRODUCT_SERIAL_NUMBER",
+            FieldName::ProductAssetTag => "PRODUCT_ASSET_TAG",
+            FieldName::ProductFruVersionId => "PRODUCT_FRU_VERSION_ID",
+            FieldName::Custom(area, _) => custom_prefix(*area),
+        }
+    }
+}
+
+// What the name of a custom field of an area begins with.
+fn custom_prefix(area: Area) -> &'static str
+    ensures text { result.now ≡ custom_prefix area }
+    ensures short { length result.now ≤ 24 }
+{
+    match area {
+        Area::Chassis => "CHASSIS_INFO_AM",
+        Area::Board => "BOARD_INFO_AM",
+        Area::Product => "PRODUCT_INFO_AM",
+    }
+}
+
+impl fmt::Display for FieldName {
+    ghost output = { λ n. Some (name_text n) };
+
+    fn fmt<W: fmt::Write>(&self, f: &mut fmt::Formatter<W>) -> fmt::Result {
+        f.write_str(self.text().as_str())
+    }
 }

@@ -1,16 +1,180 @@
-ghost use Rattle.std.specs.Prelude.{◌≡◌, ◌≤◌, length};
-ghost use Rattle.fru_area.specs.Texts.{text_of};
+ghost use Rattle.std.specs.Prelude.{◌≡◌, ◌+◌, ◌<◌, ◌≤◌, ◌&&◌, [], ◌++◌, length, true, MatchOption};
+ghost use Rattle.std.specs.Char.Utf16.{is_high_surrogate, is_low_surrogate, surrogate_pair_char};
+ghost use Rattle.hex.specs.Hex.{encode_lower};
+ghost use Rattle.fru_area.specs.Texts.{text_of, bcd_char, bcd_text, little_endian, six_bit_chars, six_bit_text, latin_text, unicode_units, unicode_text};
+ghost use Rattle.fru_area.specs.Views.{IsFirstChar, IsFirstUnit, unit_char_of};
 
 use crate::FieldText;
 
 /// The text of a field of this type (0 binary, 1 BCD plus, 2 6-bit ASCII, 3 by language) in an area
-/// that counts as English or not. It takes no memory.
+/// that counts as English or not (FRU definition 1.0, section 13). It takes no memory.
+#[tactic(auto, unfolding(crate::specs::Texts::text_of))]
 pub fn field_text(kind: u8, english: bool, bytes: &[u8]) -> FieldText
     requires kind { kind ≤ 3 }
     requires short { length bytes.now ≤ 63 }
     ensures { result ≡ text_of english (record { kind = kind; bytes = bytes.now }) }
 {
-    let _ = english;
-    let _ = kind;
-    FieldText::new("").unwrap()
+    match kind {
+        0 => binary_text(bytes),
+        1 => bcd_text(bytes),
+        2 => six_bit_text(bytes),
+        _ if english => latin_text(bytes),
+        _ => unicode_text(bytes),
+    }
+}
+
+// Binary, as hexadecimal.
+fn binary_text(bytes: &[u8]) -> FieldText
+    requires { length bytes.now ≤ 63 }
+    ensures { result ≡ encode_lower bytes.now }
+{
+    let mut buffer = [0; 126];
+    let digits = &mut buffer[..2 * bytes.len()];
+    hex::encode_to_slice(bytes, digits).unwrap();
+    let text = str::from_utf8(digits).unwrap();
+    FieldText::new(text).unwrap()
+}
+
+// BCD plus, two characters a byte.
+fn bcd_text(bytes: &[u8]) -> FieldText
+    requires { length bytes.now ≤ 63 }
+    ensures { result ≡ bcd_text bytes.now }
+{
+    let mut text = FieldText::empty();
+    for byte in bytes {
+        text.push_ascii(bcd_char(*byte / 16));
+        text.push_ascii(bcd_char(*byte % 16));
+    }
+    text
+}
+
+fn bcd_char(nibble: u8) -> u8
+    requires { nibble < 16 }
+    ensures exact { result ≡ bcd_char nibble }
+    ensures ascii { result < 128 }
+{
+    match nibble {
+        0..=9 => b'0' + nibble,
+        10 => b' ',
+        11 => b'-',
+        12 => b'.',
+        13 => b':',
+        14 => b',',
+        _ => b'_',
+    }
+}
+
+// 6-bit ASCII: three bytes hold four characters.
+fn six_bit_text(bytes: &[u8]) -> FieldText
+    requires { length bytes.now ≤ 63 }
+    ensures { result ≡ six_bit_text bytes.now }
+{
+    let mut text = FieldText::empty();
+    let mut rest = bytes;
+    while !rest.is_empty() {
+        let (group, later) = rest.split_at(rest.len().min(3));
+        push_six_bit(&mut text, group_bits(group), 8 * group.len() / 6);
+        rest = later;
+    }
+    text
+}
+
+// At most three bytes as one number.
+fn group_bits(group: &[u8]) -> u32
+    requires { length group.now ≤ 3 }
+    ensures exact { result ≡ little_endian group.now }
+    ensures most { result < 16777216 }
+{
+    match group {
+        [] => 0,
+        [low] => u32::from(*low),
+        [low, high] => u32::from(*low) + 256 * u32::from(*high),
+        [low, mid, high, ..] => {
+            u32::from(*low) + 256 * u32::from(*mid) + 65536 * u32::from(*high)
+        }
+    }
+}
+
+// So many characters from the low bits up.
+fn push_six_bit(text: &mut FieldText, mut bits: u32, count: usize)
+    requires { length text.old + count ≤ 128 }
+    ensures { text.new ≡ text.old ++ six_bit_chars count bits }
+{
+    for _ in 0..count {
+        text.push_ascii(32 + (bits % 64) as u8);
+        bits /= 64;
+    }
+}
+
+// Latin 1, a character a byte.
+fn latin_text(bytes: &[u8]) -> FieldText
+    requires { length bytes.now ≤ 63 }
+    ensures { result ≡ latin_text bytes.now }
+{
+    let mut text = FieldText::empty();
+    for byte in bytes {
+        text.push(char::from(*byte));
+    }
+    text
+}
+
+// 2-byte Unicode.
+fn unicode_text(bytes: &[u8]) -> FieldText
+    requires { length bytes.now ≤ 63 }
+    ensures { result ≡ unicode_text bytes.now }
+{
+    let mut text = FieldText::empty();
+    let mut rest = bytes;
+    while let Some((c, later)) = first_char(rest) {
+        text.push(c);
+        rest = later;
+    }
+    text
+}
+
+// The first character of 2-byte Unicode, and the bytes behind it.
+fn first_char(bytes: &[u8]) -> Option<(char, &[u8])>
+    ensures { MatchOption result (bytes.now ≡ []) (λ found. IsFirstChar bytes.now found.0 found.1.now) }
+{
+    let (unit, later) = first_unit(bytes)?;
+    match first_unit(later) {
+        Some((low, last)) if is_pair(unit, low) => Some((pair_char(unit, low), last)),
+        _ => Some((unit_char(unit), later)),
+    }
+}
+
+// The first unit of 2-byte Unicode, and the bytes behind it.
+fn first_unit(bytes: &[u8]) -> Option<(u16, &[u8])>
+    ensures { MatchOption result (bytes.now ≡ []) (λ found. IsFirstUnit bytes.now found.0 found.1.now) }
+{
+    match bytes {
+        [] => None,
+        [_] => Some((0xFFFD, &bytes[1..])),
+        [low, high, later @ ..] => {
+            Some((u16::from(*low) + 256 * u16::from(*high), later))
+        },
+    }
+}
+
+// Whether two units are a surrogate pair.
+fn is_pair(high: u16, low: u16) -> bool
+    ensures { result ≡ (is_high_surrogate high && is_low_surrogate low) }
+{
+    (0xD800..0xDC00).contains(&high) && (0xDC00..0xE000).contains(&low)
+}
+
+// The character of a surrogate pair.
+fn pair_char(high: u16, low: u16) -> char
+    requires { (is_high_surrogate high && is_low_surrogate low) ≡ true }
+    ensures { result ≡ surrogate_pair_char high low }
+{
+    let above = (u32::from(high) - 0xD800) * 0x400 + (u32::from(low) - 0xDC00);
+    char::from_u32(0x1_0000 + above).unwrap()
+}
+
+// The character of a unit that is in no pair.
+fn unit_char(unit: u16) -> char
+    ensures { result ≡ unit_char_of unit }
+{
+    char::from_u32(u32::from(unit)).unwrap_or(char::REPLACEMENT_CHARACTER)
 }

@@ -1,0 +1,131 @@
+-- The fields so far, and those of the bytes that are left.
+use Rattle.std.proofs.Common.{Bool, true, false, ◌&&◌, ◌≢◌, eq-eqb, refl, take, drop, ◌-◌, ◌≡◌, ℕ, zero, suc, ◌+◌, ◌<◌, ◌≤◌, List, [], ◌∷◌, ◌++◌, length, Result, Ok, Err, Option, Some, None, arith, ap, sym, ◌∙◌, append_assoc, append-nil}
+use Rattle.std.specs.List.{list_all}
+use Rattle.std.proofs.lemmas.Bool.{ne_eqb}
+use Rattle.fru_area.specs.declared.area.NextName.{NextName}
+use Rattle.fru_area.specs.declared.fault.Area.{Area}
+use Rattle.fru_area.specs.declared.fault.FruFault.{FruFault}
+use Rattle.fru_area.specs.declared.fault.FruFault.TheVariants as faults
+use Rattle.fru_area.specs.declared.field.Field.{Field}
+use Rattle.fru_area.specs.declared.name.FieldName.{FieldName}
+use Rattle.fru_area.specs.Answers.{Gives, GivesFault}
+use Rattle.fru_area.specs.Areas.{named, named_field, named_ok, area_fields, all_text}
+use Rattle.fru_area.specs.Texts.{text_of, is_text}
+use Rattle.fru_area.specs.Views.{IsNext}
+use Rattle.fru_area.specs.Walks.{Raw, walk, first_field, field_then, with_field, raw_fields, field_bytes}
+
+walk_more : (area : Area) (most : ℕ) (bytes : List ℕ) (r : Result (Option (Raw × List ℕ)) FruFault) → first_field area bytes ≡ r → walk area (suc most) bytes ≡ field_then (walk area most) r
+unfolding walk
+walk_more area most bytes r e = ap (field_then (walk area most)) e
+
+-- The fields before these bytes are text, and whether all are comes from the rest.
+pub record AllTextSoFar (area : Area) (bytes : List ℕ) (all : Bool) : Type 0 where
+  pub most : ℕ
+  pub enough : length bytes < most
+  pub comes : all_text (walk area most bytes) ≡ all
+
+pub AllTextSoFar-start : (area : Area) (bytes all : List ℕ) (start : ℕ) → bytes ≡ field_bytes all start → length bytes ≤ length all → AllTextSoFar area bytes (all_text (raw_fields area all start))
+unfolding raw_fields
+AllTextSoFar-start area bytes all start e l = record { most = length all + 1; enough = omega arith; comes = ap (λ (b : List ℕ). all_text (walk area (length all + 1) b)) e }
+
+all_text-with_text : (raw : Raw) (r : Result (List Raw) FruFault) → raw.kind ≡ 3 → all_text (with_field raw r) ≡ all_text r
+all_text-with_text raw (Ok raws) h = ap (λ b. b && list_all is_text raws) (eq-eqb raw.kind 3 h)
+all_text-with_text raw (Err fault) h = refl
+
+all_text-with_other : (raw : Raw) (r : Result (List Raw) FruFault) → raw.kind ≢ 3 → all_text (with_field raw r) ≡ false
+all_text-with_other raw (Ok raws) h = ap (λ b. b && list_all is_text raws) (ne_eqb raw.kind 3 h)
+all_text-with_other raw (Err fault) h = refl
+
+pub AllTextSoFar-text : (area : Area) (bytes rest : List ℕ) (raw : Raw) (all : Bool) → first_field area bytes ≡ Ok (Some (raw, rest)) → length rest < length bytes → raw.kind ≡ 3 → AllTextSoFar area bytes all → AllTextSoFar area rest all
+AllTextSoFar-text area bytes rest raw all e l k h = from h.most h.enough h.comes
+  where
+    from : (most : ℕ) → length bytes < most → all_text (walk area most bytes) ≡ all → AllTextSoFar area rest all
+    from zero enough comes = absurd (omega arith)
+    from (suc m) enough comes = record { most = m; enough = omega arith; comes = sym (all_text-with_text raw (walk area m rest) k) ∙ sym (ap all_text (walk_more area m bytes _ e)) ∙ comes }
+
+-- what a field, the end or a broken rule at the front decides
+decides : (area : Area) (bytes : List ℕ) (all answer : Bool) (r : Result (Option (Raw × List ℕ)) FruFault) → first_field area bytes ≡ r → ((m : ℕ) → all_text (field_then (walk area m) r) ≡ answer) → AllTextSoFar area bytes all → answer ≡ all
+decides area bytes all answer r e step h = from h.most h.enough h.comes
+  where
+    from : (most : ℕ) → length bytes < most → all_text (walk area most bytes) ≡ all → answer ≡ all
+    from zero enough comes = absurd (omega arith)
+    from (suc m) enough comes = sym (step m) ∙ sym (ap all_text (walk_more area m bytes _ e)) ∙ comes
+
+pub AllTextSoFar-other : (area : Area) (bytes rest : List ℕ) (raw : Raw) (all : Bool) → first_field area bytes ≡ Ok (Some (raw, rest)) → raw.kind ≢ 3 → AllTextSoFar area bytes all → false ≡ all
+AllTextSoFar-other area bytes rest raw all e k h = decides area bytes all false _ e (λ m. all_text-with_other raw (walk area m rest) k) h
+
+pub AllTextSoFar-end : (area : Area) (bytes : List ℕ) (all : Bool) → first_field area bytes ≡ Ok None → AllTextSoFar area bytes all → true ≡ all
+AllTextSoFar-end area bytes all e h = decides area bytes all true _ e (λ m. refl) h
+
+pub AllTextSoFar-fault : (area : Area) (bytes : List ℕ) (all : Bool) (fault : FruFault) → first_field area bytes ≡ Err fault → AllTextSoFar area bytes all → false ≡ all
+AllTextSoFar-fault area bytes all fault e h = decides area bytes all false _ e (λ m. refl) h
+
+-- these fields, and then those that reading the rest gives under the names and the number that are left
+abbrev pub so_far : Area → Bool → List FieldName → ℕ → List Field → Result (List Raw) FruFault → Result (List Field) FruFault
+so_far area english names number fields (Ok raws) = Ok (fields ++ named area english names number raws)
+so_far area english names number fields (Err fault) = Err fault
+
+-- Reading goes on at these bytes, with these fields so far, and comes to all.
+pub record GoesOn (area : Area) (english : Bool) (names : List FieldName) (number : ℕ) (fields : List Field) (bytes : List ℕ) (all : Result (List Field) FruFault) : Type 0 where
+  pub most : ℕ
+  pub enough : length bytes < most
+  pub comes : so_far area english names number fields (walk area most bytes) ≡ all
+
+so_far-start : (area : Area) (english : Bool) (names : List FieldName) (r : Result (List Raw) FruFault) → so_far area english names 1 [] r ≡ named_ok area english names r
+so_far-start area english names (Ok raws) = refl
+so_far-start area english names (Err fault) = refl
+
+pub GoesOn-start : (area : Area) (english : Bool) (names : List FieldName) (fields : List Field) (bytes all : List ℕ) (start : ℕ) → fields ≡ [] → bytes ≡ field_bytes all start → length bytes ≤ length all → GoesOn area english names 1 fields bytes (area_fields area english names all start)
+unfolding area_fields raw_fields
+GoesOn-start area english names fields bytes all start n e l = record {
+  most = length all + 1;
+  enough = omega arith;
+  comes = rw (n, e) (so_far-start area english names _);
+}
+
+named_next : (area : Area) (english : Bool) (names : List FieldName) (number : ℕ) (next : NextName) (raw : Raw) (raws : List Raw) → IsNext area names number next → named area english names number (raw ∷ raws) ≡ named_field english next.name raw ∷ named area english next.later.now next.number raws
+named_next area english (name ∷ names) number next raw raws h = rw (h.0, h.1, h.2) refl
+named_next area english [] number next raw raws h = rw (h.0, h.1, h.2) refl
+
+so_far_more : (area : Area) (english : Bool) (names : List FieldName) (number : ℕ) (next : NextName) (fields : List Field) (raw : Raw) (r : Result (List Raw) FruFault) → IsNext area names number next → so_far area english names number fields (with_field raw r) ≡ so_far area english next.later.now next.number (fields ++ named_field english next.name raw ∷ []) r
+so_far_more area english names number next fields raw (Ok raws) h = ap (λ (fs : List Field). Ok (fields ++ fs)) (named_next area english names number next raw raws h) ∙ ap Ok (sym (append_assoc fields (named_field english next.name raw ∷ []) (named area english next.later.now next.number raws)))
+so_far_more area english names number next fields raw (Err fault) h = refl
+
+-- a field more, that was pushed
+pub GoesOn-field : (area : Area) (english : Bool) (names : List FieldName) (number : ℕ) (next : NextName) (fields new : List Field) (bytes rest : List ℕ) (raw : Raw) (text : List ℕ) (all : Result (List Field) FruFault) → first_field area bytes ≡ Ok (Some (raw, rest)) → length rest < length bytes → IsNext area names number next → text ≡ text_of english raw → new ≡ fields ++ record { name = next.name; text = text } ∷ [] → GoesOn area english names number fields bytes all → GoesOn area english next.later.now next.number new rest all
+GoesOn-field area english names number next fields new bytes rest raw text all e l n t p h = from h.most h.enough h.comes
+  where
+    from : (most : ℕ) → length bytes < most → so_far area english names number fields (walk area most bytes) ≡ all → GoesOn area english next.later.now next.number new rest all
+    from zero enough comes = absurd (omega arith)
+    from (suc m) enough comes = record {
+      most = m;
+      enough = omega arith;
+      comes = rw (p, t) (sym (so_far_more area english names number next fields raw (walk area m rest) n) ∙ sym (ap (so_far area english names number fields) (walk_more area m bytes _ e)) ∙ comes);
+    }
+
+pub GoesOn-end : (area : Area) (english : Bool) (names : List FieldName) (number : ℕ) (fields : List Field) (bytes : List ℕ) (all : Result (List Field) FruFault) → first_field area bytes ≡ Ok None → GoesOn area english names number fields bytes all → all ≡ Ok fields
+GoesOn-end area english names number fields bytes all e h = from h.most h.enough h.comes
+  where
+    from : (most : ℕ) → length bytes < most → so_far area english names number fields (walk area most bytes) ≡ all → all ≡ Ok fields
+    from zero enough comes = absurd (omega arith)
+    from (suc m) enough comes = sym comes ∙ ap (so_far area english names number fields) (walk_more area m bytes _ e) ∙ ap Ok (append-nil fields)
+
+gives_fault : {X : Type 0} (fault : FruFault) (read : Result X FruFault) → read ≡ Err fault → GivesFault fault read
+gives_fault faults.OutOfMemory read e = tt
+gives_fault faults.FruShort read e = e
+gives_fault faults.FruTooLong read e = e
+gives_fault faults.HeaderVersion read e = e
+gives_fault faults.HeaderChecksum read e = e
+gives_fault (faults.AreaOutside a) read e = e
+gives_fault (faults.AreaVersion a) read e = e
+gives_fault (faults.AreaLength a) read e = e
+gives_fault (faults.AreaChecksum a) read e = e
+gives_fault (faults.FieldOutside a) read e = e
+gives_fault (faults.NoEnd a) read e = e
+
+pub GoesOn-fault : (area : Area) (english : Bool) (names : List FieldName) (number : ℕ) (fields : List Field) (bytes : List ℕ) (all : Result (List Field) FruFault) (fault : FruFault) → first_field area bytes ≡ Err fault → GoesOn area english names number fields bytes all → GivesFault fault all
+GoesOn-fault area english names number fields bytes all fault e h = gives_fault fault all (from h.most h.enough h.comes)
+  where
+    from : (most : ℕ) → length bytes < most → so_far area english names number fields (walk area most bytes) ≡ all → all ≡ Err fault
+    from zero enough comes = absurd (omega arith)
+    from (suc m) enough comes = sym comes ∙ ap (so_far area english names number fields) (walk_more area m bytes _ e)

@@ -1,0 +1,5 @@
+pub mod Fields
+pub mod Latin
+pub mod SixBits
+pub mod Spelled
+pub mod Units
