@@ -57,6 +57,13 @@ impl MemSource {
             faults: 0,
         })
     }
+
+    /// How many faults there were.
+    pub fn faults(&self) -> u64
+        ensures { result ≡ self.now.faults }
+    {
+        self.faults
+    }
 }
 
 // Whether the call with this number is to fail.
@@ -164,6 +171,13 @@ impl MemSink {
         ensures { result.now ≡ self.now.taken }
     {
         &self.bytes
+    }
+
+    /// How many faults there were.
+    pub fn faults(&self) -> u64
+        ensures { result ≡ self.now.faults }
+    {
+        self.faults
     }
 }
 
