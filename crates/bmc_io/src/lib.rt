@@ -5,6 +5,8 @@
 mod memory;
 mod put;
 mod standard;
+#[cfg(test)]
+mod tests;
 mod traits;
 
 pub use memory::{MemSink, MemSource};

@@ -1,9 +1,9 @@
-ghost use Rattle.std.specs.Prelude.{◌≡◌, ◌<◌, ◌≤◌, [], length, All, IfOk};
+ghost use Rattle.std.specs.Prelude.{◌≡◌, ◌<◌, ◌≤◌, ◌+◌, ◌++◌, [], length, take, min, vec_len, vec_capacity, All, IfOk};
 ghost use Rattle.std.specs.Io.{ReadsAtMost};
 ghost use Rattle.std.specs.Io.KnownBytes.{ReadConsumes, WriteAppends};
 ghost use Rattle.bmc_base.specs.Counts.{HasCause};
 ghost use Rattle.bmc_io.specs.Sinks.{TakesSome};
-ghost use Rattle.bmc_io.specs.Memory.{InputReads, OutputWrites};
+ghost use Rattle.bmc_io.specs.Memory.{InputReads, OutputWrites, is_to_fail, piece_size};
 
 use crate::{IoFault, Sink, Source};
 use bmc_base::OutOfMemory;
@@ -57,6 +57,39 @@ impl MemSource {
             faults: 0,
         })
     }
+
+    /// How many faults there were.
+    pub fn faults(&self) -> u64
+        ensures { result ≡ self.now.faults }
+    {
+        self.faults
+    }
+}
+
+// Whether the call with this number is to fail.
+fn fails_now(fails: &[u64], call: u64) -> bool
+    ensures { result ≡ is_to_fail fails.now call }
+{
+    fails.contains(&call)
+}
+
+// The size of the answer to the call with this number.
+fn size_at(pieces: &[usize], call: u64, room: usize) -> usize
+    ensures { result ≡ piece_size pieces.now call room }
+{
+    let last = pieces.len().saturating_sub(1);
+    let at = last.min(call as usize);
+    pieces.get(at).copied().unwrap_or(room)
+}
+
+// Copies the front of `from` over that of `to`, at most `size` bytes, and says how many.
+fn copy_front(from: &[u8], to: &mut [u8], size: usize) -> usize
+    ensures count { result ≡ min size (min (length to.old) (length from.now)) }
+    ensures copied { take result to.new ≡ take result from.now }
+{
+    let count = size.min(to.len().min(from.len()));
+    to[..count].copy_from_slice(&from[..count]);
+    count
 }
 
 impl Source for MemSource {
@@ -73,8 +106,16 @@ impl Source for MemSource {
         ensures cause { HasCause self.old.faults self.new.faults result }
         ensures exact { InputReads self.old self.new result buf.old buf.new }
     {
-        let _ = buf;
-        Err(IoFault)
+        let call = self.calls;
+        self.calls = call.saturating_add(1);
+        if fails_now(&self.fails, call) {
+            self.faults = self.faults.saturating_add(1);
+            return Err(IoFault);
+        }
+        let size = size_at(&self.pieces, call, buf.len());
+        let count = copy_front(&self.bytes[self.at..], buf, size);
+        self.at += count;
+        Ok(count)
     }
 }
 
@@ -131,6 +172,22 @@ impl MemSink {
     {
         &self.bytes
     }
+
+    /// How many faults there were.
+    pub fn faults(&self) -> u64
+        ensures { result ≡ self.now.faults }
+    {
+        self.faults
+    }
+}
+
+// Appends within the capacity, which takes no memory.
+fn push_within(bytes: &mut Vec<u8>, piece: &[u8])
+    requires { vec_len bytes.old + length piece.now ≤ vec_capacity bytes.old }
+    ensures items { bytes.new.items ≡ bytes.old.items ++ piece.now }
+    ensures capacity { vec_capacity bytes.old ≤ vec_capacity bytes.new }
+{
+    bytes.extend_from_slice(piece).unwrap();
 }
 
 impl Sink for MemSink {
@@ -147,7 +204,15 @@ impl Sink for MemSink {
         ensures cause { HasCause self.old.faults self.new.faults result }
         ensures exact { OutputWrites self.old self.new result piece.now }
     {
-        let _ = piece;
-        Err(IoFault)
+        let call = self.calls;
+        self.calls = call.saturating_add(1);
+        let left = self.room - self.bytes.len();
+        if fails_now(&self.fails, call) || left == 0 {
+            self.faults = self.faults.saturating_add(1);
+            return Err(IoFault);
+        }
+        let count = self.piece.min(piece.len().min(left));
+        push_within(&mut self.bytes, &piece[..count]);
+        Ok(count)
     }
 }
