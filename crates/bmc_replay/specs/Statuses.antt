@@ -27,7 +27,7 @@ status_of (Err stops.TooLong) = TooLong
 -- the whole text of the script was written
 pub record WritesAll (script : List ℕ) (refused : Bool) (old new : Option (List ℕ)) : Type 0 where
   pub text : Appends old new (out script)
-  pub refused : refuses script ≡ refused
+  pub refusal : refuses script ≡ refused
 
 -- what is written of a script: all of it on Done, where no item is refused, and on Refused, where one is; else a front
 abbrev pub Writes : Status → List ℕ → Option (List ℕ) → Option (List ℕ) → Type 0
@@ -68,8 +68,8 @@ Reaches TooLong left left_now old new = WritesWhole left left_now old new (λ co
 
 -- the counts of faults of the source and of the sink are as before
 pub record NoFault (source source_now sink sink_now : ℕ) : Type 0 where
-  pub source : source_now ≡ source
-  pub sink : sink_now ≡ sink
+  pub of_source : source_now ≡ source
+  pub of_sink : sink_now ≡ sink
 
 -- Why it ended: a fault of the source or of the sink is answered only where its count rose, and the other count stands;
 -- with any other status both stand.

@@ -2,7 +2,7 @@ ghost use Rattle.std.specs.Prelude.{◌≡◌, ◌<◌, ◌^◌, IfOk, OnOk};
 ghost use Rattle.bmc_text.specs.Items.{Line};
 ghost use Rattle.bmc_text.specs.Reading.{item_got};
 ghost use Rattle.bmc_machine.specs.Histories as histories;
-ghost use Rattle.bmc_machine.specs.Runs.{item_outcome, step_outcome};
+ghost use Rattle.bmc_machine.specs.Runs.{command_outcome, item_outcome, step_outcome};
 ghost use Rattle.bmc_replay.specs.Steps.{Comes, CountsItem, IsNew, TakesGot};
 
 use crate::board::is_plain_board;
@@ -54,6 +54,17 @@ fn unplug(present: &mut Present, place: Place) -> Option<Refusal>
     }
 }
 
+// Does what a command asks for, or answers why it is refused.
+fn obey(present: &mut Present, command: Command) -> Result<Option<Refusal>, OutOfMemory>
+    ensures { IfOk result (λ refusal. Comes (command_outcome present.old (Ok command)) refusal present.old present.new) }
+{
+    match command {
+        Command::Nothing => Ok(None),
+        Command::Plug(place, bytes) => plug(present, place, bytes),
+        Command::Unplug(place) => Ok(unplug(present, place)),
+    }
+}
+
 // Takes a line, and answers why it is refused, if it is.
 fn take_line(
     alloc: Global,
@@ -63,9 +74,7 @@ fn take_line(
     ensures { IfOk result (λ refusal. Comes (item_outcome present.old (Line line.now)) refusal present.old present.new) }
 {
     match Command::read(alloc, line) {
-        Ok(Command::Nothing) => Ok(None),
-        Ok(Command::Plug(place, bytes)) => plug(present, place, bytes),
-        Ok(Command::Unplug(place)) => Ok(unplug(present, place)),
+        Ok(command) => obey(present, command),
         Err(ScriptFault::UnknownCommand) => Ok(Some(Refusal::UnknownCommand)),
         Err(ScriptFault::OutOfMemory) => Err(OutOfMemory),
     }

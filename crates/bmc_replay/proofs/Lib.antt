@@ -1,0 +1,2 @@
+pub mod BoardFields
+pub mod KeptFrus
