@@ -1,11 +1,11 @@
 -- Bytes that are cut into items, and a line in front of them.
-use Rattle.std.proofs.Common.{◌≡◌, ◌≢◌, ℕ, zero, suc, ◌+◌, ◌≤◌, ◌<◌, List, [], ◌∷◌, ◌++◌, length, take, drop, arith, ap, sym, ◌∙◌, refl, subst, length-append, append_assoc}
-use Rattle.std.specs.Prelude.{Option, Some, None, position, option_map}
+use Rattle.std.proofs.Common.{◌≡◌, ℕ, zero, suc, ◌+◌, ◌≤◌, ◌<◌, List, [], ◌∷◌, ◌++◌, length, take, drop, arith, ap, sym, ◌∙◌, refl, length-append, append_assoc}
+use Rattle.std.specs.Prelude.{Some, None, option_map}
 use Rattle.std.proofs.lemmas.List.{take_at, drop_at}
 use Rattle.bmc_text.specs.Buffers.{HasNoNewline}
 use Rattle.bmc_text.specs.Items.{Item, item_of, whole_item, Cut, cut_off, cut_most, cut, whole_items, last_item, items_of}
 use Rattle.bmc_text.specs.Reading.{BeginsWith}
-use Rattle.bmc_text.proofs.Newlines.{is_newline, position-none, position-line, Front, NoLine, LineThen, front_of}
+use Rattle.bmc_text.proofs.Newlines.{position-none, position-line, Front, NoLine, LineThen, front_of}
 
 pub whole_item-none : (raw : List ℕ) → HasNoNewline raw → whole_item raw ≡ None
 unfolding whole_item
@@ -97,9 +97,11 @@ stays n bytes more l (NoLine none) = (items_of (bytes ++ more), ap (λ (items : 
 stays zero bytes more l (LineThen raw rest none e) = absurd (too_short raw rest (omega (arith, ap length e)))
 stays (suc n) bytes more l (LineThen raw rest none e) =
     let fits : length (raw ++ 10 ∷ rest) ≤ suc n = omega (arith, ap length e) in
-    let later = stays n rest more (shorter raw rest n fits) (front_of rest) in
-    (later.0, (begins_with_line bytes raw rest none e).all more ∙ ap (λ (items : List Item). item_of raw ∷ items) later.1
-    ∙ ap (λ (items : List Item). items ++ later.0) (sym (ap whole_items e ∙ whole_items-line raw rest none)))
+    let later = stays n rest more (shorter raw rest n fits) (front_of rest) in (
+      later.0,
+      (begins_with_line bytes raw rest none e).all more ∙ ap (λ (items : List Item). item_of raw ∷ items) later.1
+          ∙ ap (λ (items : List Item). items ++ later.0) (sym (ap whole_items e ∙ whole_items-line raw rest none)),
+    )
 
 -- whatever follows, the items that are whole are the first
 pub whole_items-first : (bytes more : List ℕ) → (others : List Item) × (items_of (bytes ++ more) ≡ whole_items bytes ++ others)

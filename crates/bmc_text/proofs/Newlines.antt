@@ -1,10 +1,11 @@
 -- Newlines in bytes.
-use Rattle.std.proofs.Common.{◌≡◌, ◌≢◌, ℕ, zero, suc, ◌+◌, ◌≤◌, ◌<◌, List, [], ◌∷◌, ◌++◌, length, take, drop, slice_index, get_or, cond, not, ltb, eqb, Bool, true, false, arith, ap, sym, ◌∙◌, refl, length-append, length-take, inl, inr}
-use Rattle.std.specs.Prelude.{Option, Some, None, ◌==◌, position, ◌⊎◌}
+use Rattle.std.proofs.Common.{◌≡◌, ◌≢◌, ℕ, zero, suc, ◌+◌, ◌≤◌, ◌<◌, List, [], ◌∷◌, ◌++◌, length, take, drop, slice_index, cond, not, ltb, Bool, arith, ap, sym, ◌∙◌, refl, length-append, length-take, length-drop, inl, inr, ◌-◌}
+use Rattle.std.specs.Prelude.{Some, None, ◌==◌, position, ◌⊎◌}
 use Rattle.std.specs.List.{position_or_len}
-use Rattle.std.proofs.lemmas.Bool.{ne_eqb, lt-ltb, le-ltb, cases_eq}
-use Rattle.std.proofs.lemmas.List.{get_or-take, take-append-drop}
+use Rattle.std.proofs.lemmas.Bool.{ne_eqb, lt-ltb, le-ltb, cases_eq, cases_lt, eq-eqb, eqb-true}
+use Rattle.std.proofs.lemmas.List.{get_or-take, get_or-drop, take-append-drop}
 use Rattle.std.proofs.Math.Seq.{drop-cons}
+use Rattle.memchr.specs.Find.{Nowhere, NoneBefore, Passes}
 use Rattle.bmc_text.specs.Buffers.{HasNoNewline, IsNewline}
 
 abbrev pub is_newline : ℕ → Bool
@@ -75,3 +76,36 @@ front_cons b bytes (inr h) (LineThen raw rest none e) = LineThen (b ∷ raw) res
 pub front_of : (bytes : List ℕ) → Front bytes
 front_of [] = NoLine HasNoNewline-nil
 front_of (b ∷ bytes) = front_cons b bytes (cases_eq b 10) (front_of bytes)
+
+-- the search behind a front without a newline
+before : (bytes : List ℕ) (from k : ℕ) → from ≤ length bytes → HasNoNewline (take from bytes) → k < from → slice_index bytes k ≢ 10
+before bytes from k l none h = λ e. none k (omega (arith, length-take from bytes)) (get_or-take from bytes k 0 h ∙ e)
+
+index_behind : (bytes behind : List ℕ) (from k : ℕ) → behind ≡ drop from bytes → from ≤ k → slice_index behind (k - from) ≡ slice_index bytes k
+index_behind bytes behind from k e h =
+    let place : from + (k - from) ≡ k = omega arith in
+    ap (λ (xs : List ℕ). slice_index xs (k - from)) e ∙ get_or-drop from bytes (k - from) 0 ∙ ap (slice_index bytes) place
+
+not_yet : (bytes behind : List ℕ) (from end k : ℕ) → behind ≡ drop from bytes → from ≤ length bytes → HasNoNewline (take from bytes)
+    → Nowhere (Passes is_newline behind) 0 end → k < from + end → slice_index bytes k ≢ 10
+not_yet bytes behind from end k e l none nowhere h =
+    elim (cases_lt k from) [
+      | inl below ↦ before bytes from k l none below
+      | inr above ↦ λ is. nowhere (k - from) (omega arith) (omega arith) (eq-eqb (slice_index behind (k - from)) 10 (index_behind bytes behind from k e above ∙ is))
+    ]
+
+pub no_newline-behind : (bytes behind : List ℕ) (from : ℕ) → behind ≡ drop from bytes → from ≤ length bytes → HasNoNewline (take from bytes)
+    → Nowhere (Passes is_newline behind) 0 (length behind) → HasNoNewline bytes
+no_newline-behind bytes behind from e l none nowhere k h =
+    not_yet bytes behind from (length behind) k e l none nowhere (omega (arith, length-drop from bytes, ap length e))
+
+pub newline-behind : (bytes behind : List ℕ) (from at : ℕ) → behind ≡ drop from bytes → from ≤ length bytes → HasNoNewline (take from bytes)
+    → NoneBefore (Passes is_newline behind) 0 (length behind) at × Passes is_newline behind at → IsNewline bytes (from + at)
+newline-behind bytes behind from at e l none found =
+    let same : slice_index behind (from + at - from) ≡ slice_index bytes (from + at) = index_behind bytes behind from (from + at) e (omega arith) in
+    let place : at ≡ from + at - from = omega arith in
+    record {
+      within = omega (arith, found.0.high, length-drop from bytes, ap length e);
+      found = sym same ∙ ap (slice_index behind) (sym place) ∙ eqb-true (slice_index behind at) 10 found.1;
+      first = λ k h. not_yet bytes behind from at k e l none found.0.before h;
+    }
