@@ -1,10 +1,13 @@
-ghost use Rattle.std.specs.Prelude.{◌≡◌, ◌<◌, ◌≤◌, ◌^◌, [], List, ℕ, Option, true, false, IfOk, OnErr, IfSome, IfNone, MatchResult};
-ghost use Rattle.std.specs.Io.KnownBytes.{IsAtEnd};
-ghost use Rattle.bmc_text.specs.Items.{whole_items};
-ghost use Rattle.bmc_text.specs.Reading.{TakesNext, TakesNothing, Spends, LineCause};
+ghost use Rattle.std.specs.Prelude.{◌≡◌, ◌<◌, ◌≤◌, ◌+◌, ◌-◌, ◌^◌, [], List, ℕ, Option, true, false, length, take, drop, slice_range, IfOk, OnOk, OnErr, IfSome, IfNone, MatchOption, MatchResult};
+ghost use Rattle.std.specs.Io.KnownBytes.{Keeps, Consumes, IsAtEnd};
+ghost use Rattle.bmc_base.specs.Counts.{Rose};
+ghost use Rattle.bmc_text.specs.Buffers.{HasNoNewline, IsNewline, Gathers};
+ghost use Rattle.bmc_text.specs.Items.{item_of, without_return, whole_items};
+ghost use Rattle.bmc_text.specs.Reading.{item_got, TakesItem, TakesNext, TakesNothing, Spends, LineCause};
 
 use bmc_base::OutOfMemory;
-use bmc_io::Source;
+use bmc_io::{IoFault, Source};
+use memchr::memchr;
 use std::alloc::Global;
 use std::marker::Model;
 use thiserror::Error;
@@ -63,6 +66,60 @@ impl Model for Lines {
     ghost invariant = { λ l. (l.line_start ≤ l.line_end) × (l.line_end ≤ vec_len l.buffer) × (l.start ≤ l.end) × (l.end ≤ vec_len l.buffer) × (vec_len l.buffer ≡ 65536) × (l.read ≤ 2 ^ 40) × (l.ended ≡ true → (l.start ≡ l.end) × (l.read < 2 ^ 40)) };
 }
 
+// The place of the first newline, where none stands before `from`.
+fn newline_behind(bytes: &[u8], from: usize) -> Option<usize>
+    requires within { from ≤ length bytes.now }
+    requires none { HasNoNewline (take from bytes.now) }
+    ensures { MatchOption result (HasNoNewline bytes.now) (λ at. IsNewline bytes.now at) }
+{
+    match memchr(b'\n', &bytes[from..]) {
+        Some(behind) => Some(from + behind),
+        None => None,
+    }
+}
+
+// How many bytes of a line stay without a carriage return at its end.
+#[tactic(auto, unfolding(crate::specs::Items::without_return))]
+fn kept_len(raw: &[u8]) -> usize
+    ensures within { result ≤ length raw.now }
+    ensures line { take result raw.now ≡ without_return raw.now }
+{
+    match raw {
+        [kept @ .., b'\r'] => kept.len(),
+        _ => raw.len(),
+    }
+}
+
+// Moves the bytes from `start` to `end` to the front.
+fn to_front(buffer: &mut [u8], start: usize, end: usize)
+    requires order { start ≤ end }
+    requires within { end ≤ length buffer.old }
+    ensures { take (end - start) buffer.new ≡ slice_range buffer.old start end }
+{
+    if start > 0 {
+        buffer.copy_within(start..end, 0);
+    }
+}
+
+// Reads a piece into the buffer from `at` on and before `stop`, and answers its length.
+fn read_at<S: Source>(
+    source: &mut S,
+    buffer: &mut [u8],
+    at: usize,
+    stop: usize,
+) -> Result<usize, IoFault>
+    requires room { at < stop }
+    requires within { stop ≤ length buffer.old }
+    ensures within { IfOk result (λ n. at + n ≤ stop) }
+    ensures front { take at buffer.new ≡ take at buffer.old }
+    ensures bytes { IfOk result (λ n. Consumes (S.left source.old) (S.left source.new) (slice_range buffer.new at (at + n))) }
+    ensures end { IfOk result (λ n. n ≡ 0 → IsAtEnd (S.left source.new)) }
+    ensures kept { OnErr result (Keeps (S.left source.old) (S.left source.new)) }
+    ensures cause { MatchResult result (λ _. S.faults source.new ≡ S.faults source.old) (λ _. Rose (S.faults source.old) (S.faults source.new)) }
+{
+    source.read(&mut buffer[at..stop])
+}
+
 impl Lines {
     /// A reader that has read nothing. It takes its buffer here, once.
     pub fn new(alloc: Global) -> Result<Lines, OutOfMemory>
@@ -98,7 +155,7 @@ impl Lines {
         ensures most { self.new.read ≤ 2 ^ 40 }
         ensures under { self.new.ended ≡ true → self.new.read < 2 ^ 40 }
     {
-        None
+        self.next_behind(0)
     }
 
     /// The next item of the source. It reads only while no line is whole in what was read, and not
@@ -112,7 +169,203 @@ impl Lines {
         ensures under { self.new.ended ≡ true → self.new.read < 2 ^ 40 }
         ensures cause { MatchResult result (λ _. S.faults source.new ≡ S.faults source.old) (λ fault. LineCause fault self.new (S.faults source.old) (S.faults source.new)) }
     {
-        let _ = source;
-        Err(LineFault::Spent)
+        if let Some(got) = self.next_buffered() {
+            return Ok(got);
+        }
+        if self.ended {
+            return Ok(Got::End);
+        }
+        self.next_read(source)
+    }
+
+    // The next item, where no line is whole in what waits and the source goes on. Each byte is searched
+    // once, however small the pieces are.
+    fn next_read<S: Source>(&mut self, source: &mut S) -> Result<Got, LineFault>
+        requires none { HasNoNewline self.old.waiting }
+        requires going { self.old.ended ≡ false }
+        requires most { self.old.read ≤ 2 ^ 40 }
+        ensures next { IfOk result (λ got. TakesNext got self.old self.new (S.left source.old) (S.left source.new)) }
+        ensures spends { IfOk result (λ got. Spends got self.old self.new) }
+        ensures end { OnOk result (self.new.ended ≡ true → IsAtEnd (S.left source.new)) }
+        ensures stops { OnErr result (TakesNothing self.old self.new (S.left source.old) (S.left source.new)) }
+        ensures most { self.new.read ≤ 2 ^ 40 }
+        ensures under { self.new.ended ≡ true → self.new.read < 2 ^ 40 }
+        ensures cause { MatchResult result (λ _. S.faults source.new ≡ S.faults source.old) (λ fault. LineCause fault self.new (S.faults source.old) (S.faults source.new)) }
+    {
+        'pieces: loop {
+            let scanned = self.waiting().len();
+            if scanned > LONGEST {
+                return self.skip(source);
+            }
+            if self.fill(source)? == 0 {
+                return Ok(self.take_last());
+            }
+            if let Some(got) = self.next_behind(scanned) {
+                return Ok(got);
+            }
+        }
+    }
+
+    // Drops a line that is too long, of which all that waits is the front, and its newline.
+    fn skip<S: Source>(&mut self, source: &mut S) -> Result<Got, LineFault>
+        requires long { 9000 < length self.old.waiting }
+        requires none { HasNoNewline self.old.waiting }
+        requires going { self.old.ended ≡ false }
+        requires most { self.old.read ≤ 2 ^ 40 }
+        ensures next { IfOk result (λ got. TakesNext got self.old self.new (S.left source.old) (S.left source.new)) }
+        ensures spends { IfOk result (λ got. Spends got self.old self.new) }
+        ensures end { OnOk result (self.new.ended ≡ true → IsAtEnd (S.left source.new)) }
+        ensures stops { OnErr result (TakesNothing self.old self.new (S.left source.old) (S.left source.new)) }
+        ensures most { self.new.read ≤ 2 ^ 40 }
+        ensures under { self.new.ended ≡ true → self.new.read < 2 ^ 40 }
+        ensures cause { MatchResult result (λ _. S.faults source.new ≡ S.faults source.old) (λ fault. LineCause fault self.new (S.faults source.old) (S.faults source.new)) }
+    {
+        self.drop_waiting();
+        'pieces: loop {
+            if self.fill(source)? == 0 {
+                self.finish();
+                return Ok(Got::LineTooLong);
+            }
+            if let Some(at) = newline_behind(self.waiting(), 0) {
+                self.take(0, at + 1);
+                return Ok(Got::LineTooLong);
+            }
+            self.drop_waiting();
+        }
+    }
+
+    // Reads a piece behind what waits, and answers its length, which is 0 only at the end.
+    fn fill<S: Source>(&mut self, source: &mut S) -> Result<usize, LineFault>
+        requires short { length self.old.waiting ≤ 9000 }
+        requires going { self.old.ended ≡ false }
+        ensures gathers { Gathers [] self.old self.new (S.left source.old) (S.left source.new) }
+        ensures count { IfOk result (λ n. self.new.read ≡ self.old.read + n) }
+        ensures stays { OnErr result (self.new.read ≡ self.old.read) }
+        ensures end { IfOk result (λ n. n ≡ 0 → IsAtEnd (S.left source.new)) }
+        ensures under { OnOk result (self.old.read < 2 ^ 40) }
+        ensures most { self.new.read ≤ 2 ^ 40 }
+        ensures going { self.new.ended ≡ false }
+        ensures cause { MatchResult result (λ _. S.faults source.new ≡ S.faults source.old) (λ fault. LineCause fault self.new (S.faults source.old) (S.faults source.new)) }
+    {
+        if self.read == MOST {
+            return Err(LineFault::Spent);
+        }
+        to_front(&mut self.buffer, self.start, self.end);
+        self.end -= self.start;
+        self.start = 0;
+        self.line_start = 0;
+        self.line_end = 0;
+        let stop = SIZE.min(self.end + (MOST - self.read) as usize);
+        match read_at(source, &mut self.buffer, self.end, stop) {
+            Ok(count) => {
+                self.end += count;
+                self.read += count as u64;
+                Ok(count)
+            }
+            Err(_) => Err(LineFault::ReadFault),
+        }
+    }
+
+    // The line that is whole in what waits, where no newline stands before `scanned`.
+    fn next_behind(&mut self, scanned: usize) -> Option<Got>
+        requires within { scanned ≤ length self.old.waiting }
+        requires none { HasNoNewline (take scanned self.old.waiting) }
+        ensures item { IfSome result (λ got. TakesItem (item_got got self.new.line) false self.old.waiting self.new.waiting) }
+        ensures spends { IfSome result (λ got. Spends got self.old self.new) }
+        ensures going { IfSome result (λ _. self.new.ended ≡ false) }
+        ensures end { self.new.ended ≡ self.old.ended }
+        ensures read { self.new.read ≡ self.old.read }
+        ensures none { IfNone result (HasNoNewline self.old.waiting) }
+        ensures same { IfNone result (self.new ≡ self.old) }
+        ensures most { self.new.read ≤ 2 ^ 40 }
+        ensures under { self.new.ended ≡ true → self.new.read < 2 ^ 40 }
+    {
+        match newline_behind(self.waiting(), scanned) {
+            Some(at) => Some(self.take_item(at, at + 1)),
+            None => None,
+        }
+    }
+
+    // The last item, whose bytes are all that waits, at the end of the source.
+    fn take_last(&mut self) -> Got
+        requires none { HasNoNewline self.old.waiting }
+        requires under { self.old.read < 2 ^ 40 }
+        ensures item { TakesItem (item_got result self.new.line) true self.old.waiting self.new.waiting }
+        ensures spends { Spends result self.old self.new }
+        ensures end { self.new.ended ≡ true }
+        ensures read { self.new.read ≡ self.old.read }
+    {
+        let all = self.waiting().len();
+        if all == 0 {
+            self.finish();
+            return Got::End;
+        }
+        let got = self.take_item(all, all);
+        self.finish();
+        got
+    }
+
+    // Takes the item of the bytes before `at`, and goes on at `next`, both from the first byte that waits.
+    #[tactic(auto, unfolding(crate::specs::Items::item_of))]
+    fn take_item(&mut self, at: usize, next: usize) -> Got
+        requires order { at ≤ next }
+        requires within { next ≤ length self.old.waiting }
+        ensures item { item_got result self.new.line ≡ Some (item_of (take at self.old.waiting)) }
+        ensures waiting { self.new.waiting ≡ drop next self.old.waiting }
+        ensures read { self.new.read ≡ self.old.read }
+        ensures end { self.new.ended ≡ self.old.ended }
+    {
+        if at > LONGEST {
+            self.take(0, next);
+            return Got::LineTooLong;
+        }
+        let kept = kept_len(&self.waiting()[..at]);
+        self.take(kept, next);
+        Got::Line
+    }
+
+    // Takes the bytes before `at` as the line, and goes on at `next`, both from the first byte that waits.
+    fn take(&mut self, at: usize, next: usize)
+        requires order { at ≤ next }
+        requires within { next ≤ length self.old.waiting }
+        ensures line { self.new.line ≡ take at self.old.waiting }
+        ensures waiting { self.new.waiting ≡ drop next self.old.waiting }
+        ensures read { self.new.read ≡ self.old.read }
+        ensures end { self.new.ended ≡ self.old.ended }
+    {
+        self.line_start = self.start;
+        self.line_end = self.start + at;
+        self.start += next;
+    }
+
+    fn drop_waiting(&mut self)
+        ensures waiting { self.new.waiting ≡ [] }
+        ensures read { self.new.read ≡ self.old.read }
+        ensures end { self.new.ended ≡ self.old.ended }
+    {
+        self.start = self.end;
+    }
+
+    // The source has given its end.
+    fn finish(&mut self)
+        requires { self.old.read < 2 ^ 40 }
+        ensures line { self.new.line ≡ self.old.line }
+        ensures waiting { self.new.waiting ≡ [] }
+        ensures read { self.new.read ≡ self.old.read }
+        ensures end { self.new.ended ≡ true }
+    {
+        self.start = self.end;
+        self.ended = true;
+    }
+
+    // The bytes that wait, and what holds of every reader.
+    fn waiting(&self) -> &[u8]
+        ensures value { result.now ≡ self.now.waiting }
+        ensures len { length result.now ≤ 65536 }
+        ensures most { self.now.read ≤ 2 ^ 40 }
+        ensures under { self.now.ended ≡ true → self.now.read < 2 ^ 40 }
+        ensures end { self.now.ended ≡ true → result.now ≡ [] }
+    {
+        &self.buffer[self.start..self.end]
     }
 }

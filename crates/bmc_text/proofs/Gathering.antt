@@ -1,0 +1,209 @@
+-- Bytes that were gathered in a call, and the item that is taken of them.
+use Rattle.std.proofs.Common.{◌≡◌, ℕ, ◌+◌, ◌-◌, ◌≤◌, ◌<◌, List, [], ◌∷◌, ◌++◌, length, take, drop, Bool, true, false, arith, ap, sym, ◌∙◌, refl, subst, length-append, length-take, length-drop, slice_range, append_assoc, append-nil}
+use Rattle.std.specs.Prelude.{Option, Some, None, IfNone}
+use Rattle.std.specs.Io.KnownBytes.{Consumes}
+use Rattle.std.proofs.KnownBytes.{Consumes-nil, Consumes-trans}
+use Rattle.std.proofs.lemmas.Grind.{common_steps}
+use Rattle.std.proofs.lemmas.List.{nil_from_length, drop-drop}
+use Rattle.std.proofs.lemmas.Slice.{between_is}
+use Rattle.std.proofs.Math.Seq.{take-add}
+use Rattle.bmc_text.specs.Buffers.{HasNoNewline, IsNewline, Gathers}
+use Rattle.bmc_text.specs.Feeds.{Feed}
+use Rattle.bmc_text.specs.Items.{Item, item_of, items_of, whole_items}
+use Rattle.bmc_text.specs.Items as items
+use Rattle.bmc_text.specs.Reading.{BeginsWith, TakesItem, TakesNext, TakesNothing, item_got}
+use Rattle.bmc_text.specs.declared.lines.Got.{Got}
+use Rattle.bmc_text.specs.declared.lines.Got.TheVariants.{LineTooLong}
+use Rattle.bmc_text.proofs.Newlines.{Front, NoLine, LineThen, front_of, newline_parts, HasNoNewline-nil, HasNoNewline-take, HasNoNewline-append}
+use Rattle.bmc_text.proofs.Cuts.{begins_with_line, items_of-last, whole_items-none, whole_items-line}
+
+pub Gathers-refl : (feed : Feed) (left : Option (List ℕ)) → Gathers [] feed feed left left
+Gathers-refl feed left = record { piece = []; consumed = Consumes-nil left; read = omega arith; waiting = append-nil feed.waiting }
+
+pub Gathers-trans : {front : List ℕ} {a b c : Feed} {l m n : Option (List ℕ)} → Gathers front a b l m → Gathers [] b c m n → Gathers front a c l n
+Gathers-trans {front} {a} {b} {c} {l} {m} {n} first second = record {
+  piece = first.piece ++ second.piece;
+  consumed = Consumes-trans l m n first.piece second.piece first.consumed second.consumed;
+  read = omega (arith, first.read, second.read, length-append first.piece second.piece);
+  waiting =
+      sym (append_assoc a.waiting first.piece second.piece) ∙ ap (λ (xs : List ℕ). xs ++ second.piece) first.waiting
+      ∙ append_assoc front b.waiting second.piece ∙ ap (λ (xs : List ℕ). front ++ xs) second.waiting;
+}
+
+-- what waits is dropped
+pub Gathers-dropped : {front : List ℕ} {a b c : Feed} {l m : Option (List ℕ)} → Gathers front a b l m → c.waiting ≡ [] → c.read ≡ b.read → Gathers (front ++ b.waiting) a c l m
+Gathers-dropped {front} {a} {b} {c} h none read = record {
+  piece = h.piece;
+  consumed = h.consumed;
+  read = read ∙ h.read;
+  waiting = h.waiting ∙ sym (append-nil (front ++ b.waiting)) ∙ ap (λ (xs : List ℕ). (front ++ b.waiting) ++ xs) (sym none);
+}
+
+-- so many bytes wait
+pub Gathers-length : {front : List ℕ} {a b : Feed} {l m : Option (List ℕ)} → Gathers front a b l m → b.read + length a.waiting ≡ a.read + length front + length b.waiting
+Gathers-length {front} {a} {b} h = omega (arith, h.read, ap length h.waiting, length-append a.waiting h.piece, length-append front b.waiting)
+
+-- nothing was read
+pub Gathers-none : {a b : Feed} {l m : Option (List ℕ)} → Gathers [] a b l m → b.read ≡ a.read → b.waiting ≡ a.waiting
+Gathers-none {a} {b} h same =
+    let none : h.piece ≡ [] = nil_from_length h.piece (omega (arith, h.read)) in
+    sym (sym (append-nil a.waiting) ∙ ap (λ (xs : List ℕ). a.waiting ++ xs) (sym none) ∙ h.waiting)
+
+-- an item of what waits now, after a piece was read
+pub takes_after : (got : Got) {a b c : Feed} {l m n : Option (List ℕ)} → Gathers [] a b l m → TakesNext got b c m n → TakesNext got a c l n
+takes_after got {a} {b} {c} {l} {m} {n} first next = record {
+  piece = first.piece ++ next.piece;
+  consumed = Consumes-trans l m n first.piece next.piece first.consumed next.consumed;
+  read = omega (arith, first.read, next.read, length-append first.piece next.piece);
+  item =
+      let bytes : b.waiting ++ next.piece ≡ a.waiting ++ (first.piece ++ next.piece) = ap (λ (xs : List ℕ). xs ++ next.piece) (sym first.waiting) ∙ append_assoc a.waiting first.piece next.piece in
+      subst (λ (xs : List ℕ). TakesItem (item_got got c.line) c.ended xs c.waiting) bytes next.item;
+}
+
+pub nothing_after : {a b c : Feed} {l m n : Option (List ℕ)} → Gathers [] a b l m → a.ended ≡ false → TakesNothing b c m n → TakesNothing a c l n
+nothing_after {a} {b} {c} {l} {m} {n} first going next = record {
+  piece = first.piece ++ next.piece;
+  consumed = Consumes-trans l m n first.piece next.piece first.consumed next.consumed;
+  read = omega (arith, first.read, next.read, length-append first.piece next.piece);
+  none =
+      let bytes : b.waiting ++ next.piece ≡ a.waiting ++ (first.piece ++ next.piece) = ap (λ (xs : List ℕ). xs ++ next.piece) (sym first.waiting) ∙ append_assoc a.waiting first.piece next.piece in
+      sym (ap whole_items bytes) ∙ next.none;
+  goes_on = going;
+}
+
+-- an item of what waited, with nothing read
+pub takes_here : (got : Got) (a b : Feed) (ended : Bool) (left : Option (List ℕ)) → b.read ≡ a.read → b.ended ≡ ended → TakesItem (item_got got b.line) ended a.waiting b.waiting → TakesNext got a b left left
+takes_here got a b ended left read end item = record {
+  piece = [];
+  consumed = Consumes-nil left;
+  read = omega arith;
+  item =
+      let at_end : TakesItem (item_got got b.line) b.ended a.waiting b.waiting = subst (λ (e : Bool). TakesItem (item_got got b.line) e a.waiting b.waiting) (sym end) item in
+      subst (λ (xs : List ℕ). TakesItem (item_got got b.line) b.ended xs b.waiting) (sym (append-nil a.waiting)) at_end;
+}
+
+-- no item is whole in what was gathered
+pub takes_nothing : {front : List ℕ} {a b : Feed} {l m : Option (List ℕ)} → Gathers front a b l m → a.ended ≡ false → HasNoNewline (front ++ b.waiting) → TakesNothing a b l m
+takes_nothing {front} {a} {b} h going none = record {
+  piece = h.piece;
+  consumed = h.consumed;
+  read = h.read;
+  none = ap whole_items h.waiting ∙ whole_items-none (front ++ b.waiting) none;
+  goes_on = going;
+}
+
+-- a line that is whole, of which the front was dropped
+pub begins_with_dropped : (bytes front waiting rest : List ℕ) (at : ℕ) → bytes ≡ front ++ waiting → HasNoNewline front → IsNewline waiting at → rest ≡ drop (at + 1) waiting
+    → BeginsWith bytes (item_of (front ++ take at waiting)) rest
+begins_with_dropped bytes front waiting rest at e none h r =
+    begins_with_line bytes (front ++ take at waiting) rest (HasNoNewline-append front (take at waiting) none (HasNoNewline-take waiting at h))
+    (e ∙ ap (λ (xs : List ℕ). front ++ xs) (newline_parts waiting at h ∙ ap (λ (xs : List ℕ). take at waiting ++ 10 ∷ xs) (sym r)) ∙ sym (append_assoc front (take at waiting) (10 ∷ rest)))
+
+-- the item at the front, whose newline stands there
+pub takes_line : (got : Got) (line waiting rest : List ℕ) (at : ℕ) → item_got got line ≡ Some (item_of (take at waiting)) → IsNewline waiting at → rest ≡ drop (at + 1) waiting
+    → TakesItem (item_got got line) false waiting rest
+takes_line got line waiting rest at item h r =
+    subst (λ (found : Option Item). TakesItem found false waiting rest) (sym item) (begins_with_dropped waiting [] waiting rest at refl HasNoNewline-nil h r)
+
+-- the last item, of all that waits
+pub takes_last : (got : Got) (line waiting rest : List ℕ) → item_got got line ≡ Some (item_of waiting) → 0 < length waiting → HasNoNewline waiting → rest ≡ []
+    → TakesItem (item_got got line) true waiting rest
+takes_last got line waiting rest item some none r =
+    subst (λ (found : Option Item). TakesItem found true waiting rest) (sym item) (record { all = items_of-last waiting some none; none = r })
+
+too_long : (raw : List ℕ) → 9000 < length raw → item_of raw ≡ items.LineTooLong
+unfolding item_of
+too_long raw h = grind (arith, common_steps)
+
+-- all that was gathered but what waits is the front of a line that is too long
+pub record Skips (a b : Feed) (left left_now : Option (List ℕ)) : Type 0 where
+  pub front : List ℕ
+  pub gathers : Gathers front a b left left_now
+  pub long : 9000 < length front
+  pub none : HasNoNewline front
+
+pub Skips-first : (a b : Feed) (left : Option (List ℕ)) → 9000 < length a.waiting → HasNoNewline a.waiting → b.waiting ≡ [] → b.read ≡ a.read → Skips a b left left
+Skips-first a b left long none empty read = record { front = a.waiting; gathers = Gathers-dropped (Gathers-refl a left) empty read; long = long; none = none }
+
+pub Skips-read : {a b c : Feed} {l m n : Option (List ℕ)} → Skips a b l m → Gathers [] b c m n → Skips a c l n
+Skips-read h piece = record { front = h.front; gathers = Gathers-trans h.gathers piece; long = h.long; none = h.none }
+
+pub Skips-dropped : {a b c : Feed} {l m : Option (List ℕ)} → Skips a b l m → HasNoNewline b.waiting → c.waiting ≡ [] → c.read ≡ b.read → Skips a c l m
+Skips-dropped {a} {b} h none empty read = record {
+  front = h.front ++ b.waiting;
+  gathers = Gathers-dropped h.gathers empty read;
+  long = omega (arith, h.long, length-append h.front b.waiting);
+  none = HasNoNewline-append h.front b.waiting h.none none;
+}
+
+takes_long_of : {front : List ℕ} {a b c : Feed} {l m : Option (List ℕ)} (at : ℕ) → Gathers front a b l m → 9000 < length front → HasNoNewline front → IsNewline b.waiting at
+    → c.waiting ≡ drop (at + 1) b.waiting → c.read ≡ b.read → c.ended ≡ false → TakesNext LineTooLong a c l m
+takes_long_of {front} {a} {b} {c} at h long none newline rest read going = record {
+  piece = h.piece;
+  consumed = h.consumed;
+  read = read ∙ h.read;
+  item =
+      let begins = begins_with_dropped (a.waiting ++ h.piece) front b.waiting c.waiting at h.waiting none newline rest in
+      let item = too_long (front ++ take at b.waiting) (omega (arith, length-append front (take at b.waiting))) in
+      subst (λ (e : Bool). TakesItem (Some items.LineTooLong) e (a.waiting ++ h.piece) c.waiting) (sym going)
+      (subst (λ (found : Item). BeginsWith (a.waiting ++ h.piece) found c.waiting) item begins);
+}
+
+-- the newline of a line that is too long comes
+pub takes_long : {a b c : Feed} {l m : Option (List ℕ)} (at : ℕ) → Skips a b l m → IsNewline b.waiting at → c.waiting ≡ drop (at + 1) b.waiting → c.read ≡ b.read → c.ended ≡ false
+    → TakesNext LineTooLong a c l m
+takes_long {a} {b} {c} at s newline rest read going = takes_long_of at s.gathers s.long s.none newline rest read going
+
+takes_long_last_of : {front : List ℕ} {a b c : Feed} {l m : Option (List ℕ)} → Gathers front a b l m → 9000 < length front → HasNoNewline front → b.waiting ≡ []
+    → c.waiting ≡ [] → c.read ≡ b.read → c.ended ≡ true → TakesNext LineTooLong a c l m
+takes_long_last_of {front} {a} {b} {c} h long none empty rest read end = record {
+  piece = h.piece;
+  consumed = h.consumed;
+  read = read ∙ h.read;
+  item =
+      let bytes : a.waiting ++ h.piece ≡ front = h.waiting ∙ ap (λ (xs : List ℕ). front ++ xs) empty ∙ append-nil front in
+      let last = ap items_of bytes ∙ items_of-last front (omega arith) none ∙ ap (λ (item : Item). item ∷ []) (too_long front long) in
+      subst (λ (e : Bool). TakesItem (Some items.LineTooLong) e (a.waiting ++ h.piece) c.waiting) (sym end) (record { all = last; none = rest });
+}
+
+-- a line that is too long ends with the bytes
+pub takes_long_last : {a b c : Feed} {l m : Option (List ℕ)} → Skips a b l m → b.waiting ≡ [] → c.waiting ≡ [] → c.read ≡ b.read → c.ended ≡ true → TakesNext LineTooLong a c l m
+takes_long_last {a} {b} {c} s empty rest read end = takes_long_last_of s.gathers s.long s.none empty rest read end
+
+pub skips_nothing : {a b : Feed} {l m : Option (List ℕ)} → Skips a b l m → a.ended ≡ false → b.waiting ≡ [] → TakesNothing a b l m
+skips_nothing {a} {b} s going empty = takes_nothing s.gathers going (HasNoNewline-append s.front b.waiting s.none (subst HasNoNewline (sym empty) HasNoNewline-nil))
+
+-- a piece was read behind what waits, which had been moved to the front
+pub gathers_piece : (old new : Feed) (left left_now : Option (List ℕ)) (moved buffer : List ℕ) (end n : ℕ) → take end moved ≡ old.waiting → take end buffer ≡ take end moved
+    → end + n ≤ length buffer → Consumes left left_now (slice_range buffer end (end + n)) → new.read ≡ old.read + n → new.waiting ≡ slice_range buffer 0 (end + n) → Gathers [] old new left left_now
+gathers_piece old new left left_now moved buffer end n waits front fits consumed read waiting =
+    let count : end + n - end ≡ n = omega arith in
+    let all : end + n - 0 ≡ end + n = omega arith in
+    record {
+      piece = slice_range buffer end (end + n);
+      consumed = consumed;
+      read = omega (arith, read, length-take (end + n - end) (drop end buffer), length-drop end buffer);
+      waiting =
+          ap (λ (xs : List ℕ). xs ++ slice_range buffer end (end + n)) (sym (front ∙ waits))
+          ∙ ap (λ (k : ℕ). take end buffer ++ take k (drop end buffer)) count
+          ∙ sym (waiting ∙ ap (λ (k : ℕ). take k buffer) all ∙ take-add end n buffer);
+    }
+
+-- the span behind its first n bytes
+pub span_drop : (buffer : List ℕ) (start end n : ℕ) → slice_range buffer (start + n) end ≡ drop n (slice_range buffer start end)
+span_drop buffer start end n = between_is buffer (start + n) end ∙ sym (ap (drop n) (between_is buffer start end) ∙ drop-drop n start (take end buffer))
+
+pub no_line : (found : Option Got) (waiting : List ℕ) → IfNone found (HasNoNewline waiting) → IfNone found (whole_items waiting ≡ [])
+no_line None waiting none = whole_items-none waiting none
+no_line (Some got) waiting none = tt
+
+-- where no item is whole, there is no newline
+no_newline_in : (bytes : List ℕ) → Front bytes → whole_items bytes ≡ [] → HasNoNewline bytes
+no_newline_in bytes (NoLine none) h = none
+no_newline_in bytes (LineThen raw rest none e) h = absurd (nonempty _ _ (sym (ap whole_items e ∙ whole_items-line raw rest none) ∙ h))
+  where
+    nonempty : (item : Item) (others : List Item) → item ∷ others ≡ [] → ⊥
+    nonempty item others e = cc
+
+pub no_newline : (bytes : List ℕ) → whole_items bytes ≡ [] → HasNoNewline bytes
+no_newline bytes h = no_newline_in bytes (front_of bytes) h

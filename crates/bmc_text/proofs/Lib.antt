@@ -1,0 +1,3 @@
+pub mod Newlines
+pub mod Cuts
+pub mod Gathering
