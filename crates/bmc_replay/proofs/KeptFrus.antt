@@ -38,3 +38,12 @@ frus-insert place bytes (entry ∷ entries) free = of (place_cmp place entry.0) 
     of Less f e = refl
     of Equal f e = absurd (cc)
     of Greater f e = ap (λ (frus : List Fru). fru_of entry ∷ frus) (e f)
+
+-- where no FRU is at a place, none is taken out
+pub without_absent : (place : Place) (frus : List Fru) → is_present frus place ≡ false → without place frus ≡ frus
+without_absent place [] absent = refl
+without_absent place (fru ∷ frus) absent = of (is_at place fru) absent (without_absent place frus)
+  where
+    of : (b : Bool) → (b || is_present frus place) ≡ false → (is_present frus place ≡ false → without place frus ≡ frus) → cond b frus (fru ∷ without place frus) ≡ fru ∷ frus
+    of true a e = absurd (cc)
+    of false a e = ap (λ (rest : List Fru). fru ∷ rest) (e a)

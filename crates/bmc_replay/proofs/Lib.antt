@@ -1,2 +1,3 @@
 pub mod BoardFields
 pub mod KeptFrus
+pub mod Gathered

@@ -1,4 +1,5 @@
 pub mod Kept
 pub mod Steps
 pub mod Gathering
+pub mod Advances
 pub mod Statuses

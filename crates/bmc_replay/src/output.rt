@@ -1,5 +1,6 @@
 ghost use Rattle.std.specs.Prelude.{◌≡◌, ◌++◌, [], OnOk, OnErr, MatchResult, string_bytes};
 ghost use Rattle.std.specs.Io.KnownBytes.{Appends};
+ghost use Rattle.bmc_base.specs.Counts.{HasCause};
 ghost use Rattle.bmc_io.specs.Sinks.{AppendsFront};
 ghost use Rattle.bmc_machine.specs.Runs.{final_list, row_of};
 ghost use Rattle.bmc_replay.specs.Kept.{frus_of};
@@ -9,7 +10,7 @@ ghost use Rattle.bmc_replay.specs.Gathering.{Gathers};
 use crate::board::read_plain_board;
 use crate::stop::Stop;
 use bmc_base::{Bytes, OutOfMemory, Place};
-use bmc_io::{Sink, put_all};
+use bmc_io::{IoFault, Sink, put_all};
 use bmc_report::push_fru_row;
 use std::alloc::Global;
 use std::collections::BTreeMap;
@@ -18,11 +19,11 @@ use std::collections::BTreeMap;
 pub const GATHERED: usize = 64 * 1024;
 
 /// Writes all that is gathered, or a front of it.
-pub fn flush<K: Sink>(text: &mut String, output: &mut K) -> Result<(), Stop>
+pub fn flush<K: Sink>(text: &mut String, output: &mut K) -> Result<(), IoFault>
     ensures all { OnOk result (Appends (K.taken output.old) (K.taken output.new) (string_bytes text.old)) }
     ensures none { OnOk result (string_bytes text.new ≡ []) }
     ensures front { AppendsFront (K.taken output.old) (K.taken output.new) (string_bytes text.old) }
-    ensures cause { MatchResult result (λ _. K.faults output.new ≡ K.faults output.old) (λ stop. WriteCause stop (K.faults output.old) (K.faults output.new)) }
+    ensures cause { HasCause (K.faults output.old) (K.faults output.new) result }
 {
     put_all(output, text.as_str().as_bytes())?;
     text.clear();
@@ -30,10 +31,10 @@ pub fn flush<K: Sink>(text: &mut String, output: &mut K) -> Result<(), Stop>
 }
 
 /// Writes all that is gathered where it has grown large, or a front of it.
-pub fn relieve<K: Sink>(text: &mut String, output: &mut K) -> Result<(), Stop>
+pub fn relieve<K: Sink>(text: &mut String, output: &mut K) -> Result<(), IoFault>
     ensures all { OnOk result (Gathers (K.taken output.old) (K.taken output.new) (string_bytes text.old) (string_bytes text.new) []) }
     ensures front { OnErr result (AppendsFront (K.taken output.old) (K.taken output.new) (string_bytes text.old)) }
-    ensures cause { MatchResult result (λ _. K.faults output.new ≡ K.faults output.old) (λ stop. WriteCause stop (K.faults output.old) (K.faults output.new)) }
+    ensures cause { HasCause (K.faults output.old) (K.faults output.new) result }
 {
     if text.len() < GATHERED {
         return Ok(());
@@ -67,7 +68,7 @@ pub fn push_list<K: Sink>(
     ensures front { OnErr result (AppendsFront (K.taken output.old) (K.taken output.new) (string_bytes text.old ++ final_list (frus_of frus.now.entries))) }
     ensures cause { MatchResult result (λ _. K.faults output.new ≡ K.faults output.old) (λ stop. WriteCause stop (K.faults output.old) (K.faults output.new)) }
 {
-    'frus: for (place, bytes) in frus.iter() {
+    'rows: for (place, bytes) in frus.iter() {
         push_row(alloc, text, *place, bytes.as_slice())?;
         relieve(text, output)?;
     }

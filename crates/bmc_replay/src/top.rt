@@ -1,6 +1,10 @@
-ghost use Rattle.std.specs.Prelude.{◌≡◌, [], OnOk, OnErr, IfOk, MatchResult, string_bytes};
-ghost use Rattle.std.specs.Io.KnownBytes.{Appends};
+ghost use Rattle.std.specs.Prelude.{◌≡◌, ◌<◌, ◌≤◌, ◌^◌, ◌++◌, [], true, false, Ok, Err, OnOk, OnErr, IfOk, IfErr, MatchResult, string_bytes};
+ghost use Rattle.std.specs.Io.KnownBytes.{Appends, IsAtEnd};
 ghost use Rattle.bmc_io.specs.Sinks.{AppendsFront};
+ghost use Rattle.bmc_text.specs.Reading.{TakesNext, Spends};
+ghost use Rattle.bmc_machine.specs.Runs.{final_list};
+ghost use Rattle.bmc_replay.specs.Advances.{StopsAt};
+ghost use Rattle.bmc_replay.specs.Gathering.{Gathers};
 ghost use Rattle.bmc_replay.specs.Statuses.{WriteCause, Replays, Reaches, StatusCause, status_of};
 
 use crate::output::{flush, relieve};
@@ -10,13 +14,22 @@ use bmc_io::{Sink, Source};
 use bmc_text::{Got, Lines};
 use std::alloc::Global;
 
-// What comes next of the script. What is gathered is written before the source is asked.
+// What comes next of the script. What is gathered is written before the source is asked again.
 fn advance<S: Source, K: Sink>(
     lines: &mut Lines,
     text: &mut String,
     input: &mut S,
     output: &mut K,
 ) -> Result<Got, Stop>
+    requires { lines.old.ended ≡ false }
+    ensures next { IfOk result (λ got. TakesNext got lines.old lines.new (S.left input.old) (S.left input.new)) }
+    ensures spends { IfOk result (λ got. Spends got lines.old lines.new) }
+    ensures gathered { OnOk result (Gathers (K.taken output.old) (K.taken output.new) (string_bytes text.old) (string_bytes text.new) []) }
+    ensures end { OnOk result (lines.new.ended ≡ true → IsAtEnd (S.left input.new)) }
+    ensures stops { IfErr result (λ stop. StopsAt stop lines.old lines.new (S.left input.old) (S.left input.new) (K.taken output.old) (K.taken output.new) (string_bytes text.old)) }
+    ensures most { lines.new.read ≤ 2 ^ 40 }
+    ensures under { lines.new.ended ≡ true → lines.new.read < 2 ^ 40 }
+    ensures cause { MatchResult result (λ _. StatusCause Status.Done (S.faults input.old) (S.faults input.new) (K.faults output.old) (K.faults output.new)) (λ stop. StatusCause (status_of (Err stop)) (S.faults input.old) (S.faults input.new) (K.faults output.old) (K.faults output.new)) }
 {
     if let Some(got) = lines.next_buffered() {
         return Ok(got);
@@ -26,10 +39,15 @@ fn advance<S: Source, K: Sink>(
     Ok(got)
 }
 
-// Writes the final list behind what is gathered.
-fn finish<K: Sink>(alloc: Global, run: &mut Run, output: &mut K) -> Result<(), Stop> {
+// Writes what is gathered, and then the final list.
+fn finish<K: Sink>(alloc: Global, run: &mut Run, output: &mut K) -> Result<(), Stop>
+    ensures all { OnOk result (Appends (K.taken output.old) (K.taken output.new) (string_bytes run.old.text ++ final_list run.old.present)) }
+    ensures front { OnErr result (AppendsFront (K.taken output.old) (K.taken output.new) (string_bytes run.old.text ++ final_list run.old.present)) }
+    ensures cause { MatchResult result (λ _. K.faults output.new ≡ K.faults output.old) (λ stop. WriteCause stop (K.faults output.old) (K.faults output.new)) }
+{
     run.present.push_list(alloc, &mut run.text, output)?;
-    flush(&mut run.text, output)
+    flush(&mut run.text, output)?;
+    Ok(())
 }
 
 // Replays a script, and says whether an item was refused.
@@ -52,8 +70,9 @@ fn replay_items<S: Source, K: Sink>(
             break;
         }
     }
+    let refused = run.refused;
     finish(alloc, &mut run, output)?;
-    Ok(run.refused)
+    Ok(refused)
 }
 
 /// Replays a script: it takes the items of `input` in turn, writes to `output` what the machine prints

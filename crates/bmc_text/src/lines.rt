@@ -144,6 +144,13 @@ impl Lines {
         &self.buffer[self.line_start..self.line_end]
     }
 
+    /// Whether the source has given its end and nothing waits any more.
+    pub fn is_ended(&self) -> bool
+        ensures { result ≡ self.now.ended }
+    {
+        self.ended
+    }
+
     /// The next item among the bytes that were read already, or none where no line is whole in them;
     /// then nothing changes.
     pub fn next_buffered(&mut self) -> Option<Got>
