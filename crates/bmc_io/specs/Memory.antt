@@ -1,5 +1,5 @@
 -- What is seen of a source and of a sink in memory.
-use Rattle.std.specs.Prelude.{ℕ, ◌+◌, ◌-◌, ◌<◌, ◌≡◌, Bool, List, [], ◌∷◌, ◌++◌, length, take, drop, min, slice_get, unwrap_or, MatchBool, ◌==◌, ◌||◌, Result, Ok, Err}
+use Rattle.std.specs.Prelude.{ℕ, ◌-◌, ◌≡◌, Bool, List, ◌++◌, length, take, drop, min, slice_get, unwrap_or, MatchBool, ◌==◌, ◌||◌, Result, Ok, Err}
 use Rattle.std.specs.List.{list_any}
 use Rattle.bmc_base.specs.Counts.{raised}
 use Rattle.bmc_io.specs.declared.traits.IoFault.{IoFault}

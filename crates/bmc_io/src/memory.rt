@@ -132,7 +132,7 @@ pub struct MemSink {
 }
 
 impl Model for MemSink {
-    ghost use Rattle.std.specs.Prelude.{◌≡◌, ◌<◌, ◌≤◌, length, vec_capacity};
+    ghost use Rattle.std.specs.Prelude.{◌<◌, ◌≤◌, length, vec_capacity};
     ghost use Rattle.bmc_io.specs.Memory.{MemoryOutput};
 
     ghost Value = { MemoryOutput };
