@@ -1,3 +1,4 @@
 pub mod BoardFields
 pub mod KeptFrus
 pub mod Gathered
+pub mod Machine
