@@ -2,3 +2,4 @@ pub mod BoardFields
 pub mod KeptFrus
 pub mod Gathered
 pub mod Machine
+pub mod Along
