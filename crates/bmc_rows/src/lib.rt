@@ -1,0 +1,3 @@
+//! Tests of whole scripts through the top call, over sources and sinks in memory: what is printed, how
+//! the run ends, and what a fault leaves.
+#![tactic(auto)]
