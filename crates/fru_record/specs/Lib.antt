@@ -1,0 +1,6 @@
+pub mod Dates
+pub mod Records
+pub mod Lookups
+pub mod Spellings
+pub mod Parts
+pub mod Building

@@ -1,0 +1,14 @@
+//! Whole FRU records, by the IPMI Platform Management FRU Information Storage Definition 1.0: decoded to
+//! their fields, or refused by the first rule that they break, and built of parts. It stands on the areas of `fru_area`.
+#![tactic(auto)]
+
+mod builder;
+mod date;
+mod decode;
+mod law;
+mod parts;
+
+pub use builder::{BuildFault, build};
+pub use decode::FruRecord;
+pub use law::{built_is_read, one_record};
+pub use parts::{BoardPart, ChassisPart, FieldTexts, Parts, ProductPart};
