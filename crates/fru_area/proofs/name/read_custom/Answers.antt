@@ -8,9 +8,9 @@ pub returns-in_err-number-clause-none : goal.returns-in_err-number-clause-none
 returns-in_err-number-clause-none c =
     let stripped = c.in_ok-digits.ensures.cases in
     rw c.from_residual-in_err-number.ensures (λ number low high same.
-      let read = parsed_number _ (custom_prefix c.args.area) c.args.text.now c.in_ok-digits.digits.now _ number c.parse.result c.ok.result c.custom_prefix.ensures.text stripped.1.1 stripped.2 c.parse.ensures.value.0 c.ok.ensures.value high same in
-      let none = c.in_err-number.was in
-      absurd (cc))
+    let read = parsed_number _ (custom_prefix c.args.area) c.args.text.now c.in_ok-digits.digits.now _ number c.parse.result c.ok.result c.custom_prefix.ensures.text stripped.1.1 stripped.2 c.parse.ensures.value.0 c.ok.ensures.value high same in
+    let none = c.in_err-number.was in
+    absurd (cc))
 
 pub returns-then-number-lt1-clause-none : goal.returns-then-number-lt1-clause-none
 returns-then-number-lt1-clause-none c number low high same =
