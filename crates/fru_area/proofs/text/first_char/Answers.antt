@@ -1,4 +1,4 @@
-use Rattle.std.proofs.Common.{◌≡◌, sym, ◌∙◌, arith}
+use Rattle.std.proofs.Common.{sym, ◌∙◌, arith}
 use Rattle.fru_area.proofs.Units.{length-encode_utf8-le, unicode_text-pair, unicode_text-lone, unicode_text-last}
 use Rattle.fru_area.proofs.text.first_char.Goals.{in_default-via-in-Some+else-is_pair, in_default-via-in_default}
 use Rattle.fru_area.proofs.text.first_char.Goals as goal
