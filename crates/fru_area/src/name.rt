@@ -1,4 +1,4 @@
-ghost use Rattle.std.specs.Prelude.{◌≡◌, ◌≤◌, ◌++◌, ℕ, length, decimal, Some, IfSome, IfNone};
+ghost use Rattle.std.specs.Prelude.{◌≡◌, ◌≤◌, ◌++◌, ℕ, length, decimal, Some, IfSome, IfNone, IsTrue, ◌↔◌};
 ghost use Rattle.fru_area.specs.Names.{name_text, custom_prefix, IsName};
 ghost use Rattle.fru_area.specs.Views.{number_text, IsFixed, LacksNumber};
 ghost use Rattle.fru_area.specs.declared.name.FieldName.{FieldName};
@@ -134,7 +134,7 @@ fn read_custom(area: Area, text: &str) -> Option<FieldName>
 {
     let digits = text.strip_prefix(custom_prefix(area))?;
     let number = digits.parse::<u16>().ok()?;
-    if number < 1 || number > 2040 {
+    if !is_custom_number(number) {
         return None;
     }
     let name = FieldName::Custom(area, number);
@@ -143,6 +143,13 @@ fn read_custom(area: Area, text: &str) -> Option<FieldName>
     } else {
         None
     }
+}
+
+// Whether a custom field can have this number.
+fn is_custom_number(number: u16) -> bool
+    ensures { IsTrue result ↔ ((1 ≤ number) × (number ≤ 2040)) }
+{
+    (1..=2040).contains(&number)
 }
 
 impl fmt::Display for FieldName {
