@@ -1,5 +1,5 @@
 -- The fields so far, and those of the bytes that are left.
-use Rattle.std.proofs.Common.{Bool, true, false, ◌&&◌, ◌≢◌, eq-eqb, refl, take, drop, ◌-◌, ◌≡◌, ℕ, zero, suc, ◌+◌, ◌<◌, ◌≤◌, List, [], ◌∷◌, ◌++◌, length, Result, Ok, Err, Option, Some, None, arith, ap, sym, ◌∙◌, append_assoc, append-nil}
+use Rattle.std.proofs.Common.{Bool, true, false, ◌&&◌, ◌≢◌, eq-eqb, refl, ◌≡◌, ℕ, zero, suc, ◌+◌, ◌<◌, ◌≤◌, List, [], ◌∷◌, ◌++◌, length, Result, Ok, Err, Option, Some, None, arith, ap, sym, ◌∙◌, append_assoc, append-nil}
 use Rattle.std.specs.List.{list_all}
 use Rattle.std.proofs.lemmas.Bool.{ne_eqb}
 use Rattle.fru_area.specs.declared.area.NextName.{NextName}
@@ -8,7 +8,7 @@ use Rattle.fru_area.specs.declared.fault.FruFault.{FruFault}
 use Rattle.fru_area.specs.declared.fault.FruFault.TheVariants as faults
 use Rattle.fru_area.specs.declared.field.Field.{Field}
 use Rattle.fru_area.specs.declared.name.FieldName.{FieldName}
-use Rattle.fru_area.specs.Answers.{Gives, GivesFault}
+use Rattle.fru_area.specs.Answers.{GivesFault}
 use Rattle.fru_area.specs.Areas.{named, named_field, named_ok, area_fields, all_text}
 use Rattle.fru_area.specs.Texts.{text_of, is_text}
 use Rattle.fru_area.specs.Views.{IsNext}

@@ -1,5 +1,5 @@
 -- What is read of an area is what its bytes spell.
-use Rattle.std.proofs.Common.{eq-eqb, ◌≡◌, ◌≢◌, ◌+◌, ◌-◌, ◌*◌, ◌<◌, ◌≤◌, ◌/◌, ◌%◌, ℕ, zero, suc, List, [], ◌∷◌, ◌++◌, length, take, drop, Bool, true, false, cond, nat_lt, nat_eq, Result, Ok, Err, Option, Some, None, refl, sym, ◌∙◌, subst, arith, length-append, length-drop}
+use Rattle.std.proofs.Common.{eq-eqb, ◌≡◌, ◌≢◌, ◌+◌, ◌<◌, ◌≤◌, ◌/◌, ◌%◌, ℕ, zero, suc, List, [], ◌∷◌, ◌++◌, length, take, drop, Bool, true, false, cond, nat_lt, nat_eq, Result, Ok, Err, Some, None, refl, sym, subst, arith, length-append, length-drop}
 use Rattle.std.proofs.lemmas.List.{length-take, take-append-drop, take_at, drop_at}
 use Rattle.std.proofs.lemmas.Bool.{eqb-true, ne_eqb, ltb-false, le-ltb}
 use Rattle.fru_area.specs.declared.fault.Area.{Area}

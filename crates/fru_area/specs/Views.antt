@@ -1,5 +1,5 @@
 -- What private functions hand on.
-use Rattle.std.specs.Prelude.{ℕ, ◌+◌, ◌≡◌, ◌<◌, ◌≤◌, List, [], ◌∷◌, ◌++◌, length, encode_utf8, decimal, Option, Some, None}
+use Rattle.std.specs.Prelude.{ℕ, ◌+◌, ◌≡◌, ◌<◌, ◌≤◌, List, [], ◌∷◌, ◌++◌, length, encode_utf8, decimal, ⊤, Option, Some, None}
 use Rattle.std.specs.Option.{unwrap_or}
 use Rattle.std.specs.Char.Utf16.{lone_unit_char}
 use Rattle.fru_area.specs.Texts.{unicode_units, unicode_text}
@@ -45,3 +45,12 @@ unit_char_of unit = unwrap_or (lone_unit_char unit) 0xFFFD
 abbrev pub number_text : FieldName → List ℕ
 number_text (Custom area number) = decimal number
 number_text _ = []
+
+-- a name without a number
+abbrev pub IsFixed : FieldName → Type 0
+IsFixed (Custom area number) = ⊥
+IsFixed _ = ⊤
+
+-- the text is not this prefix and a number of a custom field
+abbrev pub LacksNumber : List ℕ → List ℕ → Type 0
+LacksNumber prefix text = (number : ℕ) → 1 ≤ number → number ≤ 2040 → prefix ++ decimal number ≡ text → ⊥

@@ -1,6 +1,6 @@
 ghost use Rattle.std.specs.Prelude.{◌≡◌, ◌+◌, ◌<◌, ◌≤◌, length, IfOk, IfSome};
 ghost use Rattle.fru_area.specs.Headers.{area_at};
-ghost use Rattle.fru_area.specs.Walks.{raw_fields};
+ghost use Rattle.fru_area.specs.Walks.{raw_fields, field_bytes};
 ghost use Rattle.fru_area.specs.Areas.{area_fields, all_text};
 ghost use Rattle.fru_area.specs.Answers.{Gives, seen};
 ghost use Rattle.fru_area.specs.Walks.{first_field};
@@ -35,6 +35,15 @@ pub fn area_bytes(area: Area, bytes: &[u8], start: usize) -> Result<&[u8], FruFa
         return Err(FruFault::AreaChecksum(area));
     }
     Ok(found)
+}
+
+// The bytes of an area from one on, up to its checksum.
+fn field_bytes(bytes: &[u8], start: usize) -> &[u8]
+    requires { start < length bytes.now }
+    ensures exact { result.now ≡ field_bytes bytes.now start }
+    ensures fewer { length result.now < length bytes.now }
+{
+    &bytes[start..bytes.len() - 1]
 }
 
 // A field as it stands, and the bytes behind it.
@@ -112,7 +121,7 @@ pub fn read_area<const N: usize>(
     ensures { Gives result (area_fields area english names.entry bytes.now start) }
 {
     let mut fields = FieldList::new(alloc)?;
-    let mut rest = &bytes[start..bytes.len() - 1];
+    let mut rest = field_bytes(bytes, start);
     let mut names = &names[..];
     let mut number = 1;
     while let Some(raw) = raw_field(area, rest)? {
@@ -133,7 +142,7 @@ pub fn is_all_text(area: Area, bytes: &[u8], start: usize) -> bool
     requires { start < length bytes.now }
     ensures { result ≡ all_text (raw_fields area bytes.now start) }
 {
-    let mut rest = &bytes[start..bytes.len() - 1];
+    let mut rest = field_bytes(bytes, start);
     loop {
         match raw_field(area, rest) {
             Ok(Some(raw)) => {

@@ -35,8 +35,8 @@ impl FieldText {
         }
     }
 
-    /// An empty text.
-    pub fn empty() -> FieldText
+    // An empty text.
+    pub(crate) fn empty() -> FieldText
         ensures { result ≡ [] }
     {
         FieldText {

@@ -6,5 +6,4 @@ ghost use Rattle.fru_area.specs.declared.fault.Area.{Area};
 pub fn one_reading()
     ensures spelled { (area : Area) (bytes : List ℕ) (start : ℕ) (raws : List Raw) → (raw_fields area bytes start ≡ Ok raws) ↔ Spells (field_bytes bytes start) raws }
     ensures one { (bytes : List ℕ) (raws others : List Raw) → Spells bytes raws → Spells bytes others → raws ≡ others }
-{
-}
+{}

@@ -9,6 +9,8 @@ mod field;
 mod header;
 mod law;
 mod name;
+#[cfg(test)]
+mod tests;
 mod text;
 
 pub use area::{area_bytes, is_all_text, read_area};

@@ -1,6 +1,7 @@
-ghost use Rattle.std.specs.Prelude.{◌≡◌, ◌≤◌, ◌++◌, ℕ, length, decimal, Some, IfSome, IfNone};
+ghost use Rattle.std.specs.Prelude.{◌≡◌, ◌≤◌, ◌++◌, ℕ, length, decimal, Some, IfSome, IfNone, IsTrue, ◌↔◌};
 ghost use Rattle.fru_area.specs.Names.{name_text, custom_prefix, IsName};
-ghost use Rattle.fru_area.specs.Views.{number_text};
+ghost use Rattle.fru_area.specs.Views.{number_text, IsFixed, LacksNumber};
+ghost use Rattle.fru_area.specs.declared.name.FieldName.{FieldName};
 
 use crate::{Area, FieldText};
 use std::fmt;
@@ -42,6 +43,18 @@ impl FieldName {
         text
     }
 
+    /// The name that this is the text of, or none. Custom fields are numbered from 1 to 2,040, as no
+    /// area has more bytes. It takes no memory.
+    pub fn read(text: &str) -> Option<FieldName>
+        ensures found { IfSome result (λ n. IsName n × (name_text n ≡ text.now)) }
+        ensures none { IfNone result ((n : FieldName) → IsName n → name_text n ≡ text.now → ⊥) }
+    {
+        read_fixed(text)
+            .or(read_custom(Area::Chassis, text))
+            .or(read_custom(Area::Board, text))
+            .or(read_custom(Area::Product, text))
+    }
+
     // The name, but for the number of a custom field.
     #[tactic(auto, unfolding(crate::specs::Names::name_text))]
     fn stem(&self) -> &'static str
@@ -80,6 +93,63 @@ fn custom_prefix(area: Area) -> &'static str
         Area::Board => "BOARD_INFO_AM",
         Area::Product => "PRODUCT_INFO_AM",
     }
+}
+
+const FIXED: [FieldName; 16] = [
+    FieldName::ChassisType,
+    FieldName::ChassisPartNumber,
+    FieldName::ChassisSerialNumber,
+    FieldName::BoardManufactureDate,
+    FieldName::BoardManufacturer,
+    FieldName::BoardProductName,
+    FieldName::BoardSerialNumber,
+    FieldName::BoardPartNumber,
+    FieldName::BoardFruVersionId,
+    FieldName::ProductManufacturer,
+    FieldName::ProductProductName,
+    FieldName::ProductPartNumber,
+    FieldName::ProductVersion,
+    FieldName::ProductSerialNumber,
+    FieldName::ProductAssetTag,
+    FieldName::ProductFruVersionId,
+];
+
+// The name of this text, of those without a number.
+fn read_fixed(text: &str) -> Option<FieldName>
+    ensures found { IfSome result (λ n. IsName n × (name_text n ≡ text.now)) }
+    ensures none { IfNone result ((n : FieldName) → IsFixed n → name_text n ≡ text.now → ⊥) }
+{
+    for name in &FIXED {
+        if name.stem() == text {
+            return Some(*name);
+        }
+    }
+    None
+}
+
+// The name of this text, of those of an area's custom fields.
+fn read_custom(area: Area, text: &str) -> Option<FieldName>
+    ensures found { IfSome result (λ n. IsName n × (name_text n ≡ text.now)) }
+    ensures none { IfNone result (LacksNumber (custom_prefix area) text.now) }
+{
+    let digits = text.strip_prefix(custom_prefix(area))?;
+    let number = digits.parse::<u16>().ok()?;
+    if !is_custom_number(number) {
+        return None;
+    }
+    let name = FieldName::Custom(area, number);
+    if name.text().as_str() == text {
+        Some(name)
+    } else {
+        None
+    }
+}
+
+// Whether a custom field can have this number.
+fn is_custom_number(number: u16) -> bool
+    ensures { IsTrue result ↔ ((1 ≤ number) × (number ≤ 2040)) }
+{
+    (1..=2040).contains(&number)
 }
 
 impl fmt::Display for FieldName {

@@ -150,9 +150,7 @@ fn first_unit(bytes: &[u8]) -> Option<(u16, &[u8])>
     match bytes {
         [] => None,
         [_] => Some((0xFFFD, &bytes[1..])),
-        [low, high, later @ ..] => {
-            Some((u16::from(*low) + 256 * u16::from(*high), later))
-        },
+        [low, high, later @ ..] => { Some((u16::from(*low) + 256 * u16::from(*high), later)) },
     }
 }
 

@@ -1,10 +1,10 @@
-use Rattle.std.proofs.Common.{Ok, arith, refl, ap, sym, ◌∙◌, length-drop, length-take}
+use Rattle.std.proofs.Common.{Ok, arith, ap, sym, ◌∙◌}
 use Rattle.fru_area.specs.Views.{found_view, raw_view}
 use Rattle.fru_area.proofs.Fields.{AllTextSoFar-start, AllTextSoFar-text, AllTextSoFar-other, AllTextSoFar-end, AllTextSoFar-fault}
 use Rattle.fru_area.proofs.area.is_all_text.Goals as goal
 
 pub loop-raw-init : goal.loop-raw-init
-loop-raw-init c = AllTextSoFar-start _ _ c.args.bytes.now c.args.start refl (simp (length-take, length-drop) (omega arith))
+loop-raw-init c = AllTextSoFar-start _ _ c.args.bytes.now c.args.start c.field_bytes-rest.ensures.exact (omega (arith, c.field_bytes-rest.ensures.fewer))
 
 pub returns-then-raw-ne3 : goal.returns-then-raw-ne3
 returns-then-raw-ne3 c =

@@ -1,4 +1,4 @@
-use Rattle.std.proofs.Common.{Ok, arith, refl, ap, sym, ◌∙◌, length-drop, length-take}
+use Rattle.std.proofs.Common.{Ok, arith, ap, sym, ◌∙◌}
 use Rattle.std.proofs.lemmas.Result.{err_from_is_err_and}
 use Rattle.fru_area.specs.Views.{found_view, raw_view}
 use Rattle.fru_area.proofs.Fields.{GoesOn-start, GoesOn-field, GoesOn-end, GoesOn-fault}
@@ -6,8 +6,8 @@ use Rattle.fru_area.proofs.area.read_area.Goals as goal
 
 pub loop-fields-init : goal.loop-fields-init
 loop-fields-init g c = record {
-  fields = GoesOn-start _ _ _ _ _ c.args.bytes.now c.args.start c.in_ok-fields.ensures refl (simp (length-take, length-drop) (omega arith));
-  number = simp (length-take, length-drop) (omega arith);
+  fields = GoesOn-start _ _ _ _ _ c.args.bytes.now c.args.start c.in_ok-fields.ensures c.field_bytes-rest.ensures.exact (omega (arith, c.field_bytes-rest.ensures.fewer));
+  number = omega (arith, c.field_bytes-rest.ensures.fewer);
 }
 
 pub returns-in_err-raw : goal.returns-in_err-raw
