@@ -13,7 +13,7 @@ use Rattle.bmc_text.specs.Items.{Item, item_of, items_of, whole_items}
 use Rattle.bmc_text.specs.Items as items
 use Rattle.bmc_text.specs.Reading.{BeginsWith, TakesItem, TakesNext, TakesNothing, item_got}
 use Rattle.bmc_text.specs.declared.lines.Got.{Got}
-use Rattle.bmc_text.specs.declared.lines.Got.TheVariants.{LineTooLong}
+use Rattle.bmc_text.specs.declared.lines.Got.TheVariants.{LineTooLong, End}
 use Rattle.bmc_text.proofs.Newlines.{Front, NoLine, LineThen, front_of, newline_parts, HasNoNewline-nil, HasNoNewline-take, HasNoNewline-append}
 use Rattle.bmc_text.proofs.Cuts.{begins_with_line, items_of-last, whole_items-none, whole_items-line}
 
@@ -110,6 +110,11 @@ pub takes_last : (got : Got) (line waiting rest : List ℕ) → item_got got lin
     → TakesItem (item_got got line) true waiting rest
 takes_last got line waiting rest item some none r =
     subst (λ (found : Option Item). TakesItem found true waiting rest) (sym item) (record { all = items_of-last waiting some none; none = r })
+
+-- the end, where nothing waits
+pub takes_end : (got : Got) (line waiting rest : List ℕ) → got ≡ End → waiting ≡ [] → rest ≡ [] → TakesItem (item_got got line) true waiting rest
+takes_end got line waiting rest end none r =
+    subst (λ (found : Got). TakesItem (item_got found line) true waiting rest) (sym end) (record { all = none; none = r; end = refl })
 
 too_long : (raw : List ℕ) → 9000 < length raw → item_of raw ≡ items.LineTooLong
 unfolding item_of

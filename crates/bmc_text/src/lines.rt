@@ -72,10 +72,8 @@ fn newline_behind(bytes: &[u8], from: usize) -> Option<usize>
     requires none { HasNoNewline (take from bytes.now) }
     ensures { MatchOption result (HasNoNewline bytes.now) (λ at. IsNewline bytes.now at) }
 {
-    match memchr(b'\n', &bytes[from..]) {
-        Some(behind) => Some(from + behind),
-        None => None,
-    }
+    let behind = memchr(b'\n', &bytes[from..])?;
+    Some(from + behind)
 }
 
 // How many bytes of a line stay without a carriage return at its end.
@@ -280,10 +278,8 @@ impl Lines {
         ensures most { self.new.read ≤ 2 ^ 40 }
         ensures under { self.new.ended ≡ true → self.new.read < 2 ^ 40 }
     {
-        match newline_behind(self.waiting(), scanned) {
-            Some(at) => Some(self.take_item(at, at + 1)),
-            None => None,
-        }
+        let at = newline_behind(self.waiting(), scanned)?;
+        Some(self.take_item(at, at + 1))
     }
 
     // The last item, whose bytes are all that waits, at the end of the source.
@@ -296,11 +292,11 @@ impl Lines {
         ensures read { self.new.read ≡ self.old.read }
     {
         let all = self.waiting().len();
-        if all == 0 {
-            self.finish();
-            return Got::End;
-        }
-        let got = self.take_item(all, all);
+        let got = if all == 0 {
+            Got::End
+        } else {
+            self.take_item(all, all)
+        };
         self.finish();
         got
     }
