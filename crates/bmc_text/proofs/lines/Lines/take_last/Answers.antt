@@ -12,11 +12,11 @@ pub returns-clause-item : goal.returns-clause-item
 returns-clause-item c =
     let all = ap length c.waiting-all.ensures.value in
     elim c.if-all-eq0.branch [
-      then-all-eq0 w ↦ takes_end _ _ _ _ w.got-is (nil_from_length c.args.self.now.waiting (omega arith)) c.finish.ensures.waiting
-    | else-all-eq0 w ↦
-      let whole = take_all (length c.waiting-all.result.now) c.args.self.now.waiting (omega arith) in
-      subst (λ (got : Got). TakesItem (item_got got c.finish.new.self.line) true c.args.self.now.waiting c.finish.new.self.waiting) (sym w.got-is)
-      (takes_last w.take_item-got.result c.finish.new.self.line c.args.self.now.waiting c.finish.new.self.waiting
-      (ap (item_got w.take_item-got.result) (c.finish.ensures.line ∙ ap (λ (feed : Feed). feed.line) w.self-is) ∙ w.take_item-got.ensures.item ∙ ap (λ (raw : List ℕ). Some (item_of raw)) whole)
-      (omega arith) c.requires.none c.finish.ensures.waiting)
+      | then-all-eq0 w ↦ takes_end _ _ _ _ w.got-is (nil_from_length c.args.self.now.waiting (omega arith)) c.finish.ensures.waiting
+      | else-all-eq0 w ↦
+          let whole = take_all (length c.waiting-all.result.now) c.args.self.now.waiting (omega arith) in
+          subst (λ (got : Got). TakesItem (item_got got c.finish.new.self.line) true c.args.self.now.waiting c.finish.new.self.waiting) (sym w.got-is)
+          (takes_last w.take_item-got.result c.finish.new.self.line c.args.self.now.waiting c.finish.new.self.waiting
+          (ap (item_got w.take_item-got.result) (c.finish.ensures.line ∙ ap (λ (feed : Feed). feed.line) w.self-is) ∙ w.take_item-got.ensures.item ∙ ap (λ (raw : List ℕ). Some (item_of raw)) whole)
+          (omega arith) c.requires.none c.finish.ensures.waiting)
     ]
