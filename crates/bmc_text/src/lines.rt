@@ -1,4 +1,4 @@
-ghost use Rattle.std.specs.Prelude.{◌≡◌, ◌<◌, ◌≤◌, ◌+◌, ◌-◌, ◌^◌, [], List, ℕ, Option, true, false, length, take, drop, slice_range, IfOk, OnOk, OnErr, IfSome, IfNone, MatchOption, MatchResult};
+ghost use Rattle.std.specs.Prelude.{◌≡◌, ◌≢◌, ◌<◌, ◌≤◌, ◌+◌, ◌-◌, ◌^◌, [], List, ℕ, Option, true, false, length, take, drop, slice_range, IfOk, OnOk, OnErr, IfSome, IfNone, MatchOption, MatchResult};
 ghost use Rattle.std.specs.Io.KnownBytes.{Keeps, Consumes, IsAtEnd};
 ghost use Rattle.bmc_base.specs.Counts.{Rose};
 ghost use Rattle.bmc_text.specs.Buffers.{HasNoNewline, IsNewline, Gathers};
@@ -149,6 +149,7 @@ impl Lines {
     pub fn next_buffered(&mut self) -> Option<Got>
         ensures next { IfSome result (λ got. (left : Option (List ℕ)) → TakesNext got self.old self.new left left) }
         ensures spends { IfSome result (λ got. Spends got self.old self.new) }
+        ensures read { self.new.read ≡ self.old.read }
         ensures end { self.new.ended ≡ self.old.ended }
         ensures none { IfNone result (whole_items self.old.waiting ≡ []) }
         ensures same { IfNone result (self.new ≡ self.old) }
@@ -168,12 +169,14 @@ impl Lines {
         ensures most { self.new.read ≤ 2 ^ 40 }
         ensures under { self.new.ended ≡ true → self.new.read < 2 ^ 40 }
         ensures cause { MatchResult result (λ _. S.faults source.new ≡ S.faults source.old) (λ fault. LineCause fault self.new (S.faults source.old) (S.faults source.new)) }
+        ensures waits { whole_items self.old.waiting ≢ [] → self.new.read ≡ self.old.read }
+        ensures after_end { self.old.ended ≡ true → (result ≡ Ok Got.End) × (self.new ≡ self.old) × Keeps (S.left source.old) (S.left source.new) }
     {
-        if let Some(got) = self.next_buffered() {
-            return Ok(got);
-        }
         if self.ended {
             return Ok(Got::End);
+        }
+        if let Some(got) = self.next_buffered() {
+            return Ok(got);
         }
         self.next_read(source)
     }

@@ -1,4 +1,4 @@
-use Rattle.std.proofs.Common.{ℕ, List, length, take, arith, ap, ◌∙◌, true, Some, subst, sym}
+use Rattle.std.proofs.Common.{ℕ, List, length, arith, ap, ◌∙◌, true, Some, subst, sym}
 use Rattle.std.proofs.lemmas.List.{take_all, nil_from_length}
 use Rattle.bmc_text.specs.Feeds.{Feed}
 use Rattle.bmc_text.specs.Items.{item_of}
