@@ -39,10 +39,6 @@ Gathers-dropped {front} {a} {b} {c} h none read = record {
   waiting = h.waiting ∙ sym (append-nil (front ++ b.waiting)) ∙ ap (λ (xs : List ℕ). (front ++ b.waiting) ++ xs) (sym none);
 }
 
--- so many bytes wait
-pub Gathers-length : {front : List ℕ} {a b : Feed} {l m : Option (List ℕ)} → Gathers front a b l m → b.read + length a.waiting ≡ a.read + length front + length b.waiting
-Gathers-length {front} {a} {b} h = omega (arith, h.read, ap length h.waiting, length-append a.waiting h.piece, length-append front b.waiting)
-
 -- nothing was read
 pub Gathers-none : {a b : Feed} {l m : Option (List ℕ)} → Gathers [] a b l m → b.read ≡ a.read → b.waiting ≡ a.waiting
 Gathers-none {a} {b} h same =
@@ -127,9 +123,6 @@ pub record Skips (a b : Feed) (left left_now : Option (List ℕ)) : Type 0 where
   pub long : 9000 < length front
   pub none : HasNoNewline front
 
-pub Skips-first : (a b : Feed) (left : Option (List ℕ)) → 9000 < length a.waiting → HasNoNewline a.waiting → b.waiting ≡ [] → b.read ≡ a.read → Skips a b left left
-Skips-first a b left long none empty read = record { front = a.waiting; gathers = Gathers-dropped (Gathers-refl a left) empty read; long = long; none = none }
-
 pub Skips-read : {a b c : Feed} {l m n : Option (List ℕ)} → Skips a b l m → Gathers [] b c m n → Skips a c l n
 Skips-read h piece = record { front = h.front; gathers = Gathers-trans h.gathers piece; long = h.long; none = h.none }
 
@@ -141,39 +134,31 @@ Skips-dropped {a} {b} h none empty read = record {
   none = HasNoNewline-append h.front b.waiting h.none none;
 }
 
-takes_long_of : {front : List ℕ} {a b c : Feed} {l m : Option (List ℕ)} (at : ℕ) → Gathers front a b l m → 9000 < length front → HasNoNewline front → IsNewline b.waiting at
-    → c.waiting ≡ drop (at + 1) b.waiting → c.read ≡ b.read → c.ended ≡ false → TakesNext LineTooLong a c l m
-takes_long_of {front} {a} {b} {c} at h long none newline rest read going = record {
-  piece = h.piece;
-  consumed = h.consumed;
-  read = read ∙ h.read;
-  item =
-      let begins = begins_with_dropped (a.waiting ++ h.piece) front b.waiting c.waiting at h.waiting none newline rest in
-      let item = too_long (front ++ take at b.waiting) (omega (arith, length-append front (take at b.waiting))) in
-      subst (λ (e : Bool). TakesItem (Some items.LineTooLong) e (a.waiting ++ h.piece) c.waiting) (sym going)
-      (subst (λ (found : Item). BeginsWith (a.waiting ++ h.piece) found c.waiting) item begins);
-}
-
 -- the newline of a line that is too long comes
 pub takes_long : {a b c : Feed} {l m : Option (List ℕ)} (at : ℕ) → Skips a b l m → IsNewline b.waiting at → c.waiting ≡ drop (at + 1) b.waiting → c.read ≡ b.read → c.ended ≡ false
     → TakesNext LineTooLong a c l m
-takes_long {a} {b} {c} at s newline rest read going = takes_long_of at s.gathers s.long s.none newline rest read going
-
-takes_long_last_of : {front : List ℕ} {a b c : Feed} {l m : Option (List ℕ)} → Gathers front a b l m → 9000 < length front → HasNoNewline front → b.waiting ≡ []
-    → c.waiting ≡ [] → c.read ≡ b.read → c.ended ≡ true → TakesNext LineTooLong a c l m
-takes_long_last_of {front} {a} {b} {c} h long none empty rest read end = record {
-  piece = h.piece;
-  consumed = h.consumed;
-  read = read ∙ h.read;
+takes_long {a} {b} {c} at s newline rest read going = record {
+  piece = s.gathers.piece;
+  consumed = s.gathers.consumed;
+  read = read ∙ s.gathers.read;
   item =
-      let bytes : a.waiting ++ h.piece ≡ front = h.waiting ∙ ap (λ (xs : List ℕ). front ++ xs) empty ∙ append-nil front in
-      let last = ap items_of bytes ∙ items_of-last front (omega arith) none ∙ ap (λ (item : Item). item ∷ []) (too_long front long) in
-      subst (λ (e : Bool). TakesItem (Some items.LineTooLong) e (a.waiting ++ h.piece) c.waiting) (sym end) (record { all = last; none = rest });
+      let begins = begins_with_dropped (a.waiting ++ s.gathers.piece) s.front b.waiting c.waiting at s.gathers.waiting s.none newline rest in
+      let item = too_long (s.front ++ take at b.waiting) (omega (arith, s.long, length-append s.front (take at b.waiting))) in
+      subst (λ (e : Bool). TakesItem (Some items.LineTooLong) e (a.waiting ++ s.gathers.piece) c.waiting) (sym going)
+      (subst (λ (found : Item). BeginsWith (a.waiting ++ s.gathers.piece) found c.waiting) item begins);
 }
 
 -- a line that is too long ends with the bytes
 pub takes_long_last : {a b c : Feed} {l m : Option (List ℕ)} → Skips a b l m → b.waiting ≡ [] → c.waiting ≡ [] → c.read ≡ b.read → c.ended ≡ true → TakesNext LineTooLong a c l m
-takes_long_last {a} {b} {c} s empty rest read end = takes_long_last_of s.gathers s.long s.none empty rest read end
+takes_long_last {a} {b} {c} s empty rest read end = record {
+  piece = s.gathers.piece;
+  consumed = s.gathers.consumed;
+  read = read ∙ s.gathers.read;
+  item =
+      let bytes : a.waiting ++ s.gathers.piece ≡ s.front = s.gathers.waiting ∙ ap (λ (xs : List ℕ). s.front ++ xs) empty ∙ append-nil s.front in
+      let last = ap items_of bytes ∙ items_of-last s.front (omega (arith, s.long)) s.none ∙ ap (λ (item : Item). item ∷ []) (too_long s.front s.long) in
+      subst (λ (e : Bool). TakesItem (Some items.LineTooLong) e (a.waiting ++ s.gathers.piece) c.waiting) (sym end) (record { all = last; none = rest });
+}
 
 pub skips_nothing : {a b : Feed} {l m : Option (List ℕ)} → Skips a b l m → a.ended ≡ false → b.waiting ≡ [] → TakesNothing a b l m
 skips_nothing {a} {b} s going empty = takes_nothing s.gathers going (HasNoNewline-append s.front b.waiting s.none (subst HasNoNewline (sym empty) HasNoNewline-nil))
