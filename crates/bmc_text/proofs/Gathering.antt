@@ -13,7 +13,7 @@ use Rattle.bmc_text.specs.Items.{Item, item_of, items_of, whole_items}
 use Rattle.bmc_text.specs.Items as items
 use Rattle.bmc_text.specs.Reading.{BeginsWith, TakesItem, TakesNext, TakesNothing, item_got}
 use Rattle.bmc_text.specs.declared.lines.Got.{Got}
-use Rattle.bmc_text.specs.declared.lines.Got.TheVariants.{LineTooLong}
+use Rattle.bmc_text.specs.declared.lines.Got.TheVariants.{LineTooLong, End}
 use Rattle.bmc_text.proofs.Newlines.{Front, NoLine, LineThen, front_of, newline_parts, HasNoNewline-nil, HasNoNewline-take, HasNoNewline-append}
 use Rattle.bmc_text.proofs.Cuts.{begins_with_line, items_of-last, whole_items-none, whole_items-line}
 
@@ -38,10 +38,6 @@ Gathers-dropped {front} {a} {b} {c} h none read = record {
   read = read ∙ h.read;
   waiting = h.waiting ∙ sym (append-nil (front ++ b.waiting)) ∙ ap (λ (xs : List ℕ). (front ++ b.waiting) ++ xs) (sym none);
 }
-
--- so many bytes wait
-pub Gathers-length : {front : List ℕ} {a b : Feed} {l m : Option (List ℕ)} → Gathers front a b l m → b.read + length a.waiting ≡ a.read + length front + length b.waiting
-Gathers-length {front} {a} {b} h = omega (arith, h.read, ap length h.waiting, length-append a.waiting h.piece, length-append front b.waiting)
 
 -- nothing was read
 pub Gathers-none : {a b : Feed} {l m : Option (List ℕ)} → Gathers [] a b l m → b.read ≡ a.read → b.waiting ≡ a.waiting
@@ -111,6 +107,11 @@ pub takes_last : (got : Got) (line waiting rest : List ℕ) → item_got got lin
 takes_last got line waiting rest item some none r =
     subst (λ (found : Option Item). TakesItem found true waiting rest) (sym item) (record { all = items_of-last waiting some none; none = r })
 
+-- the end, where nothing waits
+pub takes_end : (got : Got) (line waiting rest : List ℕ) → got ≡ End → waiting ≡ [] → rest ≡ [] → TakesItem (item_got got line) true waiting rest
+takes_end got line waiting rest end none r =
+    subst (λ (found : Got). TakesItem (item_got found line) true waiting rest) (sym end) (record { all = none; none = r; end = refl })
+
 too_long : (raw : List ℕ) → 9000 < length raw → item_of raw ≡ items.LineTooLong
 unfolding item_of
 too_long raw h = grind (arith, common_steps)
@@ -121,9 +122,6 @@ pub record Skips (a b : Feed) (left left_now : Option (List ℕ)) : Type 0 where
   pub gathers : Gathers front a b left left_now
   pub long : 9000 < length front
   pub none : HasNoNewline front
-
-pub Skips-first : (a b : Feed) (left : Option (List ℕ)) → 9000 < length a.waiting → HasNoNewline a.waiting → b.waiting ≡ [] → b.read ≡ a.read → Skips a b left left
-Skips-first a b left long none empty read = record { front = a.waiting; gathers = Gathers-dropped (Gathers-refl a left) empty read; long = long; none = none }
 
 pub Skips-read : {a b c : Feed} {l m n : Option (List ℕ)} → Skips a b l m → Gathers [] b c m n → Skips a c l n
 Skips-read h piece = record { front = h.front; gathers = Gathers-trans h.gathers piece; long = h.long; none = h.none }
@@ -136,39 +134,31 @@ Skips-dropped {a} {b} h none empty read = record {
   none = HasNoNewline-append h.front b.waiting h.none none;
 }
 
-takes_long_of : {front : List ℕ} {a b c : Feed} {l m : Option (List ℕ)} (at : ℕ) → Gathers front a b l m → 9000 < length front → HasNoNewline front → IsNewline b.waiting at
-    → c.waiting ≡ drop (at + 1) b.waiting → c.read ≡ b.read → c.ended ≡ false → TakesNext LineTooLong a c l m
-takes_long_of {front} {a} {b} {c} at h long none newline rest read going = record {
-  piece = h.piece;
-  consumed = h.consumed;
-  read = read ∙ h.read;
-  item =
-      let begins = begins_with_dropped (a.waiting ++ h.piece) front b.waiting c.waiting at h.waiting none newline rest in
-      let item = too_long (front ++ take at b.waiting) (omega (arith, length-append front (take at b.waiting))) in
-      subst (λ (e : Bool). TakesItem (Some items.LineTooLong) e (a.waiting ++ h.piece) c.waiting) (sym going)
-      (subst (λ (found : Item). BeginsWith (a.waiting ++ h.piece) found c.waiting) item begins);
-}
-
 -- the newline of a line that is too long comes
 pub takes_long : {a b c : Feed} {l m : Option (List ℕ)} (at : ℕ) → Skips a b l m → IsNewline b.waiting at → c.waiting ≡ drop (at + 1) b.waiting → c.read ≡ b.read → c.ended ≡ false
     → TakesNext LineTooLong a c l m
-takes_long {a} {b} {c} at s newline rest read going = takes_long_of at s.gathers s.long s.none newline rest read going
-
-takes_long_last_of : {front : List ℕ} {a b c : Feed} {l m : Option (List ℕ)} → Gathers front a b l m → 9000 < length front → HasNoNewline front → b.waiting ≡ []
-    → c.waiting ≡ [] → c.read ≡ b.read → c.ended ≡ true → TakesNext LineTooLong a c l m
-takes_long_last_of {front} {a} {b} {c} h long none empty rest read end = record {
-  piece = h.piece;
-  consumed = h.consumed;
-  read = read ∙ h.read;
+takes_long {a} {b} {c} at s newline rest read going = record {
+  piece = s.gathers.piece;
+  consumed = s.gathers.consumed;
+  read = read ∙ s.gathers.read;
   item =
-      let bytes : a.waiting ++ h.piece ≡ front = h.waiting ∙ ap (λ (xs : List ℕ). front ++ xs) empty ∙ append-nil front in
-      let last = ap items_of bytes ∙ items_of-last front (omega arith) none ∙ ap (λ (item : Item). item ∷ []) (too_long front long) in
-      subst (λ (e : Bool). TakesItem (Some items.LineTooLong) e (a.waiting ++ h.piece) c.waiting) (sym end) (record { all = last; none = rest });
+      let begins = begins_with_dropped (a.waiting ++ s.gathers.piece) s.front b.waiting c.waiting at s.gathers.waiting s.none newline rest in
+      let item = too_long (s.front ++ take at b.waiting) (omega (arith, s.long, length-append s.front (take at b.waiting))) in
+      subst (λ (e : Bool). TakesItem (Some items.LineTooLong) e (a.waiting ++ s.gathers.piece) c.waiting) (sym going)
+      (subst (λ (found : Item). BeginsWith (a.waiting ++ s.gathers.piece) found c.waiting) item begins);
 }
 
 -- a line that is too long ends with the bytes
 pub takes_long_last : {a b c : Feed} {l m : Option (List ℕ)} → Skips a b l m → b.waiting ≡ [] → c.waiting ≡ [] → c.read ≡ b.read → c.ended ≡ true → TakesNext LineTooLong a c l m
-takes_long_last {a} {b} {c} s empty rest read end = takes_long_last_of s.gathers s.long s.none empty rest read end
+takes_long_last {a} {b} {c} s empty rest read end = record {
+  piece = s.gathers.piece;
+  consumed = s.gathers.consumed;
+  read = read ∙ s.gathers.read;
+  item =
+      let bytes : a.waiting ++ s.gathers.piece ≡ s.front = s.gathers.waiting ∙ ap (λ (xs : List ℕ). s.front ++ xs) empty ∙ append-nil s.front in
+      let last = ap items_of bytes ∙ items_of-last s.front (omega (arith, s.long)) s.none ∙ ap (λ (item : Item). item ∷ []) (too_long s.front s.long) in
+      subst (λ (e : Bool). TakesItem (Some items.LineTooLong) e (a.waiting ++ s.gathers.piece) c.waiting) (sym end) (record { all = last; none = rest });
+}
 
 pub skips_nothing : {a b : Feed} {l m : Option (List ℕ)} → Skips a b l m → a.ended ≡ false → b.waiting ≡ [] → TakesNothing a b l m
 skips_nothing {a} {b} s going empty = takes_nothing s.gathers going (HasNoNewline-append s.front b.waiting s.none (subst HasNoNewline (sym empty) HasNoNewline-nil))

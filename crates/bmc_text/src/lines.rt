@@ -1,4 +1,4 @@
-ghost use Rattle.std.specs.Prelude.{◌≡◌, ◌<◌, ◌≤◌, ◌+◌, ◌-◌, ◌^◌, [], List, ℕ, Option, true, false, length, take, drop, slice_range, IfOk, OnOk, OnErr, IfSome, IfNone, MatchOption, MatchResult};
+ghost use Rattle.std.specs.Prelude.{◌≡◌, ◌≢◌, ◌<◌, ◌≤◌, ◌+◌, ◌-◌, ◌^◌, [], List, ℕ, Option, true, false, length, take, drop, slice_range, IfOk, OnOk, OnErr, IfSome, IfNone, MatchOption, MatchResult};
 ghost use Rattle.std.specs.Io.KnownBytes.{Keeps, Consumes, IsAtEnd};
 ghost use Rattle.bmc_base.specs.Counts.{Rose};
 ghost use Rattle.bmc_text.specs.Buffers.{HasNoNewline, IsNewline, Gathers};
@@ -72,10 +72,8 @@ fn newline_behind(bytes: &[u8], from: usize) -> Option<usize>
     requires none { HasNoNewline (take from bytes.now) }
     ensures { MatchOption result (HasNoNewline bytes.now) (λ at. IsNewline bytes.now at) }
 {
-    match memchr(b'\n', &bytes[from..]) {
-        Some(behind) => Some(from + behind),
-        None => None,
-    }
+    let behind = memchr(b'\n', &bytes[from..])?;
+    Some(from + behind)
 }
 
 // How many bytes of a line stay without a carriage return at its end.
@@ -138,6 +136,7 @@ impl Lines {
     }
 
     /// The line that was taken last, without the carriage return at its end.
+    #[inline]
     pub fn line(&self) -> &[u8]
         ensures { result.now ≡ self.now.line }
     {
@@ -153,9 +152,11 @@ impl Lines {
 
     /// The next item among the bytes that were read already, or none where no line is whole in them;
     /// then nothing changes.
+    #[inline]
     pub fn next_buffered(&mut self) -> Option<Got>
         ensures next { IfSome result (λ got. (left : Option (List ℕ)) → TakesNext got self.old self.new left left) }
         ensures spends { IfSome result (λ got. Spends got self.old self.new) }
+        ensures read { self.new.read ≡ self.old.read }
         ensures end { self.new.ended ≡ self.old.ended }
         ensures none { IfNone result (whole_items self.old.waiting ≡ []) }
         ensures same { IfNone result (self.new ≡ self.old) }
@@ -175,12 +176,14 @@ impl Lines {
         ensures most { self.new.read ≤ 2 ^ 40 }
         ensures under { self.new.ended ≡ true → self.new.read < 2 ^ 40 }
         ensures cause { MatchResult result (λ _. S.faults source.new ≡ S.faults source.old) (λ fault. LineCause fault self.new (S.faults source.old) (S.faults source.new)) }
+        ensures waits { whole_items self.old.waiting ≢ [] → self.new.read ≡ self.old.read }
+        ensures after_end { self.old.ended ≡ true → (result ≡ Ok Got.End) × (self.new ≡ self.old) × Keeps (S.left source.old) (S.left source.new) }
     {
-        if let Some(got) = self.next_buffered() {
-            return Ok(got);
-        }
         if self.ended {
             return Ok(Got::End);
+        }
+        if let Some(got) = self.next_buffered() {
+            return Ok(got);
         }
         self.next_read(source)
     }
@@ -287,10 +290,8 @@ impl Lines {
         ensures most { self.new.read ≤ 2 ^ 40 }
         ensures under { self.new.ended ≡ true → self.new.read < 2 ^ 40 }
     {
-        match newline_behind(self.waiting(), scanned) {
-            Some(at) => Some(self.take_item(at, at + 1)),
-            None => None,
-        }
+        let at = newline_behind(self.waiting(), scanned)?;
+        Some(self.take_item(at, at + 1))
     }
 
     // The last item, whose bytes are all that waits, at the end of the source.
@@ -303,11 +304,11 @@ impl Lines {
         ensures read { self.new.read ≡ self.old.read }
     {
         let all = self.waiting().len();
-        if all == 0 {
-            self.finish();
-            return Got::End;
-        }
-        let got = self.take_item(all, all);
+        let got = if all == 0 {
+            Got::End
+        } else {
+            self.take_item(all, all)
+        };
         self.finish();
         got
     }
@@ -374,5 +375,188 @@ impl Lines {
         ensures end { self.now.ended ≡ true → result.now ≡ [] }
     {
         &self.buffer[self.start..self.end]
+    }
+}
+
+#[cfg(test)]
+mod tests {
+    use super::*;
+    use bmc_io::IoFault;
+    use std::test::Fail;
+
+    // Gives its bytes in pieces of at most `size`. The call with the number `fails` fails.
+    #[derive(Drop)]
+    struct Pieces<'a> {
+        left: &'a [u8],
+        size: usize,
+        fails: u64,
+        calls: u64,
+        faults: u64,
+    }
+
+    impl Source for Pieces<'_> {
+        ghost use Rattle.std.specs.Prelude.{None};
+
+        ghost left = { λ _. None };
+
+        ghost faults = { λ source. source.faults };
+
+        fn read(&mut self, buf: &mut [u8]) -> Result<usize, IoFault> {
+            let fails = self.calls == self.fails;
+            self.calls = self.calls.saturating_add(1);
+            if fails {
+                self.faults = self.faults.saturating_add(1);
+                return Err(IoFault);
+            }
+            let count = self.size.min(buf.len()).min(self.left.len());
+            let (piece, left) = self.left.split_at(count);
+            buf[..count].copy_from_slice(piece);
+            self.left = left;
+            Ok(count)
+        }
+    }
+
+    // So many letters, and then a text.
+    fn letters(alloc: Global, count: usize, text: &[u8]) -> Result<Vec<u8>, Fail> {
+        let mut bytes = vec![in alloc; b'a'; count]?;
+        bytes.extend_from_slice(text)?;
+        Ok(bytes)
+    }
+
+    // All that is got: a line and then `|`, `?` for a line that is too long, `$` for the end, twice,
+    // and `!` for a fault.
+    fn all_got(alloc: Global, source: &mut Pieces, buffered: bool) -> Result<Vec<u8>, Fail> {
+        let mut lines = Lines::new(alloc)?;
+        let mut text = Vec::new(alloc);
+        for _ in 0..20 {
+            let waiting = if buffered {
+                lines.next_buffered()
+            } else {
+                None
+            };
+            let got = match waiting {
+                Some(got) => Ok(got),
+                None => lines.next(source),
+            };
+            match got {
+                Ok(Got::Line) => {
+                    text.extend_from_slice(lines.line())?;
+                    text.push(b'|')?;
+                }
+                Ok(Got::LineTooLong) => text.push(b'?')?,
+                Ok(Got::End) => text.push(b'$')?,
+                Err(_) => text.push(b'!')?,
+            }
+            if text.ends_with(b"$$") || text.ends_with(b"!") {
+                break;
+            }
+        }
+        Ok(text)
+    }
+
+    #[test]
+    fn gets_the_items(rt: HostRuntime) -> Result<(), Fail> {
+        // letters and a text in the script, letters and a text in what is got
+        let cases: [(usize, &str, usize, &str); 16] = [
+            (0, "", 0, "$$"),
+            (0, "a\nb\n", 0, "a|b|$$"),
+            (0, "a\r\nb\r\n", 0, "a|b|$$"),
+            (0, "a\nlast", 0, "a|last|$$"),
+            (0, "a\nlast\r", 0, "a|last|$$"),
+            (0, "a\r\r\n", 0, "a\r|$$"),
+            (0, "\r\n\n\r", 0, "|||$$"),
+            (0, "a\rb\n\nc", 0, "a\rb||c|$$"),
+            (9000, "", 9000, "|$$"),
+            (9000, "\n", 9000, "|$$"),
+            (9001, "\n", 0, "?$$"),
+            (9001, "", 0, "?$$"),
+            (9000, "\r\nb\n", 0, "?b|$$"),
+            (8999, "\r\nb\n", 8999, "|b|$$"),
+            (20_000, "\r\nb\n", 0, "?b|$$"),
+            (200_000, "\nb\nc", 0, "?b|c|$$"),
+        ];
+        for (letters_in, text_in, letters_got, text_got) in cases {
+            let script = letters(rt.alloc(), letters_in, text_in.as_bytes())?;
+            let want = letters(rt.alloc(), letters_got, text_got.as_bytes())?;
+            for size in [1, 7, usize::MAX] {
+                for buffered in [false, true] {
+                    let mut source = Pieces {
+                        left: &script,
+                        size,
+                        fails: u64::MAX,
+                        calls: 0,
+                        faults: 0,
+                    };
+                    let got = all_got(rt.alloc(), &mut source, buffered)?;
+                    assert!(rt;
+                        got.as_slice() == want.as_slice(),
+                        "{letters_in} {text_in:?} {size} {buffered}"
+                    );
+                }
+            }
+        }
+        Ok(())
+    }
+
+    #[test]
+    fn keeps_any_bytes(rt: HostRuntime) -> Result<(), Fail> {
+        let script = [0xff, 0xc3, b'\r', 0, b'\n', 0x80, b'\n'];
+        let mut source = Pieces {
+            left: &script,
+            size: 2,
+            fails: u64::MAX,
+            calls: 0,
+            faults: 0,
+        };
+        let got = all_got(rt.alloc(), &mut source, true)?;
+        assert_eq!(rt;
+            got.as_slice(),
+            [0xff, 0xc3, b'\r', 0, b'|', 0x80, b'|', b'$', b'$'].as_slice()
+        );
+        Ok(())
+    }
+
+    // The pieces are "one\n", "two\r", "\nthr", "ee" and the end; a sixth call is never made.
+    #[test]
+    fn stops_at_a_fault(rt: HostRuntime) -> Result<(), Fail> {
+        let cases = [
+            (0, "!", 1),
+            (1, "one|!", 2),
+            (2, "one|!", 3),
+            (3, "one|two|!", 4),
+            (4, "one|two|!", 5),
+            (5, "one|two|three|$$", 5),
+        ];
+        for (fails, want, calls) in cases {
+            let mut source = Pieces {
+                left: b"one\ntwo\r\nthree",
+                size: 4,
+                fails,
+                calls: 0,
+                faults: 0,
+            };
+            let got = all_got(rt.alloc(), &mut source, false)?;
+            assert_eq!(rt; got.as_slice(), want.as_bytes(), "at call {fails}");
+            assert_eq!(rt; source.calls, calls, "at call {fails}");
+        }
+        Ok(())
+    }
+
+    #[test]
+    fn stops_at_the_most(rt: HostRuntime) -> Result<(), Fail> {
+        let mut source = Pieces {
+            left: b"ab\ncd\n",
+            size: 7,
+            fails: u64::MAX,
+            calls: 0,
+            faults: 0,
+        };
+        let mut lines = Lines::new(rt.alloc())?;
+        lines.read = MOST - 4;
+        assert!(rt; lines.next(&mut source) == Ok(Got::Line));
+        assert_eq!(rt; lines.line(), b"ab".as_slice());
+        assert!(rt; lines.next(&mut source) == Err(LineFault::Spent));
+        assert_eq!(rt; source.calls, 1);
+        Ok(())
     }
 }

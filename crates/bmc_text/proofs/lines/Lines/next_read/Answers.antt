@@ -1,7 +1,7 @@
 use Rattle.std.proofs.Common.{sym, subst}
-use Rattle.std.proofs.lemmas.Result.{err_from_is_err_and}
+use Rattle.std.proofs.lemmas.Result.{err_from_is_err_and, IfOk-weaker, on_err_weaker}
 use Rattle.bmc_text.specs.Buffers.{HasNoNewline}
-use Rattle.bmc_text.proofs.Gathering.{Gathers-none, Gathers-trans, takes_after, takes_here, takes_nothing}
+use Rattle.bmc_text.proofs.Gathering.{Gathers-none, Gathers-trans, takes_after, nothing_after, takes_here, takes_nothing}
 use Rattle.bmc_text.proofs.lines.Lines.next_read.Goals as goal
 
 pub returns-in_err-fill-clause-stops : goal.returns-in_err-fill-clause-stops
@@ -19,3 +19,9 @@ pub returns-in-Some-clause-next : goal.returns-in-Some-clause-next
 returns-in-Some-clause-next g c =
     takes_after c.in-Some.got (Gathers-trans c.pieces.invariant.gathers c.fill.ensures.gathers)
     (takes_here c.in-Some.got _ _ _ _ c.next_behind.ensures.read c.in-Some.ensures.going c.in-Some.ensures.item)
+
+pub returns-then-scanned-gt-LONGEST-clause-next : goal.returns-then-scanned-gt-LONGEST-clause-next
+returns-then-scanned-gt-LONGEST-clause-next g c = IfOk-weaker c.skip.result _ _ (λ got next. takes_after got c.pieces.invariant.gathers next) c.skip.ensures.next
+
+pub returns-then-scanned-gt-LONGEST-clause-stops : goal.returns-then-scanned-gt-LONGEST-clause-stops
+returns-then-scanned-gt-LONGEST-clause-stops g c = on_err_weaker c.skip.result (nothing_after c.pieces.invariant.gathers c.requires.going) c.skip.ensures.stops
