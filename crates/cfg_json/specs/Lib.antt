@@ -1,0 +1,4 @@
+pub mod Probes
+pub mod Configs
+pub mod Documents
+pub mod Shelves

@@ -1,0 +1,11 @@
+//! Configurations in JSON: a document read to a configuration or refused by its first broken rule, and the
+//! shelf of the configurations in their order. What is found and the boards stand on it.
+#![tactic(auto)]
+
+mod config;
+mod probe;
+mod shelf;
+
+pub use config::{Config, ConfigFault};
+pub use probe::PlainProbe;
+pub use shelf::Shelf;
