@@ -1,6 +1,7 @@
 """What the checks share: the program, runs of it, and how a check ends."""
 
 import os
+import socket
 import subprocess
 import sys
 
@@ -37,6 +38,24 @@ def play(path, script, seconds=60):
     if run.stderr:
         fail(f"the program wrote to standard error: {run.stderr[:200]!r}")
     return run.stdout, run.returncode
+
+
+def play_pieces(path, script, size):
+    """What the program prints for pieces of this size. Over this kind of socket each piece that is sent
+    is a read of its own, which a pipe does not promise."""
+    here, there = socket.socketpair(socket.AF_UNIX, socket.SOCK_SEQPACKET)
+    here.settimeout(60)
+    with subprocess.Popen([path], stdin=there, stdout=subprocess.PIPE) as run, here:
+        there.close()
+        os.set_blocking(run.stdout.fileno(), False)
+        printed = b""
+        for at in range(0, len(script), size):
+            here.send(script[at : at + size])
+            printed += run.stdout.read() or b""
+        here.shutdown(socket.SHUT_WR)
+        os.set_blocking(run.stdout.fileno(), True)
+        printed += run.stdout.read()
+    return printed, run.returncode
 
 
 def first_difference(printed, wanted):
