@@ -34,7 +34,7 @@ def refused(lines, present):
 
 
 def comments(lines, present):
-    yield from ["# The riser is warm, and nothing else is to be told of it.\n"] * lines
+    yield from ["# the riser is warm\n"] * lines
 
 
 def long(lines, present):

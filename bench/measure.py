@@ -15,7 +15,7 @@ DATA = f"{TOP}/bench/data"
 BUILT = f"{TOP}/crates/bmcreplay/out/bmcreplay"
 TIME = "/usr/bin/time"
 # For so many seconds each script is run at least.
-LEAST = 0.2
+LEAST = 0.5
 
 
 def built():
