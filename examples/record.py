@@ -22,6 +22,8 @@ def with_checksum(data):
 
 def field(text):
     """A field of type 3, text: its type/length byte, and a byte for each character."""
+    if max(text, default="") > "\xff":
+        raise ValueError(f"a text has characters of Latin 1 alone, and {text!r} has others")
     data = text.encode("latin-1")
     if len(data) == 1 or len(data) > 63:
         raise ValueError(f"a text has 0 or 2 to 63 characters, and {text!r} has {len(data)}")
