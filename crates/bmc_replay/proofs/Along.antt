@@ -212,6 +212,12 @@ along_takes (Some item) false left left_now left_new old now new lines lines' ru
       machine = rw (s.number ∙ ap (λ n. n + 1) e2, s.refused ∙ ap (λ o. moved.refused || is_refused o) same ∙ ap (λ (b : Bool). b || is_refused (outcome a.past item)) e3) (so_far_more a.taken lines.waiting piece lines'.waiting a.total a.past run.number run.refused item a.machine t);
     }
 
+-- what was got is taken, after what was gathered moved
+pub along_got : (got : Got) (line : List ℕ) (left left_now left_new old now new : Option (List ℕ)) (lines lines' : Feed) (run moved run' : Run) → moved ≡ record run { text = moved.text } → line ≡ lines'.line → Along left left_now old now lines run → TakesNext got lines lines' left_now left_new → Gathers now new (string_bytes run.text) (string_bytes moved.text) [] → TakesGot (item_got got line) moved run' → AlongOr lines'.ended left left_new old new lines' run'
+along_got got line left left_now left_new old now new lines lines' run moved run' m e a t g s =
+    along_takes (item_got got lines'.line) lines'.ended left left_now left_new old now new lines lines' run moved run' t.piece a t.consumed t.read t.item g
+    (ap (λ (r : Run). r.present) m) (ap (λ (r : Run). r.number) m) (ap (λ (r : Run). r.refused) m) (subst (λ (l : List ℕ). TakesGot (item_got got l) moved run') e s)
+
 -- what is gathered moves
 pub along_moved : (ended : Bool) (left left_now old now new : Option (List ℕ)) (lines : Feed) (run moved : Run) → AlongOr ended left left_now old now lines run → Gathers now new (string_bytes run.text) (string_bytes moved.text) [] → moved.present ≡ run.present → moved.number ≡ run.number → moved.refused ≡ run.refused → AlongOr ended left left_now old new lines moved
 along_moved false left left_now old now new lines run moved a g e1 e2 e3 = record {
@@ -234,6 +240,12 @@ along_moved true left left_now old now new lines run moved a g e1 e2 e3 = record
   stands = e1 ∙ a.stands;
   machine = subst (AllTaken a.taken a.total a.past) (sym e3) a.machine;
 }
+
+-- and it is known whether the source was read to its end
+pub along_told : (told ended : Bool) (left left_now old now new : Option (List ℕ)) (lines : Feed) (run moved : Run) → ended ≡ told → moved ≡ record run { text = moved.text } → AlongOr ended left left_now old now lines run → Gathers now new (string_bytes run.text) (string_bytes moved.text) [] → AlongOr told left left_now old new lines moved
+along_told told ended left left_now old now new lines run moved e m a g =
+    subst (λ (b : Bool). AlongOr b left left_now old new lines moved) e
+    (along_moved ended left left_now old now new lines run moved a g (ap (λ (r : Run). r.present) m) (ap (λ (r : Run). r.number) m) (ap (λ (r : Run). r.refused) m))
 
 drop_more : (script : Option (List ℕ)) (total more : List ℕ) → Begins script (total ++ more) → Begins script total
 drop_more None total more h = tt
