@@ -1,5 +1,5 @@
 -- A run of the machine over a source and a sink, so far.
-use Rattle.std.proofs.Common.{◌≡◌, ◌≢◌, ◌<◌, ◌≤◌, ◌+◌, ◌^◌, ℕ, List, [], ◌++◌, length, Bool, true, false, ◌||◌, Option, Some, None, Ok, Err, refl, ap, sym, ◌∙◌, subst, arith, append_assoc, append-nil, length-append, string_bytes}
+use Rattle.std.proofs.Common.{◌≡◌, ◌<◌, ◌≤◌, ◌+◌, ◌^◌, ℕ, List, [], ◌++◌, length, Bool, true, false, ◌||◌, Option, Some, None, Ok, Err, refl, ap, sym, ◌∙◌, subst, arith, append_assoc, append-nil, length-append, string_bytes}
 use Rattle.std.specs.Prelude.{⊤}
 use Rattle.std.specs.Io.KnownBytes.{Appends, Consumes, IsAtEnd}
 use Rattle.std.proofs.KnownBytes.{Appends-nil, Appends-trans, Consumes-nil, Consumes-trans}
@@ -7,19 +7,18 @@ use Rattle.bmc_io.specs.Sinks.{AppendsFront}
 use Rattle.bmc_io.proofs.Fronts.{front_after, front_so_far, front_all}
 use Rattle.bmc_text.specs.Items.{Item, items_of}
 use Rattle.bmc_text.specs.Feeds.{Feed}
-use Rattle.bmc_text.specs.Reading.{item_got, TakesNext, TakesNothing, TakesItem, AreNone, Spends}
+use Rattle.bmc_text.specs.Reading.{item_got, TakesNext, TakesItem, Spends}
 use Rattle.bmc_text.specs.declared.lines.Got.{Got}
 use Rattle.bmc_text.specs.declared.lines.Got.TheVariants.{Line, LineTooLong, End}
 use Rattle.bmc_machine.specs.Histories.{Step, Fru, present}
-use Rattle.bmc_machine.specs.Runs.{outcome, item_outcome, outcome_text, joined, is_refused, out, whole_out, out_from, refuses, final_list}
+use Rattle.bmc_machine.specs.Runs.{outcome, item_outcome, outcome_text, joined, is_refused, out, out_from, refuses, final_list}
 use Rattle.bmc_replay.specs.declared.run.Run.{Run}
 use Rattle.bmc_replay.specs.declared.stop.Stop.{Stop}
 use Rattle.bmc_replay.specs.declared.stop.Stop.TheVariants as stops
 use Rattle.bmc_replay.specs.Steps.{TakesGot, frus_after, IsNew}
-use Rattle.bmc_replay.specs.Steps as steps
 use Rattle.bmc_replay.specs.Gathering.{Gathers}
 use Rattle.bmc_replay.specs.Advances.{GetsNothing, StopsAt}
-use Rattle.bmc_replay.specs.Statuses.{WritesAll, Replays, Reaches, Takes, WritesWhole, status_of}
+use Rattle.bmc_replay.specs.Statuses.{Replays, Reaches, Takes, WritesWhole, status_of}
 use Rattle.bmc_replay.proofs.Machine.{SoFar, AllTaken, so_far_none, so_far_more, so_far_last, so_far_end, so_far_whole, stands_after}
 
 -- this much text was printed: part of it is written, and the rest is gathered

@@ -1,5 +1,5 @@
 -- The fields of a board area, where each is text.
-use Rattle.std.proofs.Common.{◌≡◌, List, Bool, true, false, cond, Result, Ok, Err, Option, Some, None, refl, ap, sym, ◌∙◌}
+use Rattle.std.proofs.Common.{◌≡◌, List, Bool, true, false, cond, Result, Ok, Err, Some, None, refl, ap, ◌∙◌}
 use Rattle.std.specs.Prelude.{ℕ, is_some}
 use Rattle.fru_area.specs.Walks.{Raw, raw_fields}
 use Rattle.fru_area.specs.Areas.{area_fields, named_ok, all_text}

@@ -1,14 +1,11 @@
 -- Text that is gathered and written.
-use Rattle.std.proofs.Common.{◌≡◌, ℕ, List, [], ◌∷◌, ◌++◌, map, refl, ap, sym, ◌∙◌, append_assoc, append-nil}
+use Rattle.std.proofs.Common.{◌≡◌, ℕ, List, [], ◌∷◌, ◌++◌, refl, ap, sym, ◌∙◌, append_assoc, append-nil}
 use Rattle.std.specs.Prelude.{Option}
-use Rattle.std.specs.List.{flat_map}
 use Rattle.std.specs.Io.KnownBytes.{Appends}
 use Rattle.std.proofs.KnownBytes.{Appends-nil, Appends-trans}
-use Rattle.std.proofs.lemmas.List.Concat.{flat_map-append}
 use Rattle.bmc_base.specs.Places.{Place}
 use Rattle.bmc_io.specs.Sinks.{AppendsFront}
 use Rattle.bmc_io.proofs.Fronts.{front_so_far, front_after}
-use Rattle.bmc_machine.specs.Histories.{Fru}
 use Rattle.bmc_machine.specs.Runs.{row_of, final_list}
 use Rattle.bmc_replay.specs.Kept.{fru_of, frus_of}
 use Rattle.bmc_replay.specs.Gathering.{Gathers}

@@ -1,10 +1,9 @@
 -- A map from places to bytes, against the list of FRUs that it keeps.
-use Rattle.std.proofs.Common.{◌≡◌, List, [], ◌∷◌, Bool, true, false, cond, ◌||◌, Some, refl, ap, sym, ◌∙◌}
+use Rattle.std.proofs.Common.{◌≡◌, List, [], ◌∷◌, Bool, true, false, cond, ◌||◌, Some, refl, ap}
 use Rattle.std.specs.Prelude.{ℕ, is_some}
 use Rattle.std.specs.declared.cmp.Ordering.{Ordering}
 use Rattle.std.specs.declared.cmp.Ordering.TheVariants.{Less, Equal, Greater}
 use Rattle.std.specs.Ordering.{is_eq, is_lt, match_ordering}
-use Rattle.std.specs.List.{list_any}
 use Rattle.std.specs.Map.{lookup, remove_entry}
 use Rattle.std.specs.BTreeMap.{insert_entry, is_at as is_key}
 use Rattle.bmc_base.specs.Places.{Place, place_cmp}

@@ -1,10 +1,9 @@
 -- The machine so far.
-use Rattle.std.proofs.Common.{◌≡◌, ℕ, ◌+◌, List, [], ◌∷◌, ◌++◌, Bool, true, false, ◌||◌, refl, ap, sym, ◌∙◌, append_assoc, append-nil, zero-add}
-use Rattle.std.specs.List.{list_any}
+use Rattle.std.proofs.Common.{◌≡◌, ℕ, ◌+◌, List, [], ◌∷◌, ◌++◌, Bool, true, false, ◌||◌, refl, ap, sym, ◌∙◌, append_assoc, append-nil}
 use Rattle.bmc_text.specs.Items.{Item, cut_most, cut, items_of, whole_items}
 use Rattle.bmc_text.specs.Reading.{BeginsWith, AreLast, AreNone}
-use Rattle.bmc_machine.specs.Histories.{Step, Fru, present, after_step}
-use Rattle.bmc_machine.specs.Runs.{Outcome, Nothing, Accepted, Refused, outcome, item_outcome, joined, outcomes, history, outcome_text, texts, is_refused, final_list, out_from, out, whole_out, refuses_from, refuses}
+use Rattle.bmc_machine.specs.Histories.{Step, present}
+use Rattle.bmc_machine.specs.Runs.{Outcome, Nothing, Accepted, Refused, outcome, joined, outcomes, outcome_text, texts, is_refused, final_list, out_from, out, whole_out, refuses_from, refuses}
 use Rattle.bmc_replay.specs.Steps.{frus_after}
 
 -- Of these bytes of a script the machine has taken all but those that wait; it has printed this much and has come to

@@ -1,4 +1,4 @@
-use Rattle.std.proofs.Common.{◌≡◌, ◌∙◌, ◌++◌, ℕ, List, ap, refl, string_bytes}
+use Rattle.std.proofs.Common.{◌∙◌, ◌++◌, ℕ, List, ap, refl, string_bytes}
 use Rattle.std.proofs.lemmas.Result.{err_from_is_err_and}
 use Rattle.bmc_machine.specs.Runs.{row_of}
 use Rattle.bmc_replay.proofs.Gathered.{rows_none, rows_more, rows_front, rows_stopped}

@@ -1,9 +1,8 @@
-use Rattle.std.proofs.Common.{◌≡◌, ◌∙◌, List, Bool, false, cond, Option, Some, None, sym, ap, rules}
-use Rattle.bmc_machine.specs.Histories.{Fru, Unplug, is_present, without}
-use Rattle.bmc_machine.specs.Runs.{judged, step_outcome}
-use Rattle.bmc_report.specs.declared.refusal.Refusal.{Refusal}
+use Rattle.std.proofs.Common.{◌≡◌, ◌∙◌, Bool, false, cond, Some, None, sym, ap}
+use Rattle.bmc_machine.specs.Histories.{Unplug, is_present}
+use Rattle.bmc_machine.specs.Runs.{judged}
 use Rattle.bmc_report.specs.declared.refusal.Refusal.TheVariants.{NotPresent}
-use Rattle.bmc_replay.specs.Steps.{Comes, refusal_in, frus_after}
+use Rattle.bmc_replay.specs.Steps.{refusal_in, frus_after}
 use Rattle.bmc_replay.proofs.KeptFrus.{without_absent}
 use Rattle.bmc_replay.proofs.run.unplug.Goals as goal
 

@@ -1,9 +1,7 @@
-use Rattle.std.proofs.Common.{◌≡◌, ◌≤◌, ◌+◌, ◌∙◌, List, ℕ, Bool, true, false, Option, arith, ap, sym, subst, refl, length, string_bytes}
+use Rattle.std.proofs.Common.{◌≡◌, ◌∙◌, List, ℕ, true, false, arith, ap, sym, subst, refl, length, string_bytes}
 use Rattle.std.proofs.lemmas.Result.{err_from_is_err_and}
-use Rattle.std.specs.Io.KnownBytes.{IsAtEnd}
 use Rattle.bmc_text.specs.Feeds.{Feed}
 use Rattle.bmc_text.specs.Reading.{item_got}
-use Rattle.bmc_replay.specs.declared.run.Run.{Run}
 use Rattle.bmc_replay.specs.Steps.{TakesGot}
 use Rattle.bmc_replay.proofs.Along.{none_written, stopped, along_none, along_stops, along_front, along_got, along_told, along_cut, ended_cut, ended_text, ended_reached, spends_item, numbered}
 use Rattle.bmc_replay.proofs.top.replay_items.Goals as goal
