@@ -128,6 +128,16 @@ impl FieldList {
         Ok(())
     }
 
+    /// Appends the fields of another list, or changes nothing.
+    pub fn append(&mut self, alloc: Global, mut other: FieldList) -> Result<(), OutOfMemory>
+        ensures ok { OnOk result (self.new ≡ self.old ++ other) }
+        ensures err { OnErr result (self.new ≡ self.old) }
+    {
+        let _ = alloc;
+        self.fields.append(&mut other.fields)?;
+        Ok(())
+    }
+
     /// The fields, read.
     pub fn as_slice(&self) -> &[Field]
         ensures { result.now ≡ self.now }

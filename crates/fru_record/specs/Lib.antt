@@ -4,3 +4,4 @@ pub mod Lookups
 pub mod Spellings
 pub mod Parts
 pub mod Building
+pub mod Views

@@ -1,13 +1,63 @@
-ghost use Rattle.std.specs.Prelude.{◌≡◌, ◌<◌, ◌^◌};
-ghost use Rattle.fru_record.specs.Dates.{date_text};
+ghost use Rattle.std.specs.Prelude.{◌≡◌, ◌<◌, ◌+◌, ◌%◌, ◌^◌};
+ghost use Rattle.fru_record.specs.Dates.{manufacture_day, date_text};
+ghost use Rattle.fru_record.specs.Views.{IsDay};
 
 use fru_area::FieldText;
+use jiff::ToSpan;
+use jiff::civil::{Date, date};
 
 /// The date of minutes since 1996-01-01 00:00, as `YYYY-MM-DD HH:MM`. The civil date is jiff's.
 pub fn date_field(minutes: u32) -> FieldText
     requires { minutes < 2 ^ 24 }
     ensures { result ≡ date_text minutes }
 {
-    let _ = minutes;
-    FieldText::new("").unwrap()
+    let text = date_bytes(manufacture_date(minutes), minutes);
+    FieldText::new(str::from_utf8(&text).unwrap()).unwrap()
+}
+
+// The text of a date and of the time of its minutes.
+fn date_bytes(date: Date, minutes: u32) -> [u8; 16]
+    requires short { minutes < 2 ^ 24 }
+    requires same { IsDay (manufacture_day minutes) date }
+    ensures { result ≡ date_text minutes }
+{
+    let year = date.year() as u32;
+    let month = date.month() as u32;
+    let day = date.day() as u32;
+    let hour = minutes / 60 % 24;
+    let minute = minutes % 60;
+    [
+        digit(year / 1000),
+        digit(year / 100),
+        digit(year / 10),
+        digit(year),
+        b'-',
+        digit(month / 10),
+        digit(month),
+        b'-',
+        digit(day / 10),
+        digit(day),
+        b' ',
+        digit(hour / 10),
+        digit(hour),
+        b':',
+        digit(minute / 10),
+        digit(minute),
+    ]
+}
+
+// The day of minutes since 1996-01-01 00:00.
+fn manufacture_date(minutes: u32) -> Date
+    requires { minutes < 2 ^ 24 }
+    ensures { IsDay (manufacture_day minutes) result }
+{
+    let days = i64::from(minutes / 1440);
+    date(1996, 1, 1).checked_add(days.days()).unwrap()
+}
+
+// The last digit of a number.
+fn digit(n: u32) -> u8
+    ensures { result ≡ 48 + n % 10 }
+{
+    b'0' + (n % 10) as u8
 }

@@ -1,0 +1,3 @@
+pub mod DateTexts
+pub mod Days
+pub mod Reading

@@ -1,0 +1,91 @@
+-- What comes of reading a record, step by step.
+use Rattle.std.proofs.Common.{◌≡◌, ◌≢◌, ◌*◌, ℕ, List, [], ◌++◌, Result, Ok, Err, cond, nat_eq, refl, ap, ap₂, sym, ◌∙◌}
+use Rattle.std.proofs.lemmas.Bool.{ne_eqb}
+use Rattle.fru_area.specs.Answers.{Gives, GivesFault}
+use Rattle.fru_area.specs.Areas.{area_fields}
+use Rattle.fru_area.specs.Headers.{header, area_at}
+use Rattle.fru_area.specs.declared.fault.Area.{Area}
+use Rattle.fru_area.specs.declared.fault.Area.TheVariants.{Chassis, Board, Product}
+use Rattle.fru_area.specs.declared.fault.FruFault.{FruFault}
+use Rattle.fru_area.specs.declared.fault.FruFault.TheVariants as faults
+use Rattle.fru_area.specs.declared.field.Field.{Field}
+use Rattle.fru_area.specs.declared.header.Header.{Header}
+use Rattle.fru_record.specs.Records.{names_of, fields_start, is_english, fixed_fields, fields_of_area, fields_at, fields_under, record_of, ◌>>=◌}
+
+pub GivesFault-from : {X : Type 0} (fault : FruFault) (read : Result X FruFault) → read ≡ Err fault → GivesFault fault read
+GivesFault-from faults.OutOfMemory read e = tt
+GivesFault-from faults.FruShort read e = e
+GivesFault-from faults.FruTooLong read e = e
+GivesFault-from faults.HeaderVersion read e = e
+GivesFault-from faults.HeaderChecksum read e = e
+GivesFault-from (faults.AreaOutside a) read e = e
+GivesFault-from (faults.AreaVersion a) read e = e
+GivesFault-from (faults.AreaLength a) read e = e
+GivesFault-from (faults.AreaChecksum a) read e = e
+GivesFault-from (faults.FieldOutside a) read e = e
+GivesFault-from (faults.NoEnd a) read e = e
+
+-- a fault ends a reading
+pub GivesFault-then : {X Y : Type 0} (fault : FruFault) (read : Result X FruFault) (f : X → Result Y FruFault) → GivesFault fault read → GivesFault fault (read >>= f)
+GivesFault-then faults.OutOfMemory read f h = tt
+GivesFault-then faults.FruShort read f h = ap (λ r. r >>= f) h
+GivesFault-then faults.FruTooLong read f h = ap (λ r. r >>= f) h
+GivesFault-then faults.HeaderVersion read f h = ap (λ r. r >>= f) h
+GivesFault-then faults.HeaderChecksum read f h = ap (λ r. r >>= f) h
+GivesFault-then (faults.AreaOutside a) read f h = ap (λ r. r >>= f) h
+GivesFault-then (faults.AreaVersion a) read f h = ap (λ r. r >>= f) h
+GivesFault-then (faults.AreaLength a) read f h = ap (λ r. r >>= f) h
+GivesFault-then (faults.AreaChecksum a) read f h = ap (λ r. r >>= f) h
+GivesFault-then (faults.FieldOutside a) read f h = ap (λ r. r >>= f) h
+GivesFault-then (faults.NoEnd a) read f h = ap (λ r. r >>= f) h
+
+-- the named fields of a whole area
+abbrev pub named_of : Area → List ℕ → Result (List Field) FruFault
+named_of area bytes = area_fields area (is_english area bytes) (names_of area) bytes (fields_start area)
+
+pub fields_of_area-fault : (area : Area) (bytes : List ℕ) (fault : FruFault) → GivesFault fault (named_of area bytes) → GivesFault fault (fields_of_area area bytes)
+unfolding fields_of_area
+fields_of_area-fault area bytes fault h = GivesFault-then fault (named_of area bytes) (λ fields. Ok (fixed_fields area bytes ++ fields)) h
+
+pub fields_of_area-ok : (area : Area) (bytes : List ℕ) (fixed named all : List Field) → fixed ≡ fixed_fields area bytes → named_of area bytes ≡ Ok named → all ≡ fixed ++ named → fields_of_area area bytes ≡ Ok all
+unfolding fields_of_area
+fields_of_area-ok area bytes fixed named all f n a = ap (λ (r : Result (List Field) FruFault). r >>= (λ fields. Ok (fixed_fields area bytes ++ fields))) n ∙ ap (λ (fs : List Field). Ok (fs ++ named)) (sym f) ∙ ap Ok (sym a)
+
+pub fields_at-absent : (area : Area) (bytes : List ℕ) (offset : ℕ) (none : List Field) → offset ≡ 0 → none ≡ [] → fields_at area bytes offset ≡ Ok none
+unfolding fields_at
+fields_at-absent area bytes offset none z n = rw (z, n) refl
+
+fields_at-placed : (area : Area) (bytes : List ℕ) (offset : ℕ) → offset ≢ 0 → fields_at area bytes offset ≡ (area_at area bytes (8 * offset) >>= fields_of_area area)
+unfolding fields_at
+fields_at-placed area bytes offset ne = rw (ne_eqb offset 0 ne) refl
+
+pub fields_at-fault : (area : Area) (bytes : List ℕ) (offset : ℕ) (fault : FruFault) → offset ≢ 0 → area_at area bytes (8 * offset) ≡ Err fault → GivesFault fault (fields_at area bytes offset)
+fields_at-fault area bytes offset fault ne e = GivesFault-from fault _ (fields_at-placed area bytes offset ne ∙ ap (λ (r : Result (List ℕ) FruFault). r >>= fields_of_area area) e)
+
+pub fields_at-present : (area : Area) (bytes found : List ℕ) (offset : ℕ) → offset ≢ 0 → area_at area bytes (8 * offset) ≡ Ok found → fields_at area bytes offset ≡ fields_of_area area found
+fields_at-present area bytes found offset ne e = fields_at-placed area bytes offset ne ∙ ap (λ (r : Result (List ℕ) FruFault). r >>= fields_of_area area) e
+
+-- where the header is whole, and where the areas before one are
+pub record_of-header : (bytes : List ℕ) (at : Header) → header bytes ≡ Ok at → record_of bytes ≡ fields_under bytes at
+unfolding record_of
+record_of-header bytes at e = ap (λ (r : Result Header FruFault). r >>= fields_under bytes) e
+
+pub record_of-no_header : (bytes : List ℕ) (fault : FruFault) → header bytes ≡ Err fault → GivesFault fault (record_of bytes)
+unfolding record_of
+record_of-no_header bytes fault e = GivesFault-from fault _ (ap (λ (r : Result Header FruFault). r >>= fields_under bytes) e)
+
+pub fields_under-no_chassis : (bytes : List ℕ) (at : Header) (fault : FruFault) → GivesFault fault (fields_at Chassis bytes at.chassis) → GivesFault fault (fields_under bytes at)
+unfolding fields_under
+fields_under-no_chassis bytes at fault h = GivesFault-then fault (fields_at Chassis bytes at.chassis) _ h
+
+pub fields_under-no_board : (bytes : List ℕ) (at : Header) (fault : FruFault) (chassis : List Field) → fields_at Chassis bytes at.chassis ≡ Ok chassis → GivesFault fault (fields_at Board bytes at.board) → GivesFault fault (fields_under bytes at)
+unfolding fields_under
+fields_under-no_board bytes at fault chassis c h = rw c (GivesFault-then fault (fields_at Board bytes at.board) _ h)
+
+pub fields_under-no_product : (bytes : List ℕ) (at : Header) (fault : FruFault) (chassis board : List Field) → fields_at Chassis bytes at.chassis ≡ Ok chassis → fields_at Board bytes at.board ≡ Ok board → GivesFault fault (fields_at Product bytes at.product) → GivesFault fault (fields_under bytes at)
+unfolding fields_under
+fields_under-no_product bytes at fault chassis board c b h = rw (c, b) (GivesFault-then fault (fields_at Product bytes at.product) _ h)
+
+pub fields_under-ok : (bytes : List ℕ) (at : Header) (chassis board product : List Field) → fields_at Chassis bytes at.chassis ≡ Ok chassis → fields_at Board bytes at.board ≡ Ok board → fields_at Product bytes at.product ≡ Ok product → fields_under bytes at ≡ Ok (chassis ++ board ++ product)
+unfolding fields_under
+fields_under-ok bytes at chassis board product c b p = rw (c, b, p) refl
