@@ -1,11 +1,13 @@
 -- What has happened, and what is present after it.
-use Rattle.std.specs.Prelude.{ℕ, Bool, if◌then◌else◌, List, [], ◌∷◌, is_none, Option, Some, None}
+use Rattle.std.specs.Prelude.{ℕ, Bool, if◌then◌else◌, List, [], ◌∷◌, Option, Some, None, Result, Ok, Err}
 use Rattle.std.specs.List.{list_any}
 use Rattle.std.specs.Ordering.{is_lt, is_eq}
 use Rattle.bmc_base.specs.Places.{Place, place_cmp}
-use Rattle.bmc_machine.specs.PlainBoards.{plain_board}
+use Rattle.fru_area.specs.declared.field.Field.{Field}
+use Rattle.fru_area.specs.declared.fault.FruFault.{FruFault}
+use Rattle.fru_record.specs.Records.{record_of}
 use Rattle.bmc_report.specs.declared.refusal.Refusal.{Refusal}
-use Rattle.bmc_report.specs.declared.refusal.Refusal.TheVariants.{Occupied, FieldForm, NotPresent}
+use Rattle.bmc_report.specs.declared.refusal.Refusal.TheVariants.{Occupied, Fru as NoRecord, NotPresent}
 
 -- A step: a FRU with these bytes appeared at a place, or that at a place was taken away. A history is a list of steps,
 -- the newest first.
@@ -43,10 +45,13 @@ unfoldable pub present : List Step → List Fru
 present [] = []
 present (step ∷ past) = after_step (present past) step
 
+-- the first broken rule of bytes that are no record
+abbrev pub broken_rule : Result (List Field) FruFault → Option Refusal
+broken_rule (Ok fields) = None
+broken_rule (Err rule) = Some (NoRecord rule)
+
 -- why a step is refused where these FRUs are present, or none
 abbrev pub refusal_of : List Fru → Step → Option Refusal
 refusal_of frus (Plug place bytes) =
-    if is_present frus place then Some Occupied
-    else if is_none (plain_board bytes) then Some FieldForm
-    else None
+    if is_present frus place then Some Occupied else broken_rule (record_of bytes)
 refusal_of frus (Unplug place) = if is_present frus place then None else Some NotPresent

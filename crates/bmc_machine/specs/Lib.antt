@@ -1,3 +1,2 @@
-pub mod PlainBoards
 pub mod Histories
 pub mod Runs

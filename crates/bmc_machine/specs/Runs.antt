@@ -1,5 +1,5 @@
 -- The machine: it takes the items of a script in turn, and what it prints follows from what is present then.
-use Rattle.std.specs.Prelude.{ℕ, ◌+◌, Bool, true, false, List, [], ◌∷◌, ◌++◌, Option, Some, None, unwrap_or, Result, Ok, Err}
+use Rattle.std.specs.Prelude.{ℕ, ◌+◌, Bool, true, false, List, [], ◌∷◌, ◌++◌, Option, Some, None, Result, Ok, Err}
 use Rattle.std.specs.List.{list_any, flat_map}
 use Rattle.bmc_text.specs.Items.{Item, Line, LineTooLong, items_of, whole_items}
 use Rattle.bmc_script.specs.Commands.{command_of}
@@ -10,7 +10,9 @@ use Rattle.bmc_report.specs.Refusals.{refused_line}
 use Rattle.bmc_report.specs.Rows.{fru_row}
 use Rattle.bmc_report.specs.declared.refusal.Refusal.{Refusal}
 use Rattle.bmc_report.specs.declared.refusal.Refusal.TheVariants.{UnknownCommand}
-use Rattle.bmc_machine.specs.PlainBoards.{plain_board}
+use Rattle.fru_area.specs.declared.field.Field.{Field}
+use Rattle.fru_area.specs.declared.fault.FruFault.{FruFault}
+use Rattle.fru_record.specs.Records.{record_of}
 use Rattle.bmc_machine.specs.Histories.{Step, Plug, Unplug, Fru, present, refusal_of}
 
 -- what comes of an item
@@ -73,9 +75,13 @@ is_refused Nothing = false
 is_refused (Accepted step) = false
 is_refused (Refused refusal) = true
 
+abbrev pub fields_in : Result (List Field) FruFault → List Field
+fields_in (Ok fields) = fields
+fields_in (Err rule) = []
+
 -- the row of a FRU that is present, read from its bytes
 abbrev pub row_of : Fru → List ℕ
-row_of fru = fru_row fru.place (unwrap_or (plain_board fru.bytes) [])
+row_of fru = fru_row fru.place (fields_in (record_of fru.bytes))
 
 -- the final list
 unfoldable pub final_list : List Fru → List ℕ

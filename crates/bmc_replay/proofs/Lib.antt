@@ -1,4 +1,3 @@
-pub mod BoardFields
 pub mod KeptFrus
 pub mod Gathered
 pub mod Machine

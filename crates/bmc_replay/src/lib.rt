@@ -2,7 +2,6 @@
 //! that it writes what the machine of `bmc_machine` writes. The program stands on it.
 #![tactic(auto)]
 
-mod board;
 mod output;
 mod present;
 mod run;

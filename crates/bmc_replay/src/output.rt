@@ -7,11 +7,12 @@ ghost use Rattle.bmc_replay.specs.Kept.{frus_of};
 ghost use Rattle.bmc_replay.specs.Statuses.{WriteCause};
 ghost use Rattle.bmc_replay.specs.Gathering.{Gathers};
 
-use crate::board::read_plain_board;
 use crate::stop::Stop;
 use bmc_base::{Bytes, OutOfMemory, Place};
 use bmc_io::{IoFault, Sink, put_all};
 use bmc_report::push_fru_row;
+use fru_area::FruFault;
+use fru_record::FruRecord;
 use std::alloc::Global;
 use std::collections::BTreeMap;
 
@@ -51,9 +52,10 @@ fn push_row(
 ) -> Result<(), OutOfMemory>
     ensures { OnOk result (string_bytes text.new ≡ string_bytes text.old ++ row_of (record { place = place; bytes = bytes.now })) }
 {
-    match read_plain_board(alloc, bytes)? {
-        Some(fields) => push_fru_row(text, place, fields.as_slice()),
-        None => push_fru_row(text, place, &[]),
+    match FruRecord::decode(alloc, bytes) {
+        Ok(record) => push_fru_row(text, place, record.fields()),
+        Err(FruFault::OutOfMemory) => Err(OutOfMemory),
+        Err(_) => push_fru_row(text, place, &[]),
     }
 }
 

@@ -1,17 +1,20 @@
 ghost use Rattle.std.specs.Prelude.{◌≡◌, ◌<◌, ◌^◌, IfOk, OnOk};
 ghost use Rattle.bmc_text.specs.Items.{Line};
 ghost use Rattle.bmc_text.specs.Reading.{item_got};
+ghost use Rattle.fru_record.specs.Records.{record_of};
 ghost use Rattle.bmc_machine.specs.Histories as histories;
+ghost use Rattle.bmc_machine.specs.Histories.{broken_rule};
 ghost use Rattle.bmc_machine.specs.Runs.{command_outcome, item_outcome, step_outcome};
 ghost use Rattle.bmc_replay.specs.Steps.{Comes, CountsItem, IsNew, TakesGot};
 
-use crate::board::is_plain_board;
 use crate::output::GATHERED;
 use crate::present::Present;
 use bmc_base::{Bytes, OutOfMemory, Place};
 use bmc_report::{Refusal, push_refused_line};
 use bmc_script::{Command, ScriptFault};
 use bmc_text::Got;
+use fru_area::FruFault;
+use fru_record::FruRecord;
 use std::alloc::Global;
 
 /// A run of a script so far.
@@ -27,7 +30,19 @@ pub struct Run {
     pub refused: bool,
 }
 
+// The first rule that bytes break which are no record.
+fn broken_rule(alloc: Global, bytes: &[u8]) -> Result<Option<Refusal>, OutOfMemory>
+    ensures { IfOk result (λ rule. rule ≡ broken_rule (record_of bytes.now)) }
+{
+    match FruRecord::decode(alloc, bytes) {
+        Ok(_) => Ok(None),
+        Err(FruFault::OutOfMemory) => Err(OutOfMemory),
+        Err(rule) => Ok(Some(Refusal::Fru(rule))),
+    }
+}
+
 fn plug(
+    alloc: Global,
     present: &mut Present,
     place: Place,
     bytes: Bytes,
@@ -37,11 +52,11 @@ fn plug(
     if present.has(place) {
         return Ok(Some(Refusal::Occupied));
     }
-    if !is_plain_board(bytes.as_slice()) {
-        return Ok(Some(Refusal::FieldForm));
+    let rule = broken_rule(alloc, bytes.as_slice())?;
+    if rule.is_none() {
+        present.plug(place, bytes)?;
     }
-    present.plug(place, bytes)?;
-    Ok(None)
+    Ok(rule)
 }
 
 fn unplug(present: &mut Present, place: Place) -> Option<Refusal>
@@ -55,12 +70,16 @@ fn unplug(present: &mut Present, place: Place) -> Option<Refusal>
 }
 
 // Does what a command asks for, or answers why it is refused.
-fn obey(present: &mut Present, command: Command) -> Result<Option<Refusal>, OutOfMemory>
+fn obey(
+    alloc: Global,
+    present: &mut Present,
+    command: Command,
+) -> Result<Option<Refusal>, OutOfMemory>
     ensures { IfOk result (λ refusal. Comes (command_outcome present.old (Ok command)) refusal present.old present.new) }
 {
     match command {
         Command::Nothing => Ok(None),
-        Command::Plug(place, bytes) => plug(present, place, bytes),
+        Command::Plug(place, bytes) => plug(alloc, present, place, bytes),
         Command::Unplug(place) => Ok(unplug(present, place)),
     }
 }
@@ -74,7 +93,7 @@ fn take_line(
     ensures { IfOk result (λ refusal. Comes (item_outcome present.old (Line line.now)) refusal present.old present.new) }
 {
     match Command::read(alloc, line) {
-        Ok(command) => obey(present, command),
+        Ok(command) => obey(alloc, present, command),
         Err(ScriptFault::UnknownCommand) => Ok(Some(Refusal::UnknownCommand)),
         Err(ScriptFault::OutOfMemory) => Err(OutOfMemory),
     }

@@ -1,13 +1,37 @@
 -- Why lines are refused, as text.
 use Rattle.std.specs.Prelude.{ℕ, List, [], ◌∷◌, ◌++◌, codes, decimal}
+use Rattle.fru_area.specs.declared.fault.Area.{Area}
+use Rattle.fru_area.specs.declared.fault.Area.TheVariants.{Chassis, Board, Product}
+use Rattle.fru_area.specs.declared.fault.FruFault.{FruFault}
+use Rattle.fru_area.specs.declared.fault.FruFault.TheVariants.{FruShort, FruTooLong, HeaderVersion, HeaderChecksum, AreaOutside, AreaVersion, AreaLength, AreaChecksum, FieldOutside, NoEnd, OutOfMemory}
 use Rattle.bmc_report.specs.declared.refusal.Refusal.{Refusal}
-use Rattle.bmc_report.specs.declared.refusal.Refusal.TheVariants.{UnknownCommand, Occupied, FieldForm, NotPresent}
+use Rattle.bmc_report.specs.declared.refusal.Refusal.TheVariants.{UnknownCommand, Occupied, Fru, NotPresent}
+
+-- the name of an area
+unfoldable pub area_text : Area → List ℕ
+area_text Chassis = codes "Chassis"
+area_text Board = codes "Board"
+area_text Product = codes "Product"
+
+-- the name of a rule that a record breaks, with its area if it is a rule on areas
+unfoldable pub rule_text : FruFault → List ℕ
+rule_text FruShort = codes "FruShort"
+rule_text FruTooLong = codes "FruTooLong"
+rule_text HeaderVersion = codes "HeaderVersion"
+rule_text HeaderChecksum = codes "HeaderChecksum"
+rule_text (AreaOutside area) = codes "AreaOutside " ++ area_text area
+rule_text (AreaVersion area) = codes "AreaVersion " ++ area_text area
+rule_text (AreaLength area) = codes "AreaLength " ++ area_text area
+rule_text (AreaChecksum area) = codes "AreaChecksum " ++ area_text area
+rule_text (FieldOutside area) = codes "FieldOutside " ++ area_text area
+rule_text (NoEnd area) = codes "NoEnd " ++ area_text area
+rule_text OutOfMemory = codes "OutOfMemory"
 
 -- the name of a refusal
 unfoldable pub refusal_text : Refusal → List ℕ
 refusal_text UnknownCommand = codes "UnknownCommand"
 refusal_text Occupied = codes "Occupied"
-refusal_text FieldForm = codes "FieldForm"
+refusal_text (Fru rule) = rule_text rule
 refusal_text NotPresent = codes "NotPresent"
 
 -- what is printed of a line, by its number, that is refused

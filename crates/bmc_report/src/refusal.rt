@@ -1,7 +1,8 @@
 ghost use Rattle.std.specs.Prelude.{◌≡◌, ◌++◌, Some, OnOk, string_bytes};
-ghost use Rattle.bmc_report.specs.Refusals.{refusal_text, refused_line};
+ghost use Rattle.bmc_report.specs.Refusals.{area_text, rule_text, refusal_text, refused_line};
 
 use bmc_base::OutOfMemory;
+use fru_area::{Area, FruFault};
 use std::fmt;
 use std::fmt::Write;
 
@@ -12,10 +13,52 @@ pub enum Refusal {
     UnknownCommand,
     /// A FRU is at the place already.
     Occupied,
-    /// The bytes are no plain board record.
-    FieldForm,
+    /// The bytes are no FRU record: the first rule that they break. For want of memory no line is refused.
+    Fru(FruFault),
     /// No FRU is at the place.
     NotPresent,
+}
+
+// The name of an area.
+#[derive(Clone, Copy)]
+struct AreaName(Area);
+
+#[tactic(auto, unfolding(crate::specs::Refusals::area_text))]
+impl fmt::Display for AreaName {
+    ghost output = { λ name. Some (area_text name.0) };
+
+    fn fmt<W: fmt::Write>(&self, f: &mut fmt::Formatter<W>) -> fmt::Result {
+        match self.0 {
+            Area::Chassis => write!(f, "Chassis"),
+            Area::Board => write!(f, "Board"),
+            Area::Product => write!(f, "Product"),
+        }
+    }
+}
+
+// The name of a rule that a record breaks, with its area if it is a rule on areas.
+#[derive(Clone, Copy)]
+struct Rule(FruFault);
+
+#[tactic(auto, unfolding(crate::specs::Refusals::rule_text))]
+impl fmt::Display for Rule {
+    ghost output = { λ rule. Some (rule_text rule.0) };
+
+    fn fmt<W: fmt::Write>(&self, f: &mut fmt::Formatter<W>) -> fmt::Result {
+        match self.0 {
+            FruFault::FruShort => write!(f, "FruShort"),
+            FruFault::FruTooLong => write!(f, "FruTooLong"),
+            FruFault::HeaderVersion => write!(f, "HeaderVersion"),
+            FruFault::HeaderChecksum => write!(f, "HeaderChecksum"),
+            FruFault::AreaOutside(area) => write!(f, "AreaOutside {}", AreaName(area)),
+            FruFault::AreaVersion(area) => write!(f, "AreaVersion {}", AreaName(area)),
+            FruFault::AreaLength(area) => write!(f, "AreaLength {}", AreaName(area)),
+            FruFault::AreaChecksum(area) => write!(f, "AreaChecksum {}", AreaName(area)),
+            FruFault::FieldOutside(area) => write!(f, "FieldOutside {}", AreaName(area)),
+            FruFault::NoEnd(area) => write!(f, "NoEnd {}", AreaName(area)),
+            FruFault::OutOfMemory => write!(f, "OutOfMemory"),
+        }
+    }
 }
 
 #[tactic(auto, unfolding(crate::specs::Refusals::refusal_text))]
@@ -26,7 +69,7 @@ impl fmt::Display for Refusal {
         match self {
             Refusal::UnknownCommand => write!(f, "UnknownCommand"),
             Refusal::Occupied => write!(f, "Occupied"),
-            Refusal::FieldForm => write!(f, "FieldForm"),
+            Refusal::Fru(fault) => write!(f, "{}", Rule(*fault)),
             Refusal::NotPresent => write!(f, "NotPresent"),
         }
     }
