@@ -1,3 +1,4 @@
 pub mod DateTexts
 pub mod Days
 pub mod Reading
+pub mod Spelled

@@ -55,7 +55,7 @@ pub fields_at-absent : (area : Area) (bytes : List ℕ) (offset : ℕ) (none : L
 unfolding fields_at
 fields_at-absent area bytes offset none z n = rw (z, n) refl
 
-fields_at-placed : (area : Area) (bytes : List ℕ) (offset : ℕ) → offset ≢ 0 → fields_at area bytes offset ≡ (area_at area bytes (8 * offset) >>= fields_of_area area)
+pub fields_at-placed : (area : Area) (bytes : List ℕ) (offset : ℕ) → offset ≢ 0 → fields_at area bytes offset ≡ (area_at area bytes (8 * offset) >>= fields_of_area area)
 unfolding fields_at
 fields_at-placed area bytes offset ne = rw (ne_eqb offset 0 ne) refl
 

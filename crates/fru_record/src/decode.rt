@@ -1,6 +1,7 @@
-ghost use Rattle.std.specs.Prelude.{◌≡◌, ◌≤◌, ◌<◌, ◌^◌, ◌==◌, ◌||◌, length, option_map, option_to_list, IfOk};
+ghost use Rattle.std.specs.Prelude.{◌≡◌, ◌≤◌, ◌<◌, ◌^◌, ◌==◌, ◌||◌, length, option_map, option_copied, option_to_list, bytes_eq, find, IfOk};
 ghost use Rattle.fru_area.specs.Answers.{Gives};
 ghost use Rattle.fru_area.specs.Areas.{area_fields};
+ghost use Rattle.fru_area.specs.Names.{name_text};
 ghost use Rattle.fru_record.specs.Dates.{minutes_of};
 ghost use Rattle.fru_record.specs.Records.{record_of, names_of, fields_start, is_english, fixed_fields, fields_of_area, fields_at};
 ghost use Rattle.fru_record.specs.Lookups.{text_named};
@@ -53,9 +54,18 @@ impl FruRecord {
     pub fn field(&self, name: &str) -> Option<&str>
         ensures { option_map (λ text. text.now) result ≡ text_named self.now name.now }
     {
-        let _ = name;
-        None
+        let field = find_field(self.fields.as_slice(), name)?;
+        Some(field.text.as_str())
     }
+}
+
+// The first field with this name.
+fn find_field<'a>(fields: &'a [Field], name: &str) -> Option<&'a Field>
+    ensures { option_copied result ≡ find (λ field. bytes_eq (name_text field.name) name.now) fields.now }
+{
+    fields
+        .iter()
+        .find(|field| field.name.text().as_str() == name)
 }
 
 // The fields of the area that begins at this offset, in multiples of 8 bytes; at 0 it is absent.

@@ -1,0 +1,176 @@
+-- What is read of a record is what its bytes spell.
+use Rattle.std.proofs.Common.{◌≡◌, ◌≢◌, ◌≤◌, ◌+◌, ◌*◌, ℕ, List, [], ◌++◌, length, take, Bool, true, false, not, cond, eq-eqb, nat_eq, nat_lt, slice_index, slice_range, Result, Ok, Err, refl, ap, ap₂, sym, subst, ◌∙◌, arith}
+use Rattle.std.proofs.lemmas.Bool.{eqb-true, ne_eqb, ltb-false, le-ltb}
+use Rattle.std.specs.Prelude.{◌||◌}
+use Rattle.fru_area.specs.Areas.{named, named_ok, area_fields}
+use Rattle.fru_area.specs.Headers.{header, area_at, area_end, checksum}
+use Rattle.fru_area.specs.Walks.{Raw, Spells, raw_fields, field_bytes}
+use Rattle.fru_area.specs.declared.fault.Area.{Area}
+use Rattle.fru_area.specs.declared.fault.Area.TheVariants.{Chassis, Board, Product}
+use Rattle.fru_area.specs.declared.fault.FruFault.{FruFault}
+use Rattle.fru_area.specs.declared.field.Field.{Field}
+use Rattle.fru_area.specs.declared.header.Header.{Header}
+use Rattle.fru_area.proofs.Spelled.{Spells-raw_fields, raw_fields-Spells}
+use Rattle.fru_record.specs.Records.{names_of, fields_start, is_english, fixed_fields, fields_of_area, fields_at, fields_under, record_of, ◌>>=◌}
+use Rattle.fru_record.specs.Spellings.{SpellsArea, SpellsPart, absent, present, SpellsRecord}
+use Rattle.fru_record.proofs.Reading.{named_of, fields_of_area-ok, fields_at-absent, fields_at-placed, fields_at-present, record_of-header, fields_under-ok}
+
+then_parts : {X Y : Type 0} (r : Result X FruFault) (f : X → Result Y FruFault) (y : Y) → (r >>= f) ≡ Ok y → (x : X) × (r ≡ Ok x) × (f x ≡ Ok y)
+then_parts (Ok x) f y h = (x, refl, h)
+then_parts (Err fault) f y h = absurd (cc)
+
+-- a rule that is kept
+kept : {X : Type 0} (broken : Bool) (fault : FruFault) (rest : Result X FruFault) (x : X) → cond broken (Err fault) rest ≡ Ok x → (broken ≡ false) × (rest ≡ Ok x)
+kept true fault rest x h = absurd (cc)
+kept false fault rest x h = (refl, h)
+
+true-not : (b : Bool) → not b ≡ false → b ≡ true
+true-not true h = refl
+true-not false h = absurd (cc)
+
+both_false : (a b : Bool) → (a || b) ≡ false → (a ≡ false) × (b ≡ false)
+both_false true b h = absurd (cc)
+both_false false b h = (refl, h)
+
+unequal : (m n : ℕ) → nat_eq m n ≡ false → m ≢ n
+unequal m n e h = let yes : nat_eq m n ≡ true = rw h (eq-eqb n n refl) in absurd (cc)
+
+inner : {X : Type 0} (x y : X) → (let r : Result X FruFault = Ok x in r ≡ Ok y) → x ≡ y
+inner x y e = cc
+
+-- the header of bytes that keep its rules
+abbrev header_of : List ℕ → Header
+header_of bytes = record { chassis = slice_index bytes 2; board = slice_index bytes 3; product = slice_index bytes 4; multi = slice_index bytes 5 }
+
+pub record HasHeader (bytes : List ℕ) : Type 0 where
+  least : 8 ≤ length bytes
+  most : length bytes ≤ 4096
+  version : slice_index bytes 0 ≡ 1
+  sum : checksum (take 8 bytes) ≡ 0
+
+HasHeader-read : (bytes : List ℕ) (at : Header) → header bytes ≡ Ok at → HasHeader bytes × (at ≡ header_of bytes)
+unfolding header
+HasHeader-read bytes at h =
+    let short = kept (nat_lt (length bytes) 8) _ _ _ h in
+    let long = kept (nat_lt 4096 (length bytes)) _ _ _ short.1 in
+    let version = kept (not (nat_eq (slice_index bytes 0) 1)) _ _ _ long.1 in
+    let sum = kept (not (nat_eq (checksum (take 8 bytes)) 0)) _ _ _ version.1 in
+    (record {
+      least = ltb-false (length bytes) 8 short.0;
+      most = ltb-false 4096 (length bytes) long.0;
+      version = eqb-true (slice_index bytes 0) 1 (true-not _ version.0);
+      sum = eqb-true (checksum (take 8 bytes)) 0 (true-not _ sum.0);
+    }, sym (inner (header_of bytes) at sum.1))
+
+pub read-HasHeader : (bytes : List ℕ) → 8 ≤ length bytes → length bytes ≤ 4096 → slice_index bytes 0 ≡ 1 → checksum (take 8 bytes) ≡ 0 → header bytes ≡ Ok (header_of bytes)
+unfolding header
+read-HasHeader bytes least most version sum =
+    rw (le-ltb (length bytes) 8 least, le-ltb 4096 (length bytes) most, eq-eqb (slice_index bytes 0) 1 version, eq-eqb (checksum (take 8 bytes)) 0 sum) refl
+
+pub record IsArea (bytes : List ℕ) (s : ℕ) : Type 0 where
+  head : s + 8 ≤ length bytes
+  inside : area_end bytes s ≤ length bytes
+  version : slice_index bytes s ≡ 1
+  size : slice_index bytes (s + 1) ≢ 0
+  sum : checksum (slice_range bytes s (area_end bytes s)) ≡ 0
+
+IsArea-read : (area : Area) (bytes found : List ℕ) (s : ℕ) → area_at area bytes s ≡ Ok found → IsArea bytes s × (found ≡ slice_range bytes s (area_end bytes s))
+unfolding area_at
+IsArea-read area bytes found s h =
+    let outside = kept (nat_lt (length bytes) (s + 8) || nat_lt (length bytes) (area_end bytes s)) _ _ _ h in
+    let ends = both_false (nat_lt (length bytes) (s + 8)) (nat_lt (length bytes) (area_end bytes s)) outside.0 in
+    let version = kept (not (nat_eq (slice_index bytes s) 1)) _ _ _ outside.1 in
+    let size = kept (nat_eq (slice_index bytes (s + 1)) 0) _ _ _ version.1 in
+    let sum = kept (not (nat_eq (checksum (slice_range bytes s (area_end bytes s))) 0)) _ _ _ size.1 in
+    (record {
+      head = ltb-false (length bytes) (s + 8) ends.0;
+      inside = ltb-false (length bytes) (area_end bytes s) ends.1;
+      version = eqb-true (slice_index bytes s) 1 (true-not _ version.0);
+      size = unequal (slice_index bytes (s + 1)) 0 size.0;
+      sum = eqb-true (checksum (slice_range bytes s (area_end bytes s))) 0 (true-not _ sum.0);
+    }, sym (inner (slice_range bytes s (area_end bytes s)) found sum.1))
+
+pub read-IsArea : (area : Area) (bytes : List ℕ) (s : ℕ) → s + 8 ≤ length bytes → area_end bytes s ≤ length bytes → slice_index bytes s ≡ 1 → slice_index bytes (s + 1) ≢ 0 → checksum (slice_range bytes s (area_end bytes s)) ≡ 0 → area_at area bytes s ≡ Ok (slice_range bytes s (area_end bytes s))
+unfolding area_at
+read-IsArea area bytes s head inside version size sum =
+    rw (le-ltb (length bytes) (s + 8) head, le-ltb (length bytes) (area_end bytes s) inside, eq-eqb (slice_index bytes s) 1 version, ne_eqb (slice_index bytes (s + 1)) 0 size, eq-eqb (checksum (slice_range bytes s (area_end bytes s))) 0 sum) refl
+
+named_parts : (area : Area) (bytes : List ℕ) (fields : List Field) (r : Result (List Raw) FruFault) → named_ok area (is_english area bytes) (names_of area) r ≡ Ok fields → (raws : List Raw) × (r ≡ Ok raws) × (fields ≡ named area (is_english area bytes) (names_of area) 1 raws)
+named_parts area bytes fields (Ok raws) h = (raws, refl, sym (inner (named area (is_english area bytes) (names_of area) 1 raws) fields h))
+named_parts area bytes fields (Err fault) h = absurd (cc)
+
+area_parts : (area : Area) (bytes : List ℕ) (fields : List Field) → fields_of_area area bytes ≡ Ok fields → (raws : List Raw) × Spells (field_bytes bytes (fields_start area)) raws × (fields ≡ fixed_fields area bytes ++ named area (is_english area bytes) (names_of area) 1 raws)
+unfolding fields_of_area area_fields
+area_parts area bytes fields h =
+    let t = then_parts (named_of area bytes) (λ (fields : List Field). Ok (fixed_fields area bytes ++ fields)) fields h in
+    let n = named_parts area bytes t.0 (raw_fields area bytes (fields_start area)) t.1 in
+    (n.0, Spells-raw_fields area bytes (fields_start area) n.0 n.1, sym (inner (fixed_fields area bytes ++ t.0) fields t.2) ∙ ap (λ (fs : List Field). fixed_fields area bytes ++ fs) n.2)
+
+pub area_whole : (area : Area) (bytes : List ℕ) (raws : List Raw) → Spells (field_bytes bytes (fields_start area)) raws → fields_of_area area bytes ≡ Ok (fixed_fields area bytes ++ named area (is_english area bytes) (names_of area) 1 raws)
+unfolding area_fields
+area_whole area bytes raws s =
+    fields_of_area-ok area bytes (fixed_fields area bytes) (named area (is_english area bytes) (names_of area) 1 raws) _ refl
+    (ap (named_ok area (is_english area bytes) (names_of area)) (raw_fields-Spells area bytes (fields_start area) raws s)) refl
+
+part_read : (area : Area) (bytes : List ℕ) (offset : ℕ) (fields : List Field) (none : Bool) → nat_eq offset 0 ≡ none → fields_at area bytes offset ≡ Ok fields → SpellsPart area bytes offset fields
+part_read area bytes offset fields true z h =
+    let zero_offset : offset ≡ 0 = eqb-true offset 0 z in
+    let none : fields ≡ [] = inner fields [] (sym h ∙ fields_at-absent area bytes offset [] zero_offset refl) in
+    rw (zero_offset, none) absent
+part_read area bytes offset fields false z h =
+    let ne = unequal offset 0 z in
+    let t = then_parts (area_at area bytes (8 * offset)) (fields_of_area area) fields (sym (fields_at-placed area bytes offset ne) ∙ h) in
+    let a = IsArea-read area bytes t.0 (8 * offset) t.1 in
+    let p = area_parts area (slice_range bytes (8 * offset) (area_end bytes (8 * offset))) fields (rw a.1 at t.2) in
+    present offset fields ne (record {
+      head = a.0.head;
+      inside = a.0.inside;
+      version = a.0.version;
+      size = a.0.size;
+      sum = a.0.sum;
+      raws = p.0;
+      spelled = p.1;
+      named_so = p.2;
+    })
+
+read_area_part : (area : Area) (bytes : List ℕ) (offset : ℕ) (fields : List Field) → offset ≢ 0 → SpellsArea area bytes (8 * offset) fields → fields_at area bytes offset ≡ Ok fields
+read_area_part area bytes offset fields ne a =
+    fields_at-present area bytes _ offset ne (read-IsArea area bytes (8 * offset) a.head a.inside a.version a.size a.sum)
+    ∙ area_whole area (slice_range bytes (8 * offset) (area_end bytes (8 * offset))) a.raws a.spelled
+    ∙ ap Ok (sym a.named_so)
+
+pub read_part : (area : Area) (bytes : List ℕ) (offset : ℕ) (fields : List Field) → SpellsPart area bytes offset fields → fields_at area bytes offset ≡ Ok fields
+read_part area bytes _ _ absent = fields_at-absent area bytes 0 [] refl refl
+read_part area bytes _ _ (present offset fields ne a) = read_area_part area bytes offset fields ne a
+
+pub record-spelled : (bytes : List ℕ) (fields : List Field) → record_of bytes ≡ Ok fields → SpellsRecord bytes fields
+unfolding record_of fields_under
+record-spelled bytes fields h =
+    let t = then_parts (header bytes) (fields_under bytes) fields h in
+    let hd = HasHeader-read bytes t.0 t.1 in
+    let under = rw hd.1 at t.2 in
+    let c = then_parts (fields_at Chassis bytes (slice_index bytes 2)) _ fields under in
+    let b = then_parts (fields_at Board bytes (slice_index bytes 3)) _ fields c.2 in
+    let p = then_parts (fields_at Product bytes (slice_index bytes 4)) _ fields b.2 in
+    record {
+      least = hd.0.least;
+      most = hd.0.most;
+      version = hd.0.version;
+      sum = hd.0.sum;
+      chassis = c.0;
+      board = b.0;
+      product = p.0;
+      chassis_part = part_read Chassis bytes _ c.0 _ refl c.1;
+      board_part = part_read Board bytes _ b.0 _ refl b.1;
+      product_part = part_read Product bytes _ p.0 _ refl p.1;
+      joined = sym (inner (c.0 ++ b.0 ++ p.0) fields p.2);
+    }
+
+pub spelled-record : (bytes : List ℕ) (fields : List Field) → SpellsRecord bytes fields → record_of bytes ≡ Ok fields
+spelled-record bytes fields s =
+    record_of-header bytes (header_of bytes) (read-HasHeader bytes s.least s.most s.version s.sum)
+    ∙ fields_under-ok bytes (header_of bytes) s.chassis s.board s.product (read_part Chassis bytes _ _ s.chassis_part) (read_part Board bytes _ _ s.board_part) (read_part Product bytes _ _ s.product_part)
+    ∙ ap Ok (sym s.joined)
+
+pub spelled-one : (bytes : List ℕ) (fields others : List Field) → SpellsRecord bytes fields → SpellsRecord bytes others → fields ≡ others
+spelled-one bytes fields others s t = inner fields others (sym (spelled-record bytes fields s) ∙ spelled-record bytes others t)
