@@ -3,5 +3,4 @@ pub mod Records
 pub mod Lookups
 pub mod Spellings
 pub mod Parts
-pub mod Building
 pub mod Views

@@ -2,13 +2,11 @@
 //! their fields, or refused by the first rule that they break, and built of parts. It stands on the areas of `fru_area`.
 #![tactic(auto)]
 
-mod builder;
 mod date;
 mod decode;
 mod law;
 mod parts;
 
-pub use builder::{BuildFault, build};
 pub use decode::FruRecord;
-pub use law::{built_is_read, one_record};
+pub use law::one_record;
 pub use parts::{BoardPart, ChassisPart, FieldTexts, Parts, ProductPart};
