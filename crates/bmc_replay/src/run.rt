@@ -1,9 +1,7 @@
 ghost use Rattle.std.specs.Prelude.{◌≡◌, ◌<◌, ◌^◌, IfOk, OnOk};
 ghost use Rattle.bmc_text.specs.Items.{Line};
 ghost use Rattle.bmc_text.specs.Reading.{item_got};
-ghost use Rattle.fru_record.specs.Records.{record_of};
 ghost use Rattle.bmc_machine.specs.Histories as histories;
-ghost use Rattle.bmc_machine.specs.Histories.{broken_rule};
 ghost use Rattle.bmc_machine.specs.Runs.{command_outcome, item_outcome, step_outcome};
 ghost use Rattle.bmc_replay.specs.Steps.{Comes, CountsItem, IsNew, TakesGot};
 
@@ -13,8 +11,7 @@ use bmc_base::{Bytes, OutOfMemory, Place};
 use bmc_report::{Refusal, push_refused_line};
 use bmc_script::{Command, ScriptFault};
 use bmc_text::Got;
-use fru_area::FruFault;
-use fru_record::FruRecord;
+use fru_record::check_record;
 use std::alloc::Global;
 
 /// A run of a script so far.
@@ -30,19 +27,7 @@ pub struct Run {
     pub refused: bool,
 }
 
-// The first rule that bytes break which are no record.
-fn broken_rule(alloc: Global, bytes: &[u8]) -> Result<Option<Refusal>, OutOfMemory>
-    ensures { IfOk result (λ rule. rule ≡ broken_rule (record_of bytes.now)) }
-{
-    match FruRecord::decode(alloc, bytes) {
-        Ok(_) => Ok(None),
-        Err(FruFault::OutOfMemory) => Err(OutOfMemory),
-        Err(rule) => Ok(Some(Refusal::Fru(rule))),
-    }
-}
-
 fn plug(
-    alloc: Global,
     present: &mut Present,
     place: Place,
     bytes: Bytes,
@@ -52,11 +37,11 @@ fn plug(
     if present.has(place) {
         return Ok(Some(Refusal::Occupied));
     }
-    let rule = broken_rule(alloc, bytes.as_slice())?;
-    if rule.is_none() {
-        present.plug(place, bytes)?;
+    if let Err(rule) = check_record(bytes.as_slice()) {
+        return Ok(Some(Refusal::Fru(rule)));
     }
-    Ok(rule)
+    present.plug(place, bytes)?;
+    Ok(None)
 }
 
 fn unplug(present: &mut Present, place: Place) -> Option<Refusal>
@@ -70,16 +55,12 @@ fn unplug(present: &mut Present, place: Place) -> Option<Refusal>
 }
 
 // Does what a command asks for, or answers why it is refused.
-fn obey(
-    alloc: Global,
-    present: &mut Present,
-    command: Command,
-) -> Result<Option<Refusal>, OutOfMemory>
+fn obey(present: &mut Present, command: Command) -> Result<Option<Refusal>, OutOfMemory>
     ensures { IfOk result (λ refusal. Comes (command_outcome present.old (Ok command)) refusal present.old present.new) }
 {
     match command {
         Command::Nothing => Ok(None),
-        Command::Plug(place, bytes) => plug(alloc, present, place, bytes),
+        Command::Plug(place, bytes) => plug(present, place, bytes),
         Command::Unplug(place) => Ok(unplug(present, place)),
     }
 }
@@ -93,7 +74,7 @@ fn take_line(
     ensures { IfOk result (λ refusal. Comes (item_outcome present.old (Line line.now)) refusal present.old present.new) }
 {
     match Command::read(alloc, line) {
-        Ok(command) => obey(alloc, present, command),
+        Ok(command) => obey(present, command),
         Err(ScriptFault::UnknownCommand) => Ok(Some(Refusal::UnknownCommand)),
         Err(ScriptFault::OutOfMemory) => Err(OutOfMemory),
     }

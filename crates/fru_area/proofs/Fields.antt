@@ -1,16 +1,15 @@
 -- The fields so far, and those of the bytes that are left.
-use Rattle.std.proofs.Common.{Bool, true, false, ◌&&◌, ◌≢◌, eq-eqb, refl, ◌≡◌, ℕ, zero, suc, ◌+◌, ◌<◌, ◌≤◌, List, [], ◌∷◌, ◌++◌, length, Result, Ok, Err, Option, Some, None, arith, ap, sym, ◌∙◌, append_assoc, append-nil}
-use Rattle.std.specs.List.{list_all}
-use Rattle.std.proofs.lemmas.Bool.{ne_eqb}
+use Rattle.std.proofs.Common.{Bool, refl, ◌≡◌, ℕ, zero, suc, ◌+◌, ◌<◌, ◌≤◌, List, [], ◌∷◌, ◌++◌, length, Result, Ok, Err, Option, Some, None, arith, ap, sym, ◌∙◌, append_assoc, append-nil}
+use Rattle.std.specs.Prelude.{⊤}
 use Rattle.fru_area.specs.declared.area.NextName.{NextName}
 use Rattle.fru_area.specs.declared.fault.Area.{Area}
 use Rattle.fru_area.specs.declared.fault.FruFault.{FruFault}
 use Rattle.fru_area.specs.declared.fault.FruFault.TheVariants as faults
 use Rattle.fru_area.specs.declared.field.Field.{Field}
 use Rattle.fru_area.specs.declared.name.FieldName.{FieldName}
-use Rattle.fru_area.specs.Answers.{GivesFault}
-use Rattle.fru_area.specs.Areas.{named, named_field, named_ok, area_fields, all_text}
-use Rattle.fru_area.specs.Texts.{text_of, is_text}
+use Rattle.fru_area.specs.Answers.{GivesFault, checked}
+use Rattle.fru_area.specs.Areas.{named, named_field, named_ok, area_fields}
+use Rattle.fru_area.specs.Texts.{text_of}
 use Rattle.fru_area.specs.Views.{IsNext}
 use Rattle.fru_area.specs.Walks.{Raw, walk, first_field, field_then, with_field, raw_fields, field_bytes}
 
@@ -18,47 +17,40 @@ walk_more : (area : Area) (most : ℕ) (bytes : List ℕ) (r : Result (Option (R
 unfolding walk
 walk_more area most bytes r e = ap (field_then (walk area most)) e
 
--- The fields before these bytes are text, and whether all are comes from the rest.
-pub record AllTextSoFar (area : Area) (bytes : List ℕ) (all : Bool) : Type 0 where
+-- The fields before these bytes break no rule, and what a check of the area answers comes from the rest.
+pub record SoundSoFar (area : Area) (bytes : List ℕ) (answer : Result ⊤ FruFault) : Type 0 where
   pub most : ℕ
   pub enough : length bytes < most
-  pub comes : all_text (walk area most bytes) ≡ all
+  pub comes : checked (walk area most bytes) ≡ answer
 
-pub AllTextSoFar-start : (area : Area) (bytes all : List ℕ) (start : ℕ) → bytes ≡ field_bytes all start → length bytes ≤ length all → AllTextSoFar area bytes (all_text (raw_fields area all start))
+pub SoundSoFar-start : (area : Area) (bytes all : List ℕ) (start : ℕ) → bytes ≡ field_bytes all start → length bytes ≤ length all → SoundSoFar area bytes (checked (raw_fields area all start))
 unfolding raw_fields
-AllTextSoFar-start area bytes all start e l = record { most = length all + 1; enough = omega arith; comes = ap (λ (b : List ℕ). all_text (walk area (length all + 1) b)) e }
+SoundSoFar-start area bytes all start e l = record { most = length all + 1; enough = omega arith; comes = ap (λ (b : List ℕ). checked (walk area (length all + 1) b)) e }
 
-all_text-with_text : (raw : Raw) (r : Result (List Raw) FruFault) → raw.kind ≡ 3 → all_text (with_field raw r) ≡ all_text r
-all_text-with_text raw (Ok raws) h = ap (λ b. b && list_all is_text raws) (eq-eqb raw.kind 3 h)
-all_text-with_text raw (Err fault) h = refl
+checked-with_field : (raw : Raw) (r : Result (List Raw) FruFault) → checked (with_field raw r) ≡ checked r
+checked-with_field raw (Ok raws) = refl
+checked-with_field raw (Err fault) = refl
 
-all_text-with_other : (raw : Raw) (r : Result (List Raw) FruFault) → raw.kind ≢ 3 → all_text (with_field raw r) ≡ false
-all_text-with_other raw (Ok raws) h = ap (λ b. b && list_all is_text raws) (ne_eqb raw.kind 3 h)
-all_text-with_other raw (Err fault) h = refl
-
-pub AllTextSoFar-text : (area : Area) (bytes rest : List ℕ) (raw : Raw) (all : Bool) → first_field area bytes ≡ Ok (Some (raw, rest)) → length rest < length bytes → raw.kind ≡ 3 → AllTextSoFar area bytes all → AllTextSoFar area rest all
-AllTextSoFar-text area bytes rest raw all e l k h = from h.most h.enough h.comes
+pub SoundSoFar-field : (area : Area) (bytes rest : List ℕ) (raw : Raw) (answer : Result ⊤ FruFault) → first_field area bytes ≡ Ok (Some (raw, rest)) → length rest < length bytes → SoundSoFar area bytes answer → SoundSoFar area rest answer
+SoundSoFar-field area bytes rest raw answer e l h = from h.most h.enough h.comes
   where
-    from : (most : ℕ) → length bytes < most → all_text (walk area most bytes) ≡ all → AllTextSoFar area rest all
+    from : (most : ℕ) → length bytes < most → checked (walk area most bytes) ≡ answer → SoundSoFar area rest answer
     from zero enough comes = absurd (omega arith)
-    from (suc m) enough comes = record { most = m; enough = omega arith; comes = sym (all_text-with_text raw (walk area m rest) k) ∙ sym (ap all_text (walk_more area m bytes _ e)) ∙ comes }
+    from (suc m) enough comes = record { most = m; enough = omega arith; comes = sym (checked-with_field raw (walk area m rest)) ∙ sym (ap checked (walk_more area m bytes _ e)) ∙ comes }
 
--- what a field, the end or a broken rule at the front decides
-decides : (area : Area) (bytes : List ℕ) (all answer : Bool) (r : Result (Option (Raw × List ℕ)) FruFault) → first_field area bytes ≡ r → ((m : ℕ) → all_text (field_then (walk area m) r) ≡ answer) → AllTextSoFar area bytes all → answer ≡ all
+-- the end or a broken rule at the front decides
+decides : (area : Area) (bytes : List ℕ) (all answer : Result ⊤ FruFault) (r : Result (Option (Raw × List ℕ)) FruFault) → first_field area bytes ≡ r → ((m : ℕ) → checked (field_then (walk area m) r) ≡ answer) → SoundSoFar area bytes all → answer ≡ all
 decides area bytes all answer r e step h = from h.most h.enough h.comes
   where
-    from : (most : ℕ) → length bytes < most → all_text (walk area most bytes) ≡ all → answer ≡ all
+    from : (most : ℕ) → length bytes < most → checked (walk area most bytes) ≡ all → answer ≡ all
     from zero enough comes = absurd (omega arith)
-    from (suc m) enough comes = sym (step m) ∙ sym (ap all_text (walk_more area m bytes _ e)) ∙ comes
+    from (suc m) enough comes = sym (step m) ∙ sym (ap checked (walk_more area m bytes _ e)) ∙ comes
 
-pub AllTextSoFar-other : (area : Area) (bytes rest : List ℕ) (raw : Raw) (all : Bool) → first_field area bytes ≡ Ok (Some (raw, rest)) → raw.kind ≢ 3 → AllTextSoFar area bytes all → false ≡ all
-AllTextSoFar-other area bytes rest raw all e k h = decides area bytes all false _ e (λ m. all_text-with_other raw (walk area m rest) k) h
+pub SoundSoFar-end : (area : Area) (bytes : List ℕ) (all : Result ⊤ FruFault) → first_field area bytes ≡ Ok None → SoundSoFar area bytes all → Ok tt ≡ all
+SoundSoFar-end area bytes all e h = decides area bytes all (Ok tt) _ e (λ m. refl) h
 
-pub AllTextSoFar-end : (area : Area) (bytes : List ℕ) (all : Bool) → first_field area bytes ≡ Ok None → AllTextSoFar area bytes all → true ≡ all
-AllTextSoFar-end area bytes all e h = decides area bytes all true _ e (λ m. refl) h
-
-pub AllTextSoFar-fault : (area : Area) (bytes : List ℕ) (all : Bool) (fault : FruFault) → first_field area bytes ≡ Err fault → AllTextSoFar area bytes all → false ≡ all
-AllTextSoFar-fault area bytes all fault e h = decides area bytes all false _ e (λ m. refl) h
+pub SoundSoFar-fault : (area : Area) (bytes : List ℕ) (all : Result ⊤ FruFault) (fault : FruFault) → first_field area bytes ≡ Err fault → SoundSoFar area bytes all → Err fault ≡ all
+SoundSoFar-fault area bytes all fault e h = decides area bytes all (Err fault) _ e (λ m. refl) h
 
 -- these fields, and then those that reading the rest gives under the names and the number that are left
 abbrev pub so_far : Area → Bool → List FieldName → ℕ → List Field → Result (List Raw) FruFault → Result (List Field) FruFault

@@ -17,3 +17,8 @@ Gives (Err fault) read = GivesFault fault read
 abbrev pub seen : {X Y : Type 0} → (X → Y) → Result X FruFault → Result Y FruFault
 seen view (Ok x) = Ok (view x)
 seen view (Err fault) = Err fault
+
+-- whether reading gives something, or its fault
+abbrev pub checked : {X : Type 0} → Result X FruFault → Result ⊤ FruFault
+checked (Ok x) = Ok tt
+checked (Err fault) = Err fault

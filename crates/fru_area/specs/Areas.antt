@@ -1,8 +1,7 @@
 -- The named fields of an information area.
 use Rattle.std.specs.Prelude.{ℕ, ◌+◌, Bool, false, List, [], ◌∷◌, Result, Ok, Err}
-use Rattle.std.specs.List.{list_all}
 use Rattle.fru_area.specs.Walks.{Raw, raw_fields}
-use Rattle.fru_area.specs.Texts.{text_of, is_text}
+use Rattle.fru_area.specs.Texts.{text_of}
 use Rattle.fru_area.specs.declared.fault.Area.{Area}
 use Rattle.fru_area.specs.declared.fault.FruFault.{FruFault}
 use Rattle.fru_area.specs.declared.name.FieldName.{FieldName}
@@ -25,8 +24,3 @@ named_ok area english names (Err fault) = Err fault
 -- the fields of a whole area from byte `start`, or the first rule that is broken
 unfoldable pub area_fields : Area → Bool → List FieldName → List ℕ → ℕ → Result (List Field) FruFault
 area_fields area english names bytes start = named_ok area english names (raw_fields area bytes start)
-
--- whether the fields break no rule and each is text by the area's language
-abbrev pub all_text : Result (List Raw) FruFault → Bool
-all_text (Ok raws) = list_all is_text raws
-all_text (Err fault) = false

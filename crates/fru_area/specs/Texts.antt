@@ -49,7 +49,3 @@ text_of english raw =
     else if raw.kind == 2 then six_bit_text raw.bytes
     else if english then latin_text raw.bytes
     else unicode_text raw.bytes
-
--- whether a field is text by the area's language
-abbrev pub is_text : Raw → Bool
-is_text raw = raw.kind == 3

@@ -1,8 +1,8 @@
 ghost use Rattle.std.specs.Prelude.{◌≡◌, ◌+◌, ◌<◌, ◌≤◌, length, IfOk, IfSome};
 ghost use Rattle.fru_area.specs.Headers.{area_at};
 ghost use Rattle.fru_area.specs.Walks.{raw_fields, field_bytes};
-ghost use Rattle.fru_area.specs.Areas.{area_fields, all_text};
-ghost use Rattle.fru_area.specs.Answers.{Gives, seen};
+ghost use Rattle.fru_area.specs.Areas.{area_fields};
+ghost use Rattle.fru_area.specs.Answers.{Gives, checked, seen};
 ghost use Rattle.fru_area.specs.Walks.{first_field};
 ghost use Rattle.fru_area.specs.Views.{found_view, IsNext};
 
@@ -136,23 +136,15 @@ pub fn read_area<const N: usize>(
     Ok(fields)
 }
 
-/// Whether the fields of a whole area, from byte `start` on, break no rule and each is text by the
-/// area's language. It takes no memory.
-pub fn is_all_text(area: Area, bytes: &[u8], start: usize) -> bool
+/// Whether the fields of a whole area, from byte `start` on, break a rule: the first of `FieldOutside`
+/// and `NoEnd` that is broken. It takes no memory.
+pub fn check_fields(area: Area, bytes: &[u8], start: usize) -> Result<(), FruFault>
     requires { start < length bytes.now }
-    ensures { result ≡ all_text (raw_fields area bytes.now start) }
+    ensures { result ≡ checked (raw_fields area bytes.now start) }
 {
     let mut rest = field_bytes(bytes, start);
-    loop {
-        match raw_field(area, rest) {
-            Ok(Some(raw)) => {
-                if raw.kind != 3 {
-                    return false;
-                }
-                rest = raw.rest;
-            }
-            Ok(None) => return true,
-            Err(_) => return false,
-        }
+    while let Some(raw) = raw_field(area, rest)? {
+        rest = raw.rest;
     }
+    Ok(())
 }

@@ -1,5 +1,5 @@
 use crate::{
-    Area, FieldList, FieldName, FruFault, Header, area_bytes, area_sum, field_text, is_all_text,
+    Area, FieldList, FieldName, FruFault, Header, area_bytes, area_sum, check_fields, field_text,
     one_reading, read_area, read_header,
 };
 use std::process::Abort;
@@ -141,31 +141,25 @@ fn named_fields(rt: HostRuntime) -> Result<(), Fail> {
 #[test]
 fn field_rules(rt: HostRuntime) -> Result<(), Fail> {
     let chassis = Area::Chassis;
-    // the bytes from the first field on, the fault or the number of fields, and whether all is text
-    let rows: [(&[u8], Result<usize, FruFault>, bool); 9] = [
-        (&[0xC1, 0x00], Ok(0), true),
-        (&[0xC2, b'A', b'B', 0xC1, 0x00], Ok(1), true),
-        (&[0xC0, 0xC0, 0xC1, 0xC0, 0x00], Ok(2), true),
-        (&[0xC0, 0x01, 0xFF, 0xC1, 0x00], Ok(2), false),
-        (&[0x01, 0xC1, 0xC1, 0x00], Ok(1), false),
+    // the bytes from the first field on, and the fault or the number of fields
+    let rows: [(&[u8], Result<usize, FruFault>); 9] = [
+        (&[0xC1, 0x00], Ok(0)),
+        (&[0xC2, b'A', b'B', 0xC1, 0x00], Ok(1)),
+        (&[0xC0, 0xC0, 0xC1, 0xC0, 0x00], Ok(2)),
+        (&[0xC0, 0x01, 0xFF, 0xC1, 0x00], Ok(2)),
+        (&[0x01, 0xC1, 0xC1, 0x00], Ok(1)),
         (
             &[0xC3, b'A', b'B', 0x00],
-            Err(FruFault::FieldOutside(chassis)),
-            false,
-        ),
+            Err(FruFault::FieldOutside(chassis))),
         (
             &[0xFF, b'A', 0xC1, 0x00],
-            Err(FruFault::FieldOutside(chassis)),
-            false,
-        ),
+            Err(FruFault::FieldOutside(chassis))),
         (
             &[0xC2, b'A', b'B', 0xC1],
-            Err(FruFault::NoEnd(chassis)),
-            false,
-        ),
-        (&[0xC1], Err(FruFault::NoEnd(chassis)), false),
+            Err(FruFault::NoEnd(chassis))),
+        (&[0xC1], Err(FruFault::NoEnd(chassis))),
     ];
-    for (bytes, answer, is_text) in rows {
+    for (bytes, answer) in rows {
         assert!(rt; !bytes.is_empty() && bytes.len() <= 2040);
         let fields = read_area(rt.alloc(), chassis, bytes, 0, true, []);
         assert_eq!(rt;
@@ -173,7 +167,8 @@ fn field_rules(rt: HostRuntime) -> Result<(), Fail> {
             answer,
             "at {bytes:?}"
         );
-        assert_eq!(rt; is_all_text(chassis, bytes, 0), is_text, "at {bytes:?}");
+        let checked = check_fields(chassis, bytes, 0);
+        assert_eq!(rt; checked, answer.map(|_| ()), "at {bytes:?}");
     }
     Ok(())
 }

@@ -1,4 +1,5 @@
 pub mod DateTexts
 pub mod Days
 pub mod Reading
+pub mod Checking
 pub mod Spelled

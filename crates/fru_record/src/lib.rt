@@ -2,11 +2,13 @@
 //! their fields, or refused by the first rule that they break, and built of parts. It stands on the areas of `fru_area`.
 #![tactic(auto)]
 
+mod check;
 mod date;
 mod decode;
 mod law;
 mod parts;
 
+pub use check::check_record;
 pub use decode::FruRecord;
 pub use law::one_record;
 pub use parts::{BoardPart, ChassisPart, FieldTexts, Parts, ProductPart};
