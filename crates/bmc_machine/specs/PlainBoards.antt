@@ -1,6 +1,5 @@
 -- The plain board record, the one form of FRU bytes that the machine takes so far.
 use Rattle.std.specs.Prelude.{ℕ, ◌*◌, Bool, true, ◌==◌, ◌&&◌, ◌||◌, not, if◌then◌else◌, List, [], ◌∷◌, slice_index, Option, Some, None, option_and_then, Result, Ok, Err}
-use Rattle.bmc_base.specs.Places.{Place}
 use Rattle.fru_area.specs.Headers.{header, area_at}
 use Rattle.fru_area.specs.Walks.{raw_fields}
 use Rattle.fru_area.specs.Areas.{area_fields, all_text}
