@@ -10,7 +10,7 @@ const LINES: [(&str, &str); 7] = [
     ("# comment\r\n", ""),
     ("plug 1 80 $\n", ""),
     ("plug 1 80 $\n", "line 4 refused Occupied\n"),
-    ("plug 1 81 00\n", "line 5 refused FieldForm\n"),
+    ("plug 1 81 00\n", "line 5 refused FruShort\n"),
     ("\n", ""),
     ("jump\n", "line 7 refused UnknownCommand\n"),
 ];

@@ -6,7 +6,7 @@ use bmc_replay::{Status, replay};
 use std::alloc::Global;
 use std::process::Abort;
 
-/// A plain board record in hexadecimal.
+/// A record with a board area, in hexadecimal.
 pub const R1: &str = "01000001000000FE010300000000C341434DC452535231C25331C0C0C10000F5";
 
 /// What stands in its row behind its place.

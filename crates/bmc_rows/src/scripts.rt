@@ -27,7 +27,7 @@ fn whole_scripts(rt: HostRuntime) -> Result<(), Fail> {
         (
             "plug 3 3 01000001000000FE\nunplug 3 3\nplug 3 3 $\nunplug 3 3\nplug 3 3 $\n",
             Status::Refused,
-            "line 1 refused FieldForm\nline 2 refused NotPresent\nfru 3 3$\n",
+            "line 1 refused AreaOutside Board\nline 2 refused NotPresent\nfru 3 3$\n",
         ),
     ];
     for (script, status, text) in rows {
