@@ -9,8 +9,8 @@ import sys
 LONGEST = 9000
 PLUG = re.compile(rb"plug ([0-9]{1,9}) ([0-9]{1,9}) ((?:[0-9A-Fa-f]{2})+)")
 UNPLUG = re.compile(rb"unplug ([0-9]{1,9}) ([0-9]{1,9})")
-BOARD_NAMES = ["MANUFACTURER", "PRODUCT_NAME", "SERIAL_NUMBER", "PART_NUMBER", "FRU_VERSION_ID"]
-PRODUCT_NAMES = ["MANUFACTURER", "PRODUCT_NAME", "PART_NUMBER", "VERSION", "SERIAL_NUMBER", "ASSET_TAG", "FRU_VERSION_ID"]
+BOARD_NAMES = "MANUFACTURER PRODUCT_NAME SERIAL_NUMBER PART_NUMBER FRU_VERSION_ID".split()
+PRODUCT_NAMES = "MANUFACTURER PRODUCT_NAME PART_NUMBER VERSION SERIAL_NUMBER ASSET_TAG FRU_VERSION_ID".split()
 # Each area: its name, the byte of the header that says where it begins, the byte at which its fields begin,
 # what their names begin with, and how the names that are its own go on.
 AREAS = [
