@@ -2,52 +2,125 @@
 """The machine once more, written from docs/FORMATS.md alone: model.py < SCRIPT prints what bmcreplay
 has to print, and ends with its status. The checks compare the program with it."""
 
+import datetime
 import re
 import sys
 
 LONGEST = 9000
 PLUG = re.compile(rb"plug ([0-9]{1,9}) ([0-9]{1,9}) ((?:[0-9A-Fa-f]{2})+)")
 UNPLUG = re.compile(rb"unplug ([0-9]{1,9}) ([0-9]{1,9})")
-NAMES = [
-    "BOARD_MANUFACTURER",
-    "BOARD_PRODUCT_NAME",
-    "BOARD_SERIAL_NUMBER",
-    "BOARD_PART_NUMBER",
-    "BOARD_FRU_VERSION_ID",
+BOARD_NAMES = "MANUFACTURER PRODUCT_NAME SERIAL_NUMBER PART_NUMBER FRU_VERSION_ID".split()
+PRODUCT_NAMES = "MANUFACTURER PRODUCT_NAME PART_NUMBER VERSION SERIAL_NUMBER ASSET_TAG FRU_VERSION_ID".split()
+# Each area: its name, the byte of the header that says where it begins, the byte at which its fields begin,
+# what their names begin with, and how the names that are its own go on.
+AREAS = [
+    ("Chassis", 2, 3, "CHASSIS", ["PART_NUMBER", "SERIAL_NUMBER"]),
+    ("Board", 3, 6, "BOARD", BOARD_NAMES),
+    ("Product", 4, 3, "PRODUCT", PRODUCT_NAMES),
 ]
+END = 0xC1
+ENGLISH = (0, 25)
+BCD_PLUS = "0123456789 -.:,_"
 
 
-def area_of(record):
-    """The board area of a plain board record with its checksum, or None."""
-    if not 8 <= len(record) <= 4096:
-        return None
-    version, _, chassis, board, product = record[:5]
-    if version != 1 or sum(record[:8]) % 256 or chassis or product or not board:
-        return None
-    start = 8 * board
-    if len(record) < start + 8:
-        return None
-    length = 8 * record[start + 1]
-    area = record[start : start + length]
-    if not length or len(area) < length or area[0] != 1 or sum(area) % 256:
-        return None
-    return area if area[2] in (0, 25) and area[3:6] == bytes(3) else None
+class Broken(Exception):
+    """A rule that a record breaks, by the name that is printed."""
+
+
+def obey(rule, kept):
+    """Goes on where a rule is kept."""
+    if not kept:
+        raise Broken(rule)
+
+
+def check_header(record):
+    """The rules on the whole record and on its header."""
+    obey("FruShort", len(record) >= 8)
+    obey("FruTooLong", len(record) <= 4096)
+    obey("HeaderVersion", record[0] == 1)
+    obey("HeaderChecksum", sum(record[:8]) % 256 == 0)
+
+
+def area_from(record, start, area):
+    """The bytes of the area that begins at this byte."""
+    rest = record[start:]
+    obey(f"AreaOutside {area}", len(rest) >= 8 and len(rest) >= 8 * rest[1])
+    obey(f"AreaVersion {area}", rest[0] == 1)
+    obey(f"AreaLength {area}", rest[1])
+    found = rest[: 8 * rest[1]]
+    obey(f"AreaChecksum {area}", sum(found) % 256 == 0)
+    return found
+
+
+def fields_from(body, area):
+    """The fields that these bytes begin with, each as its type and its bytes. Behind them stands the end mark."""
+    fields = []
+    while True:
+        obey(f"NoEnd {area}", body)
+        if body[0] == END:
+            return fields
+        kind, length = divmod(body[0], 64)
+        obey(f"FieldOutside {area}", len(body) > length)
+        fields.append((kind, body[1 : 1 + length]))
+        body = body[1 + length :]
+
+
+def six_bits(data):
+    """The characters of 6-bit ASCII. The bytes are one number, the first of them the lowest."""
+    bits = int.from_bytes(data, "little")
+    return "".join(chr(0x20 + (bits >> at & 63)) for at in range(0, 8 * len(data) - 5, 6))
+
+
+def two_bytes(data):
+    """The characters of 2-byte Unicode. What is none is U+FFFD."""
+    units, text = [int.from_bytes(data[at : at + 2], "little") for at in range(0, len(data) - 1, 2)], ""
+    while units:
+        high, low = units[0], units[1] if len(units) > 1 else 0
+        paired = high >> 10 == 0x36 and low >> 10 == 0x37
+        if paired:
+            text += chr(0x10000 + ((high & 0x3FF) << 10 | low & 0x3FF))
+        else:
+            text += "\ufffd" if high >> 11 == 0x1B else chr(high)
+        units = units[2 if paired else 1 :]
+    return text + "\ufffd" * (len(data) % 2)
+
+
+def text_of(kind, data, language):
+    """The text of a field of this type, in an area of this language."""
+    if kind == 0:
+        return data.hex()
+    if kind == 1:
+        return "".join(BCD_PLUS[int(digit, 16)] for digit in data.hex())
+    if kind == 2:
+        return six_bits(data)
+    return data.decode("latin-1") if language in ENGLISH else two_bytes(data)
+
+
+def first_fields(area, found):
+    """The fields that an area has in fixed bytes: the chassis type, or the date of a board."""
+    minutes = int.from_bytes(found[3:6], "little")
+    if area == "Chassis":
+        return [("CHASSIS_TYPE", str(found[2]))]
+    if area == "Board" and minutes:
+        date = datetime.datetime(1996, 1, 1) + datetime.timedelta(minutes=minutes)
+        return [("BOARD_MANUFACTURE_DATE", f"{date:%Y-%m-%d %H:%M}")]
+    return []
 
 
 def fields_of(record):
-    """The texts of a plain board record, or None where it is no such record."""
-    area = area_of(record)
-    texts, rest = [], area[6:-1] if area else b""
-    while rest:
-        head = rest[0]
-        if head == 0xC1:
-            return texts
-        length = head & 0x3F
-        if head >> 6 != 3 or len(rest) < 1 + length:
-            return None
-        texts.append(rest[1 : 1 + length].decode("latin-1"))
-        rest = rest[1 + length :]
-    return None
+    """The names and texts of a record. Raises Broken with the first rule that it breaks."""
+    check_header(record)
+    named = []
+    for area, byte, begin, front, names in AREAS:
+        if not record[byte]:
+            continue
+        found = area_from(record, 8 * record[byte], area)
+        language = 0 if area == "Chassis" else found[2]
+        named += first_fields(area, found)
+        for number, (kind, data) in enumerate(fields_from(found[begin:-1], area)):
+            name = names[number] if number < len(names) else f"INFO_AM{number - len(names) + 1}"
+            named.append((f"{front}_{name}", text_of(kind, data, language)))
+    return named
 
 
 def quoted(text):
@@ -56,13 +129,9 @@ def quoted(text):
     return '"' + "".join(map(special, text)) + '"'
 
 
-def row(place, record):
+def row(place, fields):
     """The line of a FRU in the final list."""
-    words = [f"fru {place[0]} {place[1]}"]
-    for number, text in enumerate(fields_of(record)):
-        name = NAMES[number] if number < 5 else f"BOARD_INFO_AM{number - 4}"
-        words.append(f"{name}={quoted(text)}")
-    return " ".join(words)
+    return " ".join([f"fru {place[0]} {place[1]}"] + [f"{name}={quoted(text)}" for name, text in fields])
 
 
 def place_of(bus, address):
@@ -87,10 +156,10 @@ def refusal_of(line, present):
         return None if present.pop(place, None) is not None else "NotPresent"
     if place in present:
         return "Occupied"
-    record = bytes.fromhex(plug[3].decode())
-    if fields_of(record) is None:
-        return "FieldForm"
-    present[place] = record
+    try:
+        present[place] = fields_of(bytes.fromhex(plug[3].decode()))
+    except Broken as rule:
+        return str(rule)
     return None
 
 
