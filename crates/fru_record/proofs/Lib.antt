@@ -2,3 +2,4 @@ pub mod DateTexts
 pub mod Days
 pub mod Reading
 pub mod Spelled
+pub mod Texts

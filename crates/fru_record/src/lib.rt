@@ -6,7 +6,9 @@ mod builder;
 mod date;
 mod decode;
 mod law;
+mod layout;
 mod parts;
+mod text_rule;
 
 pub use builder::{BuildFault, build};
 pub use decode::FruRecord;
