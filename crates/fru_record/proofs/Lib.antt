@@ -1,5 +1,6 @@
 pub mod DateTexts
 pub mod Days
 pub mod Reading
+pub mod Sizes
 pub mod Spelled
 pub mod Texts

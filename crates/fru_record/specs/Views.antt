@@ -4,6 +4,7 @@ use Rattle.std.specs.List.{list_any}
 use Rattle.jiff_core.specs.declared.civil.date.Date.{Date}
 use Rattle.fru_record.specs.Dates.{Day}
 use Rattle.fru_record.specs.Building.{is_not_latin, is_too_long, is_bad_single, units_of, chassis_body, board_body, product_body}
+use Rattle.fru_record.specs.Parts.{chassis_texts, board_texts, product_texts}
 use Rattle.fru_record.specs.declared.layout.Layout.{Layout}
 use Rattle.fru_record.specs.declared.parts.Parts.{Parts}
 use Rattle.fru_record.specs.declared.text_rule.TextRule.{TextRule}
@@ -56,3 +57,13 @@ field_head count = if count == 1 then 0x81 else 0xC0 + count
 
 abbrev pub first_char : ℕ → ℕ
 first_char count = if count == 1 then 32 else 0
+
+-- the parts have a record of these sizes, and their texts can be written
+pub record IsBuildable (parts : Parts) (layout : Layout) : Type 0 where
+  pub offsets : HasOffsets layout
+  pub chassis : layout.chassis ≡ units_of (chassis_body parts.chassis)
+  pub board : layout.board ≡ units_of (board_body parts.board)
+  pub product : layout.product ≡ units_of (product_body parts.product)
+  pub chassis_writable : AreWritable (chassis_texts parts.chassis)
+  pub board_writable : AreWritable (board_texts parts.board)
+  pub product_writable : AreWritable (product_texts parts.product)

@@ -1,9 +1,9 @@
-ghost use Rattle.std.specs.Prelude.{◌≡◌, ◌≤◌, ◌<◌, ◌+◌, ◌-◌, ◌∷◌, ◌++◌, [], ℕ, length, slice_index, map, None, IfOk, OnOk};
+ghost use Rattle.std.specs.Prelude.{◌≡◌, ◌≤◌, ◌<◌, ◌+◌, ◌-◌, ◌∷◌, ◌++◌, [], ℕ, length, slice_index, map, IfOk, OnOk};
 ghost use Rattle.std.specs.List.{flat_map};
 ghost use Rattle.std.specs.Str.{chars};
 ghost use Rattle.fru_record.specs.Parts.{HasNames, chassis_texts, board_texts, product_texts};
 ghost use Rattle.fru_record.specs.Building.{GivesBytes, build_fault, record_bytes, has_late_date, closing_byte, field_of_text, area_body, area_units, area_bytes, chassis_body, board_body, product_body, units_of, bytes_of};
-ghost use Rattle.fru_record.specs.Views.{IsLayout, HasOffsets, IsWritable, AreWritable, header_start, field_head, first_char};
+ghost use Rattle.fru_record.specs.Views.{IsLayout, IsBuildable, HasOffsets, IsWritable, AreWritable, header_start, field_head, first_char};
 ghost use Rattle.fru_record.specs.declared.builder.BuildFault.TheVariants.{OutOfMemory};
 
 use crate::layout::Layout;
@@ -103,8 +103,7 @@ fn has_late_date(board: &Option<BoardPart>) -> bool
 
 // The bytes of a record, whose parts allow it.
 fn record_bytes(alloc: Global, parts: &Parts, layout: Layout) -> Result<Vec<u8>, AllocError>
-    requires allowed { build_fault parts.now ≡ None }
-    requires sizes { IsLayout parts.now layout }
+    requires { IsBuildable parts.now layout }
     ensures { IfOk result (λ bytes. bytes.items ≡ record_bytes parts.now) }
 {
     let mut bytes = Vec::with_capacity(alloc, layout.len())?;

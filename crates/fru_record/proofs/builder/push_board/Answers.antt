@@ -1,0 +1,5 @@
+use Rattle.fru_record.specs.Parts.{board_texts}
+use Rattle.fru_record.proofs.builder.push_board.Goals as goal
+
+pub push_area-requires-clause-texts : goal.push_area-requires-clause-texts
+push_area-requires-clause-texts c = rw c.in-Some.is at c.requires.texts
