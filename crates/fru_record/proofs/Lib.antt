@@ -1,3 +1,4 @@
+pub mod Built
 pub mod DateTexts
 pub mod Days
 pub mod Reading

@@ -122,6 +122,15 @@ allowed-writable parts h = by_rule
     by_rule Length = none.no_length
     by_rule Single = none.no_single
 
+pub allowed-early : (parts : Parts) → build_fault parts ≡ None → has_late_date parts.board ≡ false
+allowed-early parts h = let none = no_fault _ _ _ _ _ _ (sym (build_fault-by parts) ∙ h) in none.no_date
+
+pub allowed-short : (parts : Parts) → build_fault parts ≡ None → 8 * (1 + units_of (chassis_body parts.chassis) + units_of (board_body parts.board) + units_of (product_body parts.product)) ≤ 4096
+allowed-short parts h =
+    let none = no_fault _ _ _ _ _ _ (sym (build_fault-by parts) ∙ h) in
+    let two = both_false (nat_lt 255 (offset_of (1 + units_of (chassis_body parts.chassis)) (board_body parts.board)) || nat_lt 255 (offset_of (1 + units_of (chassis_body parts.chassis) + units_of (board_body parts.board)) (product_body parts.product))) (nat_lt 4096 (8 * (1 + units_of (chassis_body parts.chassis) + units_of (board_body parts.board) + units_of (product_body parts.product)))) none.no_whole in
+    ltb-false 4096 (8 * (1 + units_of (chassis_body parts.chassis) + units_of (board_body parts.board) + units_of (product_body parts.product))) two.1
+
 -- parts without a fault can be built
 pub IsBuildable-allowed : (parts : Parts) (layout : Layout) → IsLayout parts layout → build_fault parts ≡ None → IsBuildable parts layout
 IsBuildable-allowed parts layout h allowed =
