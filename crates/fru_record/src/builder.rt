@@ -1,7 +1,8 @@
-ghost use Rattle.std.specs.Prelude.{◌≡◌, ◌≤◌, ◌<◌, ◌+◌, ◌-◌, ◌∷◌, ◌++◌, [], ℕ, length, slice_index, map, IfOk, OnOk};
-ghost use Rattle.std.specs.List.{flat_map};
-ghost use Rattle.std.specs.Str.{chars};
-ghost use Rattle.fru_record.specs.Parts.{HasNames, chassis_texts, board_texts, product_texts};
+ghost use Rattle.std.specs.Prelude.{◌≡◌, ◌≤◌, ◌<◌, ◌+◌, ◌-◌, ◌∷◌, ◌++◌, [], ℕ, length, slice_index, map, Ok, IfOk, OnOk};
+ghost use Rattle.std.specs.List.{flat_map, All};
+ghost use Rattle.std.specs.Str.{chars, IsUtf8};
+ghost use Rattle.fru_record.specs.Parts.{HasNames, fields_of_parts, texts_of, chassis_texts, board_texts, product_texts};
+ghost use Rattle.fru_record.specs.Records.{record_of};
 ghost use Rattle.fru_record.specs.Building.{GivesBytes, build_fault, record_bytes, has_late_date, closing_byte, field_of_text, area_body, area_units, area_bytes, chassis_body, board_body, product_body, units_of, bytes_of};
 ghost use Rattle.fru_record.specs.Views.{IsLayout, IsBuildable, HasOffsets, IsWritable, AreWritable, header_start, field_head, first_char};
 ghost use Rattle.fru_record.specs.declared.builder.BuildFault.TheVariants.{OutOfMemory};
@@ -50,10 +51,12 @@ impl From<AllocError> for BuildFault {
 
 /// The bytes of a record of these parts: language 0 (English), texts in Latin 1, a text of one character
 /// in 6-bit ASCII, an empty text as C0h, padding of zeros, and the areas in the order chassis, board,
-/// product. A refusal is the first of `BuildFault`, rule by rule.
+/// product. A refusal is the first of `BuildFault`, rule by rule. `FruRecord::decode` reads the bytes as
+/// exactly the fields of the parts.
 pub fn build(alloc: Global, parts: &Parts) -> Result<Bytes, BuildFault>
     requires { HasNames parts.now }
-    ensures { GivesBytes result parts.now }
+    ensures bytes { GivesBytes result parts.now }
+    ensures read { IfOk result (λ bytes. record_of bytes ≡ Ok (fields_of_parts parts.now)) }
 {
     let layout = Layout::new(parts);
     match first_fault(parts, layout) {
@@ -104,7 +107,8 @@ fn has_late_date(board: &Option<BoardPart>) -> bool
 // The bytes of a record, whose parts allow it.
 fn record_bytes(alloc: Global, parts: &Parts, layout: Layout) -> Result<Vec<u8>, AllocError>
     requires { IsBuildable parts.now layout }
-    ensures { IfOk result (λ bytes. bytes.items ≡ record_bytes parts.now) }
+    ensures written { IfOk result (λ bytes. bytes.items ≡ record_bytes parts.now) }
+    ensures utf8 { OnOk result (All IsUtf8 (texts_of parts.now)) }
 {
     let mut bytes = Vec::with_capacity(alloc, layout.len())?;
     push_header(&mut bytes, layout)?;
@@ -136,7 +140,8 @@ fn push_chassis(
     requires texts { AreWritable (chassis_texts part.now) }
     requires units { units ≡ units_of (chassis_body part.now) }
     requires short { units ≤ 255 }
-    ensures { OnOk result (bytes.new.items ≡ bytes.old.items ++ bytes_of (chassis_body part.now)) }
+    ensures written { OnOk result (bytes.new.items ≡ bytes.old.items ++ bytes_of (chassis_body part.now)) }
+    ensures utf8 { OnOk result (All IsUtf8 (chassis_texts part.now)) }
 {
     match part {
         Some(part) => {
@@ -155,7 +160,8 @@ fn push_board(
     requires texts { AreWritable (board_texts part.now) }
     requires units { units ≡ units_of (board_body part.now) }
     requires short { units ≤ 255 }
-    ensures { OnOk result (bytes.new.items ≡ bytes.old.items ++ bytes_of (board_body part.now)) }
+    ensures written { OnOk result (bytes.new.items ≡ bytes.old.items ++ bytes_of (board_body part.now)) }
+    ensures utf8 { OnOk result (All IsUtf8 (board_texts part.now)) }
 {
     match part {
         Some(part) => {
@@ -177,7 +183,8 @@ fn push_product(
     requires texts { AreWritable (product_texts part.now) }
     requires units { units ≡ units_of (product_body part.now) }
     requires short { units ≤ 255 }
-    ensures { OnOk result (bytes.new.items ≡ bytes.old.items ++ bytes_of (product_body part.now)) }
+    ensures written { OnOk result (bytes.new.items ≡ bytes.old.items ++ bytes_of (product_body part.now)) }
+    ensures utf8 { OnOk result (All IsUtf8 (product_texts part.now)) }
 {
     match part {
         Some(part) => push_area(bytes, units, &[0], &part.named, &part.custom),
@@ -196,7 +203,8 @@ fn push_area(
     requires texts { AreWritable (named.now ++ custom.now) }
     requires units { units ≡ area_units (area_body fixed.now (named.now ++ custom.now)) }
     requires short { units ≤ 255 }
-    ensures { OnOk result (bytes.new.items ≡ bytes.old.items ++ area_bytes (area_body fixed.now (named.now ++ custom.now))) }
+    ensures written { OnOk result (bytes.new.items ≡ bytes.old.items ++ area_bytes (area_body fixed.now (named.now ++ custom.now))) }
+    ensures utf8 { OnOk result (All IsUtf8 (named.now ++ custom.now)) }
 {
     let start = bytes.len();
     bytes.push(1)?;
@@ -216,7 +224,8 @@ fn push_body(
     custom: &FieldTexts,
 ) -> Result<(), AllocError>
     requires { AreWritable (named.now ++ custom.now) }
-    ensures { OnOk result (bytes.new.items ≡ bytes.old.items ++ area_body fixed.now (named.now ++ custom.now)) }
+    ensures written { OnOk result (bytes.new.items ≡ bytes.old.items ++ area_body fixed.now (named.now ++ custom.now)) }
+    ensures utf8 { OnOk result (All IsUtf8 (named.now ++ custom.now)) }
 {
     bytes.extend_from_slice(fixed)?;
     push_texts(bytes, named.as_slice())?;
@@ -227,7 +236,8 @@ fn push_body(
 
 fn push_texts(bytes: &mut Vec<u8>, texts: &[Text]) -> Result<(), AllocError>
     requires { AreWritable texts.now }
-    ensures { OnOk result (bytes.new.items ≡ bytes.old.items ++ flat_map field_of_text texts.now) }
+    ensures written { OnOk result (bytes.new.items ≡ bytes.old.items ++ flat_map field_of_text texts.now) }
+    ensures utf8 { OnOk result (All IsUtf8 texts.now) }
 {
     for text in texts {
         push_text(bytes, text.as_str())?;
@@ -238,7 +248,8 @@ fn push_texts(bytes: &mut Vec<u8>, texts: &[Text]) -> Result<(), AllocError>
 // A text as a field: a single character in 6-bit ASCII, all else in Latin 1.
 fn push_text(bytes: &mut Vec<u8>, text: &str) -> Result<(), AllocError>
     requires { IsWritable text.now }
-    ensures { OnOk result (bytes.new.items ≡ bytes.old.items ++ field_of_text text.now) }
+    ensures written { OnOk result (bytes.new.items ≡ bytes.old.items ++ field_of_text text.now) }
+    ensures utf8 { IsUtf8 text.now }
 {
     let count = char_count(text);
     bytes.push(field_head(count))?;

@@ -8,7 +8,7 @@ field_head-requires c = rw c.char_count-count.ensures.exact (writable-short c.ar
 pub push_chars-requires : goal.push_chars-requires
 push_chars-requires c = rw (c.first_char.ensures, c.char_count-count.ensures.exact) (writable-range c.args.text.now c.requires)
 
-pub returns : goal.returns
-returns c =
+pub returns-clause-written : goal.returns-clause-written
+returns-clause-written c =
     on_ok_weaker c.push_chars.result
     (λ written. field-written c.args.bytes.now.items _ _ c.args.text.now _ _ _ c.char_count-count.ensures.exact c.field_head.ensures c.first_char.ensures c.in_ok-push.ensures.items written) c.push_chars.ensures
