@@ -1,5 +1,8 @@
+pub mod Built
+pub mod Checking
 pub mod DateTexts
 pub mod Days
 pub mod Reading
-pub mod Checking
+pub mod Sizes
 pub mod Spelled
+pub mod Texts

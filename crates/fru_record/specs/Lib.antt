@@ -3,4 +3,5 @@ pub mod Records
 pub mod Lookups
 pub mod Spellings
 pub mod Parts
+pub mod Building
 pub mod Views

@@ -3,6 +3,7 @@ ghost use Rattle.fru_area.specs.declared.field.Field.{Field};
 ghost use Rattle.fru_record.specs.Records.{record_of};
 ghost use Rattle.fru_record.specs.Spellings.{SpellsRecord};
 ghost use Rattle.fru_record.specs.Parts.{HasNames, fields_of_parts, texts_of};
+ghost use Rattle.fru_record.specs.Building.{build_fault, record_bytes};
 ghost use Rattle.fru_record.specs.declared.parts.Parts.{Parts};
 
 /// The record that is read of bytes is the one that they spell: one record, or none.
@@ -12,3 +13,8 @@ pub fn one_record()
 {
 }
 
+/// What is built of parts is read as exactly their fields.
+pub fn built_is_read()
+    ensures { (parts : Parts) → HasNames parts → All IsUtf8 (texts_of parts) → build_fault parts ≡ None → record_of (record_bytes parts) ≡ Ok (fields_of_parts parts) }
+{
+}

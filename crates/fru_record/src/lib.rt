@@ -2,13 +2,17 @@
 //! their fields, or refused by the first rule that they break, and built of parts. It stands on the areas of `fru_area`.
 #![tactic(auto)]
 
+mod builder;
 mod check;
 mod date;
 mod decode;
 mod law;
+mod layout;
 mod parts;
+mod text_rule;
 
+pub use builder::{BuildFault, build};
 pub use check::check_record;
 pub use decode::FruRecord;
-pub use law::one_record;
+pub use law::{built_is_read, one_record};
 pub use parts::{BoardPart, ChassisPart, FieldTexts, Parts, ProductPart};

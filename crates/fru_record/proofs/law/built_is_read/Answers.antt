@@ -1,0 +1,5 @@
+use Rattle.fru_record.proofs.Built.{built-read}
+use Rattle.fru_record.proofs.law.built_is_read.Goals as goal
+
+pub returns : goal.returns
+returns c = λ parts names utf8 allowed. built-read parts utf8 allowed

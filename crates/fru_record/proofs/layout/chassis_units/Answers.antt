@@ -1,0 +1,5 @@
+use Rattle.std.proofs.Common.{[], ◌∷◌, refl}
+use Rattle.fru_record.proofs.layout.chassis_units.Goals as goal
+
+pub returns-in-Some : goal.returns-in-Some
+returns-in-Some c = rw c.in-Some.is (c.area_units.ensures (c.in-Some.part.chassis_type ∷ []) refl)
