@@ -1,4 +1,0 @@
-pub mod Probes
-pub mod Configs
-pub mod Documents
-pub mod Shelves
