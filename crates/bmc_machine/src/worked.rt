@@ -11,5 +11,4 @@ pub fn worked_scripts()
     ensures empty { out [] ≡ [] }
     ensures twice { out (codes "plug 1 80 01000001000000FE010300000000C341434DC452535231C25331C0C0C10000F5\nplug 1 80 01000001000000FE010300000000C341434DC452535231C25331C0C0C10000F5\nunplug 1 80\nunplug 1 80\n") ≡ codes "line 2 refused Occupied\nline 4 refused NotPresent\n" }
     ensures refused { refuses (codes "unplug 1 80") ≡ true }
-{
-}
+{}

@@ -277,8 +277,8 @@ ended_text (Some script) (Some rest) old now new lines run e a w = of run.refuse
 
     text : a.printed.written ++ (string_bytes run.text ++ final_list run.present) ≡ out script
     text =
-      sym (append_assoc a.printed.written (string_bytes run.text) (final_list run.present)) ∙ ap (λ (l : List ℕ). l ++ final_list run.present) a.printed.parts
-      ∙ ap (λ (frus : List Fru). a.total ++ final_list frus) a.stands ∙ sym a.machine.all ∙ sym (ap out whole)
+        sym (append_assoc a.printed.written (string_bytes run.text) (final_list run.present)) ∙ ap (λ (l : List ℕ). l ++ final_list run.present) a.printed.parts
+        ∙ ap (λ (frus : List Fru). a.total ++ final_list frus) a.stands ∙ sym a.machine.all ∙ sym (ap out whole)
 
     all : Appends old new (out script)
     all = subst (Appends old new) text (Appends-trans old now new a.printed.written _ a.printed.appended w)

@@ -24,8 +24,8 @@ gathers_more a b c text kept grown left added more g e h = record {
   written = g.written ++ h.written;
   appended = Appends-trans a b c g.written h.written g.appended h.appended;
   parts =
-    append_assoc g.written h.written left ∙ ap (λ (l : List ℕ). g.written ++ l) (h.parts ∙ append-nil grown ∙ e)
-    ∙ sym (append_assoc g.written kept more) ∙ ap (λ (l : List ℕ). l ++ more) g.parts ∙ append_assoc text added more;
+      append_assoc g.written h.written left ∙ ap (λ (l : List ℕ). g.written ++ l) (h.parts ∙ append-nil grown ∙ e)
+      ∙ sym (append_assoc g.written kept more) ∙ ap (λ (l : List ℕ). l ++ more) g.parts ∙ append_assoc text added more;
 }
 
 -- what was written so far is a front of all that is to be

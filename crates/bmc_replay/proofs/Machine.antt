@@ -55,23 +55,23 @@ refuses_from-nil past = refl
 pub so_far_more : (taken waiting piece rest total : List ℕ) (past : List Step) (number : ℕ) (refused : Bool) (item : Item) → SoFar taken waiting total past number refused → BeginsWith (waiting ++ piece) item rest → SoFar (taken ++ piece) rest (total ++ outcome_text number (outcome past item)) (joined past (outcome past item)) (number + 1) (refused || is_refused (outcome past item))
 so_far_more taken waiting piece rest total past number refused item s b = record {
   whole = λ more.
-    ap whole_out (append_assoc taken piece more) ∙ s.whole (piece ++ more)
-    ∙ ap (λ (bytes : List ℕ). total ++ texts number (outcomes past (whole_items bytes))) (sym (append_assoc waiting piece more))
-    ∙ ap (λ (items : List Item). total ++ texts number (outcomes past items)) (b.whole more)
-    ∙ ap (λ (text : List ℕ). total ++ text) (texts-cons number past item (whole_items (rest ++ more)))
-    ∙ sym (append_assoc total (outcome_text number (outcome past item)) _);
+      ap whole_out (append_assoc taken piece more) ∙ s.whole (piece ++ more)
+      ∙ ap (λ (bytes : List ℕ). total ++ texts number (outcomes past (whole_items bytes))) (sym (append_assoc waiting piece more))
+      ∙ ap (λ (items : List Item). total ++ texts number (outcomes past items)) (b.whole more)
+      ∙ ap (λ (text : List ℕ). total ++ text) (texts-cons number past item (whole_items (rest ++ more)))
+      ∙ sym (append_assoc total (outcome_text number (outcome past item)) _);
   all = λ more.
-    ap out (append_assoc taken piece more) ∙ s.all (piece ++ more)
-    ∙ ap (λ (bytes : List ℕ). total ++ out_from number past (items_of bytes)) (sym (append_assoc waiting piece more))
-    ∙ ap (λ (items : List Item). total ++ out_from number past items) (b.all more)
-    ∙ ap (λ (text : List ℕ). total ++ text) (out_from-cons number past item (items_of (rest ++ more)))
-    ∙ sym (append_assoc total (outcome_text number (outcome past item)) _);
+      ap out (append_assoc taken piece more) ∙ s.all (piece ++ more)
+      ∙ ap (λ (bytes : List ℕ). total ++ out_from number past (items_of bytes)) (sym (append_assoc waiting piece more))
+      ∙ ap (λ (items : List Item). total ++ out_from number past items) (b.all more)
+      ∙ ap (λ (text : List ℕ). total ++ text) (out_from-cons number past item (items_of (rest ++ more)))
+      ∙ sym (append_assoc total (outcome_text number (outcome past item)) _);
   refusal = λ more.
-    ap refuses (append_assoc taken piece more) ∙ s.refusal (piece ++ more)
-    ∙ ap (λ (bytes : List ℕ). refused || refuses_from past (items_of bytes)) (sym (append_assoc waiting piece more))
-    ∙ ap (λ (items : List Item). refused || refuses_from past items) (b.all more)
-    ∙ ap (λ (b : Bool). refused || b) (refuses_from-cons past item (items_of (rest ++ more)))
-    ∙ or_more refused (is_refused (outcome past item)) _;
+      ap refuses (append_assoc taken piece more) ∙ s.refusal (piece ++ more)
+      ∙ ap (λ (bytes : List ℕ). refused || refuses_from past (items_of bytes)) (sym (append_assoc waiting piece more))
+      ∙ ap (λ (items : List Item). refused || refuses_from past items) (b.all more)
+      ∙ ap (λ (b : Bool). refused || b) (refuses_from-cons past item (items_of (rest ++ more)))
+      ∙ or_more refused (is_refused (outcome past item)) _;
 }
 
 at_end : (taken piece : List ℕ) → taken ++ piece ≡ taken ++ (piece ++ [])
@@ -81,13 +81,13 @@ at_end taken piece = ap (λ (l : List ℕ). taken ++ l) (sym (append-nil piece))
 pub so_far_last : (taken waiting piece rest total : List ℕ) (past : List Step) (number : ℕ) (refused : Bool) (item : Item) → SoFar taken waiting total past number refused → AreLast (waiting ++ piece) item rest → AllTaken (taken ++ piece) (total ++ outcome_text number (outcome past item)) (joined past (outcome past item)) (refused || is_refused (outcome past item))
 so_far_last taken waiting piece rest total past number refused item s l = record {
   all =
-    s.all piece ∙ ap (λ (items : List Item). total ++ out_from number past items) l.all
-    ∙ ap (λ (text : List ℕ). total ++ text) (out_from-cons number past item [] ∙ ap (λ (text : List ℕ). outcome_text number (outcome past item) ++ text) (out_from-nil (number + 1) (joined past (outcome past item))))
-    ∙ sym (append_assoc total (outcome_text number (outcome past item)) _);
+      s.all piece ∙ ap (λ (items : List Item). total ++ out_from number past items) l.all
+      ∙ ap (λ (text : List ℕ). total ++ text) (out_from-cons number past item [] ∙ ap (λ (text : List ℕ). outcome_text number (outcome past item) ++ text) (out_from-nil (number + 1) (joined past (outcome past item))))
+      ∙ sym (append_assoc total (outcome_text number (outcome past item)) _);
   refusal =
-    s.refusal piece ∙ ap (λ (items : List Item). refused || refuses_from past items) l.all
-    ∙ ap (λ (b : Bool). refused || b) (refuses_from-cons past item [] ∙ ap (λ (b : Bool). is_refused (outcome past item) || b) (refuses_from-nil (joined past (outcome past item))))
-    ∙ or_none refused (is_refused (outcome past item));
+      s.refusal piece ∙ ap (λ (items : List Item). refused || refuses_from past items) l.all
+      ∙ ap (λ (b : Bool). refused || b) (refuses_from-cons past item [] ∙ ap (λ (b : Bool). is_refused (outcome past item) || b) (refuses_from-nil (joined past (outcome past item))))
+      ∙ or_none refused (is_refused (outcome past item));
 }
 
 items_of-nil : items_of [] ≡ []

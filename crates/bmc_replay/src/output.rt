@@ -44,12 +44,7 @@ pub fn relieve<K: Sink>(text: &mut String, output: &mut K) -> Result<(), IoFault
 }
 
 // Gathers the row of a FRU.
-fn push_row(
-    alloc: Global,
-    text: &mut String,
-    place: Place,
-    bytes: &[u8],
-) -> Result<(), OutOfMemory>
+fn push_row(alloc: Global, text: &mut String, place: Place, bytes: &[u8]) -> Result<(), OutOfMemory>
     ensures { OnOk result (string_bytes text.new ≡ string_bytes text.old ++ row_of (record { place = place; bytes = bytes.now })) }
 {
     match FruRecord::decode(alloc, bytes) {

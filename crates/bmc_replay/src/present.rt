@@ -38,11 +38,7 @@ fn has(frus: &BTreeMap<Place, Bytes>, place: Place) -> bool
 }
 
 // Puts in a FRU where none is.
-fn put_in(
-    frus: &mut BTreeMap<Place, Bytes>,
-    place: Place,
-    bytes: Bytes,
-) -> Result<(), OutOfMemory>
+fn put_in(frus: &mut BTreeMap<Place, Bytes>, place: Place, bytes: Bytes) -> Result<(), OutOfMemory>
     requires { is_present (frus_of frus.old.entries) place ≡ false }
     ensures ok { OnOk result (frus_of frus.new.entries ≡ put (record { place = place; bytes = bytes }) (frus_of frus.old.entries)) }
     ensures err { OnErr result (frus.new.entries ≡ frus.old.entries) }

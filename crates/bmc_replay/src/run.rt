@@ -27,11 +27,7 @@ pub struct Run {
     pub refused: bool,
 }
 
-fn plug(
-    present: &mut Present,
-    place: Place,
-    bytes: Bytes,
-) -> Result<Option<Refusal>, OutOfMemory>
+fn plug(present: &mut Present, place: Place, bytes: Bytes) -> Result<Option<Refusal>, OutOfMemory>
     ensures { IfOk result (λ refusal. Comes (step_outcome present.old (histories.Plug place bytes)) refusal present.old present.new) }
 {
     if present.has(place) {

@@ -1,5 +1,5 @@
 -- The named fields of an information area.
-use Rattle.std.specs.Prelude.{ℕ, ◌+◌, Bool, false, List, [], ◌∷◌, Result, Ok, Err}
+use Rattle.std.specs.Prelude.{ℕ, ◌+◌, Bool, List, [], ◌∷◌, Result, Ok, Err}
 use Rattle.fru_area.specs.Walks.{Raw, raw_fields}
 use Rattle.fru_area.specs.Texts.{text_of}
 use Rattle.fru_area.specs.declared.fault.Area.{Area}

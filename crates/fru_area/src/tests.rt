@@ -150,13 +150,13 @@ fn field_rules(rt: HostRuntime) -> Result<(), Fail> {
         (&[0x01, 0xC1, 0xC1, 0x00], Ok(1)),
         (
             &[0xC3, b'A', b'B', 0x00],
-            Err(FruFault::FieldOutside(chassis))),
+            Err(FruFault::FieldOutside(chassis)),
+        ),
         (
             &[0xFF, b'A', 0xC1, 0x00],
-            Err(FruFault::FieldOutside(chassis))),
-        (
-            &[0xC2, b'A', b'B', 0xC1],
-            Err(FruFault::NoEnd(chassis))),
+            Err(FruFault::FieldOutside(chassis)),
+        ),
+        (&[0xC2, b'A', b'B', 0xC1], Err(FruFault::NoEnd(chassis))),
         (&[0xC1], Err(FruFault::NoEnd(chassis))),
     ];
     for (bytes, answer) in rows {
