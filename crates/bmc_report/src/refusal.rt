@@ -33,11 +33,7 @@ impl fmt::Display for Refusal {
 }
 
 /// Appends what is printed of a line, by its number from 1, that is refused.
-pub fn push_refused_line(
-    out: &mut String,
-    number: u64,
-    refusal: Refusal,
-) -> Result<(), OutOfMemory>
+pub fn push_refused_line(out: &mut String, number: u64, refusal: Refusal) -> Result<(), OutOfMemory>
     ensures { OnOk result (string_bytes out.new ≡ string_bytes out.old ++ refused_line number refusal) }
 {
     write!(out, "line {number} refused {refusal}\n")?;
