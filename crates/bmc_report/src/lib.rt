@@ -3,6 +3,8 @@
 
 mod refusal;
 mod row;
+#[cfg(test)]
+mod tests;
 
 pub use refusal::{Refusal, push_refused_line};
 pub use row::push_fru_row;

@@ -2,5 +2,7 @@
 #![tactic(auto)]
 
 mod command;
+#[cfg(test)]
+mod tests;
 
 pub use command::{Command, ScriptFault};
