@@ -1,19 +1,51 @@
 use crate::{Refusal, push_fru_row, push_refused_line};
 use bmc_base::Place;
-use fru_area::{Area, Field, FieldName, FieldText};
+use fru_area::{Area, Field, FieldName, FieldText, FruFault};
+use std::fmt::Write;
 use std::test::Fail;
 
 #[test]
 fn lines_of_refusals(rt: HostRuntime) -> Result<(), Fail> {
-    let mut out = String::new(rt.alloc());
-    push_refused_line(&mut out, 1, Refusal::UnknownCommand)?;
-    push_refused_line(&mut out, 2, Refusal::Occupied)?;
-    push_refused_line(&mut out, 30, Refusal::FieldForm)?;
-    push_refused_line(&mut out, u64::MAX, Refusal::NotPresent)?;
-    assert_eq!(rt;
-        out.as_str(),
-        "line 1 refused UnknownCommand\nline 2 refused Occupied\nline 30 refused FieldForm\nline 18446744073709551615 refused NotPresent\n"
-    );
+    let (chassis, board, product) = (Area::Chassis, Area::Board, Area::Product);
+    let rows = [
+        (Refusal::UnknownCommand, "UnknownCommand"),
+        (Refusal::Occupied, "Occupied"),
+        (Refusal::NotPresent, "NotPresent"),
+        (Refusal::Fru(FruFault::FruShort), "FruShort"),
+        (Refusal::Fru(FruFault::FruTooLong), "FruTooLong"),
+        (Refusal::Fru(FruFault::HeaderVersion), "HeaderVersion"),
+        (Refusal::Fru(FruFault::HeaderChecksum), "HeaderChecksum"),
+        (
+            Refusal::Fru(FruFault::AreaOutside(chassis)),
+            "AreaOutside Chassis",
+        ),
+        (
+            Refusal::Fru(FruFault::AreaVersion(board)),
+            "AreaVersion Board",
+        ),
+        (
+            Refusal::Fru(FruFault::AreaLength(product)),
+            "AreaLength Product",
+        ),
+        (
+            Refusal::Fru(FruFault::AreaChecksum(board)),
+            "AreaChecksum Board",
+        ),
+        (
+            Refusal::Fru(FruFault::FieldOutside(chassis)),
+            "FieldOutside Chassis",
+        ),
+        (Refusal::Fru(FruFault::NoEnd(product)), "NoEnd Product"),
+    ];
+    for (refusal, name) in rows {
+        for number in ["1", "30", "18446744073709551615"] {
+            let mut out = String::from_str(rt.alloc(), "before")?;
+            push_refused_line(&mut out, number.parse::<u64>()?, refusal)?;
+            let mut line = String::new(rt.alloc());
+            write!(line, "beforeline {number} refused {name}\n")?;
+            assert_eq!(rt; out.as_str(), line.as_str());
+        }
+    }
     Ok(())
 }
 
@@ -30,7 +62,7 @@ fn rows_of_frus(rt: HostRuntime) -> Result<(), Fail> {
         },
         Field {
             name: FieldName::Custom(Area::Board, 12),
-            text: FieldText::empty(),
+            text: FieldText::new("").ok_or("too long")?,
         },
     ];
     push_fru_row(&mut out, place, &fields)?;
