@@ -86,8 +86,40 @@ IsAscii-written : (y m d hour minute : ℕ) → IsAscii (written y m d hour minu
 IsAscii-written y m d hour minute =
     let g = glyph-ascii in
     let mark : (b : ℕ) → b ≤ 58 → b < 128 = λ b h. omega arith in
-    IsAscii-each (written y m d hour minute) (g (y / 1000), (g (y / 100), (g (y / 10), (g y, (mark 45 (omega arith), (g (m / 10), (g m, (mark 45 (omega arith), (g (d / 10), (g d, (mark 32 (omega arith),
-    (g (hour / 10), (g hour, (mark 58 (omega arith), (g (minute / 10), (g minute, tt))))))))))))))))
+    IsAscii-each (written y m d hour minute) (
+      g (y / 1000),
+      (
+        g (y / 100),
+        (
+          g (y / 10),
+          (
+            g y,
+            (
+              mark 45 (omega arith),
+              (
+                g (m / 10),
+                (
+                  g m,
+                  (
+                    mark 45 (omega arith),
+                    (
+                      g (d / 10),
+                      (
+                        g d,
+                        (
+                          mark 32 (omega arith),
+                          (g (hour / 10), (g hour, (mark 58 (omega arith), (g (minute / 10), (g minute, tt))))),
+                        ),
+                      ),
+                    ),
+                  ),
+                ),
+              ),
+            ),
+          ),
+        ),
+      ),
+    )
 
 pub IsAscii-date_text : (minutes : ℕ) → minutes < 16777216 → IsAscii (date_text minutes)
 IsAscii-date_text minutes h = rw (date_text-digits minutes _ _ _ h (refl, refl, refl)) (IsAscii-written (manufacture_day minutes).year (manufacture_day minutes).month (manufacture_day minutes).day (minutes / 60 % 24) (minutes % 60))

@@ -32,8 +32,8 @@ IsCounted-in_year (suc months) y m days n year low high short e =
     elim (cases_lt days (days_in_month (pos y) m)) [
       | inl lt ↦ rw (lt-ltb days (days_in_month (pos y) m) lt) (in_month y m days n year low (omega arith) lt e)
       | inr le ↦
-        let next = day_count-next_month (pos y) m low in
-        rw (le-ltb days (days_in_month (pos y) m) le) (IsCounted-in_year months y (m + 1) (days - days_in_month (pos y) m) n year (omega arith) (omega arith) (omega arith) (omega arith))
+          let next = day_count-next_month (pos y) m low in
+          rw (le-ltb days (days_in_month (pos y) m) le) (IsCounted-in_year months y (m + 1) (days - days_in_month (pos y) m) n year (omega arith) (omega arith) (omega arith) (omega arith))
     ]
 
 next_year : (y : ℕ) → day_count (pos (y + 1)) 1 1 ≡ day_count (pos y) 1 1 + days_in_year (pos y)
@@ -47,10 +47,10 @@ IsCounted-from (suc years) y days n year short e =
     elim (cases_lt days (days_in_year (pos y))) [
       | inl lt ↦ rw (lt-ltb days (days_in_year (pos y)) lt) (IsCounted-in_year 11 y 1 days n (omega arith) (omega arith) (omega arith) (omega arith) e)
       | inr le ↦
-        let same : y + suc years + 1 ≡ y + 1 + years + 1 = omega arith in
-        let later = rw same at short in
-        let next = next_year y in
-        rw (le-ltb days (days_in_year (pos y)) le) (IsCounted-from years (y + 1) (days - days_in_year (pos y)) n (omega arith) (omega arith) (omega arith))
+          let same : y + suc years + 1 ≡ y + 1 + years + 1 = omega arith in
+          let later = rw same at short in
+          let next = next_year y in
+          rw (le-ltb days (days_in_year (pos y)) le) (IsCounted-from years (y + 1) (days - days_in_year (pos y)) n (omega arith) (omega arith) (omega arith))
     ]
 
 pub day_count-first_day : day_count (pos 1996) 1 1 ≡ 4_381_449

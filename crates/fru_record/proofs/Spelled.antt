@@ -54,13 +54,15 @@ HasHeader-read bytes at h =
     let short = kept (nat_lt (length bytes) 8) _ _ _ h in
     let long = kept (nat_lt 4096 (length bytes)) _ _ _ short.1 in
     let version = kept (not (nat_eq (slice_index bytes 0) 1)) _ _ _ long.1 in
-    let sum = kept (not (nat_eq (checksum (take 8 bytes)) 0)) _ _ _ version.1 in
-    (record {
-      least = ltb-false (length bytes) 8 short.0;
-      most = ltb-false 4096 (length bytes) long.0;
-      version = eqb-true (slice_index bytes 0) 1 (true-not _ version.0);
-      sum = eqb-true (checksum (take 8 bytes)) 0 (true-not _ sum.0);
-    }, sym (inner (header_of bytes) at sum.1))
+    let sum = kept (not (nat_eq (checksum (take 8 bytes)) 0)) _ _ _ version.1 in (
+      record {
+        least = ltb-false (length bytes) 8 short.0;
+        most = ltb-false 4096 (length bytes) long.0;
+        version = eqb-true (slice_index bytes 0) 1 (true-not _ version.0);
+        sum = eqb-true (checksum (take 8 bytes)) 0 (true-not _ sum.0);
+      },
+      sym (inner (header_of bytes) at sum.1),
+    )
 
 pub read-HasHeader : (bytes : List ℕ) → 8 ≤ length bytes → length bytes ≤ 4096 → slice_index bytes 0 ≡ 1 → checksum (take 8 bytes) ≡ 0 → header bytes ≡ Ok (header_of bytes)
 unfolding header
@@ -81,14 +83,16 @@ IsArea-read area bytes found s h =
     let ends = both_false (nat_lt (length bytes) (s + 8)) (nat_lt (length bytes) (area_end bytes s)) outside.0 in
     let version = kept (not (nat_eq (slice_index bytes s) 1)) _ _ _ outside.1 in
     let size = kept (nat_eq (slice_index bytes (s + 1)) 0) _ _ _ version.1 in
-    let sum = kept (not (nat_eq (checksum (slice_range bytes s (area_end bytes s))) 0)) _ _ _ size.1 in
-    (record {
-      head = ltb-false (length bytes) (s + 8) ends.0;
-      inside = ltb-false (length bytes) (area_end bytes s) ends.1;
-      version = eqb-true (slice_index bytes s) 1 (true-not _ version.0);
-      size = unequal (slice_index bytes (s + 1)) 0 size.0;
-      sum = eqb-true (checksum (slice_range bytes s (area_end bytes s))) 0 (true-not _ sum.0);
-    }, sym (inner (slice_range bytes s (area_end bytes s)) found sum.1))
+    let sum = kept (not (nat_eq (checksum (slice_range bytes s (area_end bytes s))) 0)) _ _ _ size.1 in (
+      record {
+        head = ltb-false (length bytes) (s + 8) ends.0;
+        inside = ltb-false (length bytes) (area_end bytes s) ends.1;
+        version = eqb-true (slice_index bytes s) 1 (true-not _ version.0);
+        size = unequal (slice_index bytes (s + 1)) 0 size.0;
+        sum = eqb-true (checksum (slice_range bytes s (area_end bytes s))) 0 (true-not _ sum.0);
+      },
+      sym (inner (slice_range bytes s (area_end bytes s)) found sum.1),
+    )
 
 pub read-IsArea : (area : Area) (bytes : List ℕ) (s : ℕ) → s + 8 ≤ length bytes → area_end bytes s ≤ length bytes → slice_index bytes s ≡ 1 → slice_index bytes (s + 1) ≢ 0 → checksum (slice_range bytes s (area_end bytes s)) ≡ 0 → area_at area bytes s ≡ Ok (slice_range bytes s (area_end bytes s))
 unfolding area_at

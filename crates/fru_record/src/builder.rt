@@ -152,11 +152,7 @@ fn push_chassis(
     }
 }
 
-fn push_board(
-    bytes: &mut Vec<u8>,
-    units: usize,
-    part: &Option<BoardPart>,
-) -> Result<(), AllocError>
+fn push_board(bytes: &mut Vec<u8>, units: usize, part: &Option<BoardPart>) -> Result<(), AllocError>
     requires texts { AreWritable (board_texts part.now) }
     requires units { units ≡ units_of (board_body part.now) }
     requires short { units ≤ 255 }

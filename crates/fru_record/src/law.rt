@@ -10,11 +10,9 @@ ghost use Rattle.fru_record.specs.declared.parts.Parts.{Parts};
 pub fn one_record()
     ensures spelled { (bytes : List ℕ) (fields : List Field) → (record_of bytes ≡ Ok fields) ↔ SpellsRecord bytes fields }
     ensures one { (bytes : List ℕ) (fields others : List Field) → SpellsRecord bytes fields → SpellsRecord bytes others → fields ≡ others }
-{
-}
+{}
 
 /// What is built of parts is read as exactly their fields.
 pub fn built_is_read()
     ensures { (parts : Parts) → HasNames parts → All IsUtf8 (texts_of parts) → build_fault parts ≡ None → record_of (record_bytes parts) ≡ Ok (fields_of_parts parts) }
-{
-}
+{}

@@ -9,6 +9,8 @@ mod decode;
 mod law;
 mod layout;
 mod parts;
+#[cfg(test)]
+mod tests;
 mod text_rule;
 
 pub use builder::{BuildFault, build};
