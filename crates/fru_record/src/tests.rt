@@ -3,7 +3,7 @@ ghost use Rattle.fru_record.specs.Parts.{HasNames};
 
 use crate::{
     BoardPart, BuildFault, ChassisPart, FieldTexts, FruRecord, Parts, ProductPart, build,
-    built_is_read, one_record,
+    built_is_read, check_record, one_record,
 };
 use bmc_base::{OutOfMemory, Text};
 use fru_area::{Area, FruFault};
@@ -25,6 +25,7 @@ const WHOLE: &[u8; 64] = b"\x01\x00\x01\x03\x06\x00\x00\xF5\
 fn assert_fault(rt: &impl Abort, alloc: Global, bytes: &[u8], fault: FruFault) {
     let given = FruRecord::decode(alloc, bytes).err();
     assert_eq!(rt; given, Some(fault), "at {bytes:?}");
+    assert_eq!(rt; check_record(bytes), Err(fault), "at {bytes:?}");
 }
 
 fn assert_record(
@@ -34,6 +35,7 @@ fn assert_record(
     wanted: &[(&str, &str)],
 ) -> Result<(), FruFault> {
     let record = FruRecord::decode(alloc, bytes)?;
+    assert_eq!(rt; check_record(bytes), Ok(()), "at {bytes:?}");
     let fields = record.fields();
     assert_eq!(rt; fields.len(), wanted.len(), "at {bytes:?}");
     for (field, (name, text)) in fields.iter().zip(wanted) {
