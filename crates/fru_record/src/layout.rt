@@ -20,6 +20,7 @@ pub(crate) struct Layout {
 }
 
 impl Layout {
+    /// The layout of a record of these parts.
     pub fn new(parts: &Parts) -> Layout
         ensures { IsLayout parts.now result }
     {
@@ -30,14 +31,14 @@ impl Layout {
         }
     }
 
-    // Whether an area is too long.
+    /// Whether an area is too long.
     pub fn has_long_area(self) -> bool
         ensures { result ≡ (nat_lt 255 self.chassis || nat_lt 255 self.board || nat_lt 255 self.product) }
     {
         self.chassis > MOST_UNITS || self.board > MOST_UNITS || self.product > MOST_UNITS
     }
 
-    // Whether an area would begin where no offset names it, or the record is too long.
+    /// Whether an area would begin where no offset names it, or the record is too long.
     pub fn is_too_long(self) -> bool
         requires chassis { self.chassis ≤ 255 }
         requires board { self.board ≤ 255 }
@@ -47,7 +48,7 @@ impl Layout {
         self.board_offset() > MOST_UNITS || self.product_offset() > MOST_UNITS || self.len() > 4096
     }
 
-    // How many bytes the record has.
+    /// How many bytes the record has.
     pub fn len(self) -> usize
         requires chassis { self.chassis ≤ 255 }
         requires board { self.board ≤ 255 }
@@ -57,13 +58,14 @@ impl Layout {
         8 * (1 + self.chassis + self.board + self.product)
     }
 
-    // Where an area begins, in multiples of 8 bytes, or 0 where it is absent.
+    /// Where the chassis area begins, in multiples of 8 bytes, or 0 where it is absent.
     pub fn chassis_offset(self) -> usize
         ensures { result ≡ offset_at 1 self.chassis }
     {
         offset(1, self.chassis)
     }
 
+    /// Where the board area begins, in the same way.
     pub fn board_offset(self) -> usize
         requires { self.chassis ≤ 255 }
         ensures { result ≡ offset_at (1 + self.chassis) self.board }
@@ -71,6 +73,7 @@ impl Layout {
         offset(1 + self.chassis, self.board)
     }
 
+    /// Where the product area begins, in the same way.
     pub fn product_offset(self) -> usize
         requires chassis { self.chassis ≤ 255 }
         requires board { self.board ≤ 255 }

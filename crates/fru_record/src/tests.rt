@@ -53,82 +53,84 @@ const BOARD_FIELDS: [(&str, &str); 5] = [
     ("BOARD_FRU_VERSION_ID", ""),
 ];
 
+// Bytes, and their fields.
+const RECORDS: [(&[u8], &[(&str, &str)]); 9] = [
+    (BOARD, &BOARD_FIELDS),
+    // no area
+    (b"\x01\x00\x00\x00\x00\x00\x00\xFF", &[]),
+    // binary, BCD plus and 6-bit ASCII, and a date
+    (
+        b"\x01\x00\x00\x01\x00\x00\x00\xFE\x01\x03\x00\x20\x05\x08\x83)\xDC\xA6C\xAB\xCD\xEF\xC0\xC0\xC0\xC1\x00\x00\x00\x00\x00\xF6",
+        &[
+            ("BOARD_MANUFACTURE_DATE", "1996-12-31 00:00"),
+            ("BOARD_MANUFACTURER", "IPMI"),
+            ("BOARD_PRODUCT_NAME", " -.:,_"),
+            ("BOARD_SERIAL_NUMBER", ""),
+            ("BOARD_PART_NUMBER", ""),
+            ("BOARD_FRU_VERSION_ID", ""),
+        ],
+    ),
+    (
+        WHOLE,
+        &[
+            ("CHASSIS_TYPE", "23"),
+            ("CHASSIS_PART_NUMBER", "P1"),
+            ("CHASSIS_SERIAL_NUMBER", "S2"),
+            ("CHASSIS_INFO_AM1", "X1"),
+            ("BOARD_MANUFACTURE_DATE", "1996-02-15 12:17"),
+            ("BOARD_MANUFACTURER", "ACM"),
+            ("BOARD_PRODUCT_NAME", "RSR1"),
+            ("BOARD_SERIAL_NUMBER", "S1"),
+            ("BOARD_PART_NUMBER", ""),
+            ("BOARD_FRU_VERSION_ID", ""),
+            ("BOARD_INFO_AM1", "Z"),
+            ("PRODUCT_MANUFACTURER", "n\u{E9}"),
+            ("PRODUCT_PRODUCT_NAME", ""),
+            ("PRODUCT_PART_NUMBER", ""),
+            ("PRODUCT_VERSION", ""),
+            ("PRODUCT_SERIAL_NUMBER", ""),
+            ("PRODUCT_ASSET_TAG", "A"),
+            ("PRODUCT_FRU_VERSION_ID", " "),
+        ],
+    ),
+    // 2-byte Unicode, beside 6-bit ASCII
+    (
+        b"\x01\x00\x00\x01\x00\x00\x00\xFE\x01\x03\x01\x00\x00\x00\xC4A\x00\xAC \xC2BC\x82)\xDC\xC1\x00\x00\x00\x00\x00\x9B",
+        &[
+            ("BOARD_MANUFACTURER", "A\u{20AC}"),
+            ("BOARD_PRODUCT_NAME", "\u{4342}"),
+            ("BOARD_SERIAL_NUMBER", "IP"),
+        ],
+    ),
+    // English by number 25
+    (
+        b"\x01\x00\x00\x01\x00\x00\x00\xFE\x01\x02\x19\x00\x00\x00\xC4A\xE9\xACB\xC1\x00\x00\x00G",
+        &[("BOARD_MANUFACTURER", "A\u{E9}\u{AC}B")],
+    ),
+    // each area has its own language
+    (
+        b"\x01\x00\x00\x01\x03\x00\x00\xFB\x01\x02\x00\x00\x00\x00\xC2AB\xC1\x00\x00\x00\x00\x00\xF7\x01\x01\x01\xC2AB\xC1\xF7",
+        &[
+            ("BOARD_MANUFACTURER", "AB"),
+            ("PRODUCT_MANUFACTURER", "\u{4241}"),
+        ],
+    ),
+    // an early end mark
+    (
+        b"\x01\x00\x00\x01\x00\x00\x00\xFE\x01\x03\x00\x00\x00\x00\xC3ACM\xC1\xC2S1\xFF\xFF\x00\x00\x00\x00\x00\x00\x00c",
+        &[("BOARD_MANUFACTURER", "ACM")],
+    ),
+    // areas that overlap
+    (
+        b"\x01\x00\x01\x00\x01\x00\x00\xFD\x01\x01\x00\xC1\x00\x00\x00=",
+        &[("CHASSIS_TYPE", "0")],
+    ),
+];
+
 #[test]
 fn records(rt: HostRuntime) -> Result<(), Fail> {
     one_record();
-    let rows: [(&[u8], &[(&str, &str)]); 9] = [
-        (BOARD, &BOARD_FIELDS),
-        // no area
-        (b"\x01\x00\x00\x00\x00\x00\x00\xFF", &[]),
-        // binary, BCD plus and 6-bit ASCII, and a date
-        (
-            b"\x01\x00\x00\x01\x00\x00\x00\xFE\x01\x03\x00\x20\x05\x08\x83)\xDC\xA6C\xAB\xCD\xEF\xC0\xC0\xC0\xC1\x00\x00\x00\x00\x00\xF6",
-            &[
-                ("BOARD_MANUFACTURE_DATE", "1996-12-31 00:00"),
-                ("BOARD_MANUFACTURER", "IPMI"),
-                ("BOARD_PRODUCT_NAME", " -.:,_"),
-                ("BOARD_SERIAL_NUMBER", ""),
-                ("BOARD_PART_NUMBER", ""),
-                ("BOARD_FRU_VERSION_ID", ""),
-            ],
-        ),
-        (
-            WHOLE,
-            &[
-                ("CHASSIS_TYPE", "23"),
-                ("CHASSIS_PART_NUMBER", "P1"),
-                ("CHASSIS_SERIAL_NUMBER", "S2"),
-                ("CHASSIS_INFO_AM1", "X1"),
-                ("BOARD_MANUFACTURE_DATE", "1996-02-15 12:17"),
-                ("BOARD_MANUFACTURER", "ACM"),
-                ("BOARD_PRODUCT_NAME", "RSR1"),
-                ("BOARD_SERIAL_NUMBER", "S1"),
-                ("BOARD_PART_NUMBER", ""),
-                ("BOARD_FRU_VERSION_ID", ""),
-                ("BOARD_INFO_AM1", "Z"),
-                ("PRODUCT_MANUFACTURER", "n\u{E9}"),
-                ("PRODUCT_PRODUCT_NAME", ""),
-                ("PRODUCT_PART_NUMBER", ""),
-                ("PRODUCT_VERSION", ""),
-                ("PRODUCT_SERIAL_NUMBER", ""),
-                ("PRODUCT_ASSET_TAG", "A"),
-                ("PRODUCT_FRU_VERSION_ID", " "),
-            ],
-        ),
-        // 2-byte Unicode, beside 6-bit ASCII
-        (
-            b"\x01\x00\x00\x01\x00\x00\x00\xFE\x01\x03\x01\x00\x00\x00\xC4A\x00\xAC \xC2BC\x82)\xDC\xC1\x00\x00\x00\x00\x00\x9B",
-            &[
-                ("BOARD_MANUFACTURER", "A\u{20AC}"),
-                ("BOARD_PRODUCT_NAME", "\u{4342}"),
-                ("BOARD_SERIAL_NUMBER", "IP"),
-            ],
-        ),
-        // English by number 25
-        (
-            b"\x01\x00\x00\x01\x00\x00\x00\xFE\x01\x02\x19\x00\x00\x00\xC4A\xE9\xACB\xC1\x00\x00\x00G",
-            &[("BOARD_MANUFACTURER", "A\u{E9}\u{AC}B")],
-        ),
-        // each area has its own language
-        (
-            b"\x01\x00\x00\x01\x03\x00\x00\xFB\x01\x02\x00\x00\x00\x00\xC2AB\xC1\x00\x00\x00\x00\x00\xF7\x01\x01\x01\xC2AB\xC1\xF7",
-            &[
-                ("BOARD_MANUFACTURER", "AB"),
-                ("PRODUCT_MANUFACTURER", "\u{4241}"),
-            ],
-        ),
-        // an early end mark
-        (
-            b"\x01\x00\x00\x01\x00\x00\x00\xFE\x01\x03\x00\x00\x00\x00\xC3ACM\xC1\xC2S1\xFF\xFF\x00\x00\x00\x00\x00\x00\x00c",
-            &[("BOARD_MANUFACTURER", "ACM")],
-        ),
-        // areas that overlap
-        (
-            b"\x01\x00\x01\x00\x01\x00\x00\xFD\x01\x01\x00\xC1\x00\x00\x00=",
-            &[("CHASSIS_TYPE", "0")],
-        ),
-    ];
-    for (bytes, wanted) in rows {
+    for (bytes, wanted) in RECORDS {
         assert_record(&rt, rt.alloc(), bytes, wanted)?;
     }
     Ok(())
