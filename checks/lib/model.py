@@ -3,10 +3,16 @@
 has to print, and ends with its status. The checks compare the program with it."""
 
 import datetime
+import json
+import math
 import re
 import sys
 
 LONGEST = 9000
+LONGEST_BLOCK = 262_144
+MOST_CONFIGS = 256
+DEEPEST = 127
+CONFIG = re.compile(rb"config ([0-9]{1,9})")
 PLUG = re.compile(rb"plug ([0-9]{1,9}) ([0-9]{1,9}) ((?:[0-9A-Fa-f]{2})+)")
 UNPLUG = re.compile(rb"unplug ([0-9]{1,9}) ([0-9]{1,9})")
 BOARD_NAMES = "MANUFACTURER PRODUCT_NAME SERIAL_NUMBER PART_NUMBER FRU_VERSION_ID".split()
@@ -18,13 +24,30 @@ AREAS = [
     ("Board", 3, 6, "BOARD", BOARD_NAMES),
     ("Product", 4, 3, "PRODUCT", PRODUCT_NAMES),
 ]
+# A plain probe, and a string of a JSON text, whose closing quote may be missing.
+PROBE = rf"xyz\.openbmc_project\.FruDevice\(\{{'BOARD_(?:{'|'.join(BOARD_NAMES)})': '[0-9A-Za-z]{{1,64}}'\}}\)"
+PLAIN_PROBE = re.compile(f"TRUE|{PROBE}")
+STRING = re.compile(r'"(?:[^"\\]|\\.)*"?', re.S)
+SURROGATE = re.compile("[\ud800-\udfff]")
 END = 0xC1
 ENGLISH = (0, 25)
 BCD_PLUS = "0123456789 -.:,_"
 
 
 class Broken(Exception):
-    """A rule that a record breaks, by the name that is printed."""
+    """A rule that a record or a configuration breaks, by the name that is printed."""
+
+
+class Members(list):
+    """The members of an object as they were read, each a key and its value. A key may come twice."""
+
+
+class Machine:
+    """What stands: the FRUs that are present by place, the names of the configurations, and whether a FRU
+    was plugged."""
+
+    def __init__(self):
+        self.present, self.names, self.plugged = {}, [], False
 
 
 def obey(rule, kept):
@@ -140,41 +163,158 @@ def place_of(bus, address):
     return (bus, address) if bus <= 255 and address <= 127 else None
 
 
-def refusal_of(line, present):
-    """Why a line is refused, or None. What it asks for is done to those that are present."""
-    if len(line) > LONGEST:
-        return "UnknownCommand"
-    line = line[:-1] if line.endswith(b"\r") else line
-    if not line or line.startswith(b"#"):
-        return None
-    plug, unplug = PLUG.fullmatch(line), UNPLUG.fullmatch(line)
-    found = plug or unplug
-    place = place_of(found[1], found[2]) if found else None
-    if place is None:
-        return "UnknownCommand"
-    if unplug:
-        return None if present.pop(place, None) is not None else "NotPresent"
-    if place in present:
-        return "Occupied"
+def finite(text):
+    """A number as a float, which has to be in its range."""
+    value = float(text)
+    if math.isinf(value):
+        raise ValueError("beyond the range of a float")
+    return value
+
+
+def whole(text):
+    """A number without a fraction and an exponent: an int where it is one of 64 bits, and else a float."""
+    value = finite(text)
+    fits = text != "-0" and len(text) <= 20 and -(2**63) <= int(text) < 2**64
+    return int(text) if fits else value
+
+
+def no_constant(word):
+    """Python reads NaN and Infinity, which are no JSON."""
+    raise ValueError(word)
+
+
+def depth(text):
+    """How deep arrays and objects nest, by the brackets outside of strings."""
+    deep = most = 0
+    for bracket in re.findall(r"[\[\]{}]", STRING.sub("", text)):
+        deep += 1 if bracket in "[{" else -1
+        most = max(most, deep)
+    return most
+
+
+def parts(value):
+    """A value and all that stands in it, keys too."""
+    yield value
+    inner = value.items() if isinstance(value, dict) else value if isinstance(value, (list, tuple)) else ()
+    for it in inner:
+        yield from parts(it)
+
+
+def last_ones(value):
+    """A value in which of the members with one key only the last is left."""
+    if isinstance(value, Members):
+        return {key: last_ones(it) for key, it in value}
+    return [last_ones(it) for it in value] if isinstance(value, list) else value
+
+
+def document_of(block):
+    """The document of these bytes. Raises ValueError where they are no JSON text."""
+    text = block.decode("utf-8")
+    if depth(text) > DEEPEST:
+        raise ValueError("nested too deep")
+    hooks = {"parse_float": finite, "parse_int": whole, "parse_constant": no_constant, "object_pairs_hook": Members}
+    document = json.loads(text, **hooks)
+    if any(isinstance(it, str) and SURROGATE.search(it) for it in parts(document)):
+        raise ValueError("a surrogate that is alone")
+    return last_ones(document)
+
+
+def name_of(block):
+    """The name of a configuration. Raises Broken with the first rule that it breaks by itself."""
     try:
-        present[place] = fields_of(bytes.fromhex(plug[3].decode()))
+        document = document_of(block)
+    except ValueError:
+        raise Broken("NotJson") from None
+    obey("Fraction", not any(isinstance(it, float) for it in parts(document)))
+    obey("WrongKind", isinstance(document, dict))
+    obey("MissingKey", "Name" in document)
+    name = document["Name"]
+    obey("WrongKind", isinstance(name, str))
+    obey("OutOfRange", 1 <= len(name.encode()) <= 64)
+    obey("MissingKey", "Probe" in document)
+    probe = document["Probe"]
+    obey("WrongKind", isinstance(probe, (str, list)))
+    obey("ProbeForm", isinstance(probe, str) and PLAIN_PROBE.fullmatch(probe))
+    obey("ProbeForm", "Exposes" not in document)
+    return name
+
+
+def config(size, block, machine):
+    """Keeps the configuration of a block that should have this size."""
+    obey("ConfigTooLong", size <= LONGEST_BLOCK)
+    obey("ConfigShort", len(block) == size)
+    name = name_of(block)
+    obey("ConfigAfterPlug", not machine.plugged)
+    obey("DuplicateName", name not in machine.names)
+    obey("ConfigLimit", len(machine.names) < MOST_CONFIGS)
+    machine.names.append(name)
+
+
+def plug(place, record, machine):
+    """Puts the FRU with this record at a place."""
+    obey("Occupied", place not in machine.present)
+    machine.present[place] = fields_of(record)
+    machine.plugged = True
+
+
+def line_alone(line, machine):
+    """Does what a line without a block asks for."""
+    plugged, unplugged = PLUG.fullmatch(line), UNPLUG.fullmatch(line)
+    found = plugged or unplugged
+    place = place_of(found[1], found[2]) if found else None
+    obey("UnknownCommand", place is not None)
+    if plugged:
+        plug(place, bytes.fromhex(plugged[3].decode()), machine)
+    else:
+        obey("NotPresent", machine.present.pop(place, None) is not None)
+
+
+def without_return(line):
+    """A line without the carriage return at its end."""
+    return line[:-1] if line.endswith(b"\r") else line
+
+
+def refusal_of(line, size, block, machine):
+    """Why a line is refused, with its block where it takes one, or None. What it asks for is done."""
+    try:
+        obey("UnknownCommand", len(line) <= LONGEST)
+        line = without_return(line)
+        if size is not None:
+            config(size, block, machine)
+        elif line and not line.startswith(b"#"):
+            line_alone(line, machine)
     except Broken as rule:
         return str(rule)
     return None
 
 
+def items_of(script):
+    """The lines of a script, each with the size of the block that it takes, or None, and with its block."""
+    at = 0
+    # Behind the last newline there is no line, unless bytes stand there.
+    while at < len(script):
+        newline = script.find(b"\n", at)
+        end = newline if newline >= 0 else len(script)
+        line, at = script[at:end], end + 1
+        found = CONFIG.fullmatch(without_return(line))
+        size = int(found[1]) if found else None
+        block = script[at : at + (size or 0)]
+        at += size or 0
+        # A newline directly behind a block belongs to it.
+        if size is not None and script[at : at + 1] == b"\n":
+            at += 1
+        yield line, size, block
+
+
 def replay(script):
     """What is printed for a script, and the status."""
-    lines = script.split(b"\n")
-    # Behind the last newline there is no line, unless bytes stand there.
-    if not lines[-1]:
-        lines.pop()
-    present, printed = {}, []
-    for number, line in enumerate(lines, 1):
-        refusal = refusal_of(line, present)
+    machine, printed = Machine(), []
+    for number, (line, size, block) in enumerate(items_of(script), 1):
+        refusal = refusal_of(line, size, block, machine)
         if refusal:
             printed.append(f"line {number} refused {refusal}")
     status = 1 if printed else 0
+    present = machine.present
     printed += [row(place, present[place]) for place in sorted(present)]
     return "".join(it + "\n" for it in printed).encode(), status
 

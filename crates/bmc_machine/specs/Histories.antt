@@ -1,17 +1,20 @@
--- What has happened, and what is present after it.
-use Rattle.std.specs.Prelude.{ℕ, Bool, if◌then◌else◌, List, [], ◌∷◌, Option, Some, None, Result, Ok, Err}
+-- What has happened, and what stands after it.
+use Rattle.std.specs.Prelude.{ℕ, Bool, true, false, nat_le, if◌then◌else◌, List, [], ◌∷◌, ◌++◌, length, is_some, Option, Some, None, Result, Ok, Err}
 use Rattle.std.specs.List.{list_any}
 use Rattle.std.specs.Ordering.{is_lt, is_eq}
 use Rattle.bmc_base.specs.Places.{Place, place_cmp}
 use Rattle.fru_area.specs.declared.field.Field.{Field}
 use Rattle.fru_area.specs.declared.fault.FruFault.{FruFault}
 use Rattle.fru_record.specs.Records.{record_of}
+use Rattle.cfg_json.specs.Configs.{Config}
+use Rattle.cfg_json.specs.Shelves.{number_of}
 use Rattle.bmc_report.specs.declared.refusal.Refusal.{Refusal}
-use Rattle.bmc_report.specs.declared.refusal.Refusal.TheVariants.{Occupied, Fru as NoRecord, NotPresent}
+use Rattle.bmc_report.specs.declared.refusal.Refusal.TheVariants.{ConfigAfterPlug, DuplicateName, ConfigLimit, Occupied, Fru as NoRecord, NotPresent}
 
--- A step: a FRU with these bytes appeared at a place, or that at a place was taken away. A history is a list of steps,
--- the newest first.
+-- A step: a configuration was given, a FRU with these bytes appeared at a place, or that at a place was taken away. A
+-- history is a list of steps, the newest first.
 pub data Step : Type 0 where
+  Configure : Config → Step
   Plug : Place → List ℕ → Step
   Unplug : Place → Step
 
@@ -36,22 +39,33 @@ abbrev pub without : Place → List Fru → List Fru
 without place [] = []
 without place (fru ∷ frus) = if is_at place fru then frus else fru ∷ without place frus
 
-abbrev pub after_step : List Fru → Step → List Fru
-after_step frus (Plug place bytes) = put (record { place = place; bytes = bytes }) frus
-after_step frus (Unplug place) = without place frus
+-- what stands after a history: the configurations in their order, the FRUs that are present by place, and whether any
+-- FRU was ever plugged
+pub record Standing : Type 0 where
+  pub configs : List Config
+  pub frus : List Fru
+  pub plugged : Bool
 
--- the FRUs that were plugged and not unplugged since, by place
-unfoldable pub present : List Step → List Fru
-present [] = []
-present (step ∷ past) = after_step (present past) step
+abbrev pub after_step : Standing → Step → Standing
+after_step now (Configure config) = record now { configs = now.configs ++ config ∷ [] }
+after_step now (Plug place bytes) = record now { frus = put (record { place = place; bytes = bytes }) now.frus; plugged = true }
+after_step now (Unplug place) = record now { frus = without place now.frus }
+
+unfoldable pub standing : List Step → Standing
+standing [] = record { configs = []; frus = []; plugged = false }
+standing (step ∷ past) = after_step (standing past) step
 
 -- the first broken rule of bytes that are no record
 abbrev pub broken_rule : Result (List Field) FruFault → Option Refusal
 broken_rule (Ok fields) = None
 broken_rule (Err rule) = Some (NoRecord rule)
 
--- why a step is refused where these FRUs are present, or none
-abbrev pub refusal_of : List Fru → Step → Option Refusal
-refusal_of frus (Plug place bytes) =
-    if is_present frus place then Some Occupied else broken_rule (record_of bytes)
-refusal_of frus (Unplug place) = if is_present frus place then None else Some NotPresent
+-- why a step is refused where this stands, or none
+abbrev pub refusal_of : Standing → Step → Option Refusal
+refusal_of now (Configure config) =
+    if now.plugged then Some ConfigAfterPlug
+    else if is_some (number_of now.configs config.name) then Some DuplicateName
+    else if nat_le 256 (length now.configs) then Some ConfigLimit
+    else None
+refusal_of now (Plug place bytes) = if is_present now.frus place then Some Occupied else broken_rule (record_of bytes)
+refusal_of now (Unplug place) = if is_present now.frus place then None else Some NotPresent

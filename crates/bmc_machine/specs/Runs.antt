@@ -1,7 +1,7 @@
 -- The machine: it takes the items of a script in turn, and what it prints follows from what is present then.
 use Rattle.std.specs.Prelude.{ℕ, ◌+◌, Bool, true, false, List, [], ◌∷◌, ◌++◌, Option, Some, None, Result, Ok, Err}
 use Rattle.std.specs.List.{list_any, flat_map}
-use Rattle.bmc_text.specs.Items.{Item, Line, LineTooLong, items_of, whole_items}
+use Rattle.bmc_text.specs.Items.{Item, Line, LineTooLong, Block, BlockTooLong, BlockShort, items_of, whole_items}
 use Rattle.bmc_script.specs.Commands.{command_of}
 use Rattle.bmc_script.specs.declared.command.Command.{Command}
 use Rattle.bmc_script.specs.declared.command.Command.TheVariants as commands
@@ -9,11 +9,14 @@ use Rattle.bmc_script.specs.declared.command.ScriptFault.{ScriptFault}
 use Rattle.bmc_report.specs.Refusals.{refused_line}
 use Rattle.bmc_report.specs.Rows.{fru_row}
 use Rattle.bmc_report.specs.declared.refusal.Refusal.{Refusal}
-use Rattle.bmc_report.specs.declared.refusal.Refusal.TheVariants.{UnknownCommand}
+use Rattle.bmc_report.specs.declared.refusal.Refusal.TheVariants.{UnknownCommand, ConfigTooLong, ConfigShort, Config as NoConfig}
 use Rattle.fru_area.specs.declared.field.Field.{Field}
 use Rattle.fru_area.specs.declared.fault.FruFault.{FruFault}
 use Rattle.fru_record.specs.Records.{record_of}
-use Rattle.bmc_machine.specs.Histories.{Step, Plug, Unplug, Fru, present, refusal_of}
+use Rattle.cfg_json.specs.Configs.{Config}
+use Rattle.cfg_json.specs.Documents.{config_read}
+use Rattle.cfg_json.specs.declared.config.ConfigFault.{ConfigFault}
+use Rattle.bmc_machine.specs.Histories.{Step, Configure, Plug, Unplug, Fru, Standing, standing, refusal_of}
 
 -- what comes of an item
 pub data Outcome : Type 0 where
@@ -25,23 +28,31 @@ abbrev pub judged : Step → Option Refusal → Outcome
 judged step None = Accepted step
 judged step (Some refusal) = Refused refusal
 
--- what comes of a step where these FRUs are present
-abbrev pub step_outcome : List Fru → Step → Outcome
-step_outcome frus step = judged step (refusal_of frus step)
+-- what comes of a step where this stands
+abbrev pub step_outcome : Standing → Step → Outcome
+step_outcome now step = judged step (refusal_of now step)
 
-abbrev pub command_outcome : List Fru → Result Command ScriptFault → Outcome
-command_outcome frus (Ok commands.Nothing) = Nothing
-command_outcome frus (Ok (commands.Plug place bytes)) = step_outcome frus (Plug place bytes)
-command_outcome frus (Ok (commands.Unplug place)) = step_outcome frus (Unplug place)
-command_outcome frus (Err fault) = Refused UnknownCommand
+abbrev pub command_outcome : Standing → Result Command ScriptFault → Outcome
+command_outcome now (Ok commands.Nothing) = Nothing
+command_outcome now (Ok (commands.Plug place bytes)) = step_outcome now (Plug place bytes)
+command_outcome now (Ok (commands.Unplug place)) = step_outcome now (Unplug place)
+command_outcome now (Err fault) = Refused UnknownCommand
 
-abbrev pub item_outcome : List Fru → Item → Outcome
-item_outcome frus (Line line) = command_outcome frus (command_of line)
-item_outcome frus LineTooLong = Refused UnknownCommand
+-- what comes of a configuration that was read of its block
+abbrev pub config_outcome : Standing → Result Config ConfigFault → Outcome
+config_outcome now (Ok config) = step_outcome now (Configure config)
+config_outcome now (Err rule) = Refused (NoConfig rule)
+
+abbrev pub item_outcome : Standing → Item → Outcome
+item_outcome now (Line line) = command_outcome now (command_of line)
+item_outcome now LineTooLong = Refused UnknownCommand
+item_outcome now (Block bytes) = config_outcome now (config_read bytes)
+item_outcome now BlockTooLong = Refused ConfigTooLong
+item_outcome now BlockShort = Refused ConfigShort
 
 -- what comes of an item after a history
 abbrev pub outcome : List Step → Item → Outcome
-outcome past item = item_outcome (present past) item
+outcome past item = item_outcome (standing past) item
 
 -- an accepted step joins the history
 abbrev pub joined : List Step → Outcome → List Step
@@ -89,7 +100,7 @@ final_list frus = flat_map row_of frus
 
 -- what is printed of these items and then of what is present, from this number and after this history on
 unfoldable pub out_from : ℕ → List Step → List Item → List ℕ
-out_from number past items = texts number (outcomes past items) ++ final_list (present (history past (outcomes past items)))
+out_from number past items = texts number (outcomes past items) ++ final_list (standing (history past (outcomes past items))).frus
 
 -- what is printed for a script: the texts of its items, numbered from 1, and then the final list
 abbrev pub out : List ℕ → List ℕ

@@ -6,16 +6,15 @@ use Rattle.std.proofs.KnownBytes.{Appends-nil, Appends-trans, Consumes-nil, Cons
 use Rattle.bmc_io.specs.Sinks.{AppendsFront}
 use Rattle.bmc_io.proofs.Fronts.{front_after, front_so_far, front_all}
 use Rattle.bmc_text.specs.Items.{Item, items_of}
-use Rattle.bmc_text.specs.Feeds.{Feed}
-use Rattle.bmc_text.specs.Reading.{item_got, TakesNext, TakesItem, Spends}
-use Rattle.bmc_text.specs.declared.lines.Got.{Got}
-use Rattle.bmc_text.specs.declared.lines.Got.TheVariants.{Line, LineTooLong, End}
-use Rattle.bmc_machine.specs.Histories.{Step, Fru, present}
+use Rattle.bmc_text.specs.Taking.{ItemFeed, item_next, TakesNextItem, TakesItem, SpendsItem}
+use Rattle.bmc_text.specs.declared.items.NextItem.{NextItem}
+use Rattle.bmc_text.specs.declared.items.NextItem.TheVariants.{Line, LineTooLong, Block, BlockTooLong, BlockShort, End}
+use Rattle.bmc_machine.specs.Histories.{Step, Standing, standing}
 use Rattle.bmc_machine.specs.Runs.{outcome, item_outcome, outcome_text, joined, is_refused, out, out_from, refuses, final_list}
 use Rattle.bmc_replay.specs.declared.run.Run.{Run}
 use Rattle.bmc_replay.specs.declared.stop.Stop.{Stop}
 use Rattle.bmc_replay.specs.declared.stop.Stop.TheVariants as stops
-use Rattle.bmc_replay.specs.Steps.{TakesGot, frus_after, IsNew}
+use Rattle.bmc_replay.specs.Steps.{after, IsNew, TakesNext}
 use Rattle.bmc_replay.specs.Gathering.{Gathers}
 use Rattle.bmc_replay.specs.Advances.{GetsNothing, StopsAt}
 use Rattle.bmc_replay.specs.Statuses.{Replays, Reaches, Takes, WritesWhole, status_of}
@@ -28,25 +27,25 @@ pub record Printed (old now : Option (List ℕ)) (text total : List ℕ) : Type 
   pub parts : written ++ text ≡ total
 
 -- The bytes of the source that were read have taken the machine this far, and what it printed is written or gathered.
-pub record Along (left left_now old now : Option (List ℕ)) (lines : Feed) (run : Run) : Type 0 where
+pub record Along (left left_now old now : Option (List ℕ)) (lines : ItemFeed) (run : Run) : Type 0 where
   pub taken : List ℕ
   pub total : List ℕ
   pub past : List Step
   pub consumed : Consumes left left_now taken
   pub read : length taken ≡ lines.read
   pub printed : Printed old now (string_bytes run.text) total
-  pub stands : run.present ≡ present past
+  pub stands : run.state ≡ standing past
   pub machine : SoFar taken lines.waiting total past run.number run.refused
 
 -- The source was read to its end, and the final list is left to print.
-pub record Ended (left left_now old now : Option (List ℕ)) (lines : Feed) (run : Run) : Type 0 where
+pub record Ended (left left_now old now : Option (List ℕ)) (lines : ItemFeed) (run : Run) : Type 0 where
   pub taken : List ℕ
   pub total : List ℕ
   pub past : List Step
   pub consumed : Consumes left left_now taken
   pub read : length taken ≡ lines.read
   pub printed : Printed old now (string_bytes run.text) total
-  pub stands : run.present ≡ present past
+  pub stands : run.state ≡ standing past
   pub machine : AllTaken taken total past run.refused
 
 pub printed_none : (a : Option (List ℕ)) (text : List ℕ) → text ≡ [] → Printed a a text []
@@ -68,21 +67,21 @@ printed_more a b text kept total more p e = record {
   parts = ap (λ (l : List ℕ). p.written ++ l) e ∙ sym (append_assoc p.written text more) ∙ ap (λ (l : List ℕ). l ++ more) p.parts;
 }
 
-present_none : [] ≡ present []
-unfolding present
-present_none = refl
+standing_none : record { configs = []; frus = []; plugged = false } ≡ standing []
+unfolding standing
+standing_none = refl
 
 -- it begins
-pub along_none : (left taken : Option (List ℕ)) (lines : Feed) (run : Run) → lines ≡ record { line = []; waiting = []; read = 0; ended = false } → IsNew run → Along left left taken taken lines run
+pub along_none : (left taken : Option (List ℕ)) (lines : ItemFeed) (run : Run) → lines ≡ record { line = []; block = []; waiting = []; read = 0; ended = false } → IsNew run → Along left left taken taken lines run
 along_none left taken lines run e new = record {
   taken = [];
   total = [];
   past = [];
   consumed = Consumes-nil left;
-  read = sym (ap (λ (l : Feed). l.read) e);
+  read = sym (ap (λ (l : ItemFeed). l.read) e);
   printed = printed_none taken (string_bytes run.text) new.text;
-  stands = new.frus ∙ present_none;
-  machine = rw (ap (λ (l : Feed). l.waiting) e, new.number, new.refused) so_far_none;
+  stands = new.stands ∙ standing_none;
+  machine = rw (ap (λ (l : ItemFeed). l.waiting) e, new.number, new.refused) so_far_none;
 }
 
 -- a front of what is printed for the script, where it is told
@@ -113,12 +112,12 @@ along_begins None left_now taken waiting total past number refused c m = tt
 along_begins (Some script) None taken waiting total past number refused c m = absurd c
 along_begins (Some script) (Some rest) taken waiting total past number refused c m = (out_from number past (items_of (waiting ++ rest)), ap out c ∙ m.all rest)
 
-pub ended_begins : (left left_now : Option (List ℕ)) (taken total : List ℕ) (past : List Step) (refused : Bool) → Consumes left left_now taken → IsAtEnd left_now → AllTaken taken total past refused → Begins left (total ++ final_list (present past))
+pub ended_begins : (left left_now : Option (List ℕ)) (taken total : List ℕ) (past : List Step) (refused : Bool) → Consumes left left_now taken → IsAtEnd left_now → AllTaken taken total past refused → Begins left (total ++ final_list (standing past).frus)
 ended_begins None left_now taken total past refused c e m = tt
 ended_begins (Some script) None taken total past refused c e m = absurd c
 ended_begins (Some script) (Some rest) taken total past refused c e m =
     let whole : script ≡ taken = c ∙ ap (λ (l : List ℕ). taken ++ l) e ∙ append-nil taken in
-    ([], ap out whole ∙ m.all ∙ sym (append-nil (total ++ final_list (present past))))
+    ([], ap out whole ∙ m.all ∙ sym (append-nil (total ++ final_list (standing past).frus)))
 
 -- what was written of it is a front
 pub begins_front : (script a b : Option (List ℕ)) (text total : List ℕ) → Begins script total → Printed a b text total → IsFront script a b
@@ -138,7 +137,7 @@ begins_cut script a b c text total h p f =
     begins_stopped script a b c text [] total (subst (Begins script) (sym (append-nil total)) h) p (subst (AppendsFront b c) (sym (append-nil text)) f)
 
 -- all that was printed is written, and it is what is printed of the items that are whole in the bytes taken
-stops_whole : (left left_now left_new old now new : Option (List ℕ)) (lines lines' : Feed) (run : Run) (IsCount : ℕ → Type 0) → Along left left_now old now lines run → GetsNothing lines lines' left_now left_new now new (string_bytes run.text) IsCount → WritesWhole left left_new old new IsCount
+stops_whole : (left left_now left_new old now new : Option (List ℕ)) (lines lines' : ItemFeed) (run : Run) (IsCount : ℕ → Type 0) → Along left left_now old now lines run → GetsNothing lines lines' left_now left_new now new (string_bytes run.text) IsCount → WritesWhole left left_new old new IsCount
 stops_whole left left_now left_new old now new lines lines' run IsCount a s = record {
   bytes = a.taken ++ s.reading.piece;
   consumed = Consumes-trans left left_now left_new a.taken s.reading.piece a.consumed s.reading.consumed;
@@ -147,8 +146,11 @@ stops_whole left left_now left_new old now new lines lines' run IsCount a s = re
 }
 
 -- the run stops where an item is wanted
-pub along_stops : (e : Stop) (left left_now left_new old now new : Option (List ℕ)) (lines lines' : Feed) (run : Run) → Along left left_now old now lines run → StopsAt e lines lines' left_now left_new now new (string_bytes run.text) → Replays (status_of (Err e)) left old new × Reaches (status_of (Err e)) left left_new old new
-along_stops stops.OutOfMemory left left_now left_new old now new lines lines' run a s = absurd s
+pub along_stops : (e : Stop) (left left_now left_new old now new : Option (List ℕ)) (lines lines' : ItemFeed) (run : Run) → Along left left_now old now lines run → StopsAt e lines lines' left_now left_new now new (string_bytes run.text) → Replays (status_of (Err e)) left old new × Reaches (status_of (Err e)) left left_new old new
+along_stops stops.OutOfMemory left left_now left_new old now new lines lines' run a s = (
+  stopped stops.OutOfMemory left old new (begins_cut left old now new (string_bytes run.text) a.total (along_begins left left_now a.taken lines.waiting a.total a.past run.number run.refused a.consumed a.machine) a.printed s),
+  tt,
+)
 along_stops stops.WriteFault left left_now left_new old now new lines lines' run a s = (
   stopped stops.WriteFault left old new (begins_cut left old now new (string_bytes run.text) a.total (along_begins left left_now a.taken lines.waiting a.total a.past run.number run.refused a.consumed a.machine) a.printed s),
   tt,
@@ -163,18 +165,18 @@ along_stops stops.TooLong left left_now left_new old now new lines lines' run a 
 )
 
 -- The item that was got is taken: the run goes on, or the source was read to its end.
-abbrev pub AlongOr : Bool → Option (List ℕ) → Option (List ℕ) → Option (List ℕ) → Option (List ℕ) → Feed → Run → Type 0
+abbrev pub AlongOr : Bool → Option (List ℕ) → Option (List ℕ) → Option (List ℕ) → Option (List ℕ) → ItemFeed → Run → Type 0
 AlongOr false left left_now old now lines run = Along left left_now old now lines run
 AlongOr true left left_now old now lines run = Ended left left_now old now lines run
 
--- what comes of an item is the same of what is present and of the history
-same_outcome : (past : List Step) (frus : List Fru) (item : Item) → frus ≡ present past → item_outcome frus item ≡ outcome past item
-same_outcome past frus item e = ap (λ (l : List Fru). item_outcome l item) e
+-- what comes of an item is the same of what stands and of the history
+same_outcome : (past : List Step) (now : Standing) (item : Item) → now ≡ standing past → item_outcome now item ≡ outcome past item
+same_outcome past now item e = ap (λ (now : Standing). item_outcome now item) e
 
 took_length : (taken piece : List ℕ) (read now : ℕ) → length taken ≡ read → now ≡ read + length piece → length (taken ++ piece) ≡ now
 took_length taken piece read now e f = omega (arith, e, f, length-append taken piece)
 
-pub along_takes : (item : Option Item) (ended : Bool) (left left_now left_new old now new : Option (List ℕ)) (lines lines' : Feed) (run moved run' : Run) (piece : List ℕ) → Along left left_now old now lines run → Consumes left_now left_new piece → lines'.read ≡ lines.read + length piece → TakesItem item ended (lines.waiting ++ piece) lines'.waiting → Gathers now new (string_bytes run.text) (string_bytes moved.text) [] → moved.present ≡ run.present → moved.number ≡ run.number → moved.refused ≡ run.refused → TakesGot item moved run' → AlongOr ended left left_new old new lines' run'
+pub along_takes : (item : Option Item) (ended : Bool) (left left_now left_new old now new : Option (List ℕ)) (lines lines' : ItemFeed) (run moved run' : Run) (piece : List ℕ) → Along left left_now old now lines run → Consumes left_now left_new piece → lines'.read ≡ lines.read + length piece → TakesItem item ended (lines.waiting ++ piece) lines'.waiting → Gathers now new (string_bytes run.text) (string_bytes moved.text) [] → moved.state ≡ run.state → moved.number ≡ run.number → moved.refused ≡ run.refused → TakesNext item moved run' → AlongOr ended left left_new old new lines' run'
 along_takes None false left left_now left_new old now new lines lines' run moved run' piece a c r t g e1 e2 e3 s = absurd (let no = t.end in cc)
 along_takes None true left left_now left_new old now new lines lines' run moved run' piece a c r t g e1 e2 e3 s = record {
   taken = a.taken ++ piece;
@@ -183,11 +185,11 @@ along_takes None true left left_now left_new old now new lines lines' run moved 
   consumed = Consumes-trans left left_now left_new a.taken piece a.consumed c;
   read = took_length a.taken piece lines.read lines'.read a.read r;
   printed = rw (ap (λ (r : Run). string_bytes r.text) s) (printed_moved old now new (string_bytes run.text) (string_bytes moved.text) a.total a.printed g);
-  stands = ap (λ (r : Run). r.present) s ∙ e1 ∙ a.stands;
+  stands = ap (λ (r : Run). r.state) s ∙ e1 ∙ a.stands;
   machine = subst (AllTaken (a.taken ++ piece) a.total a.past) (sym (ap (λ (r : Run). r.refused) s ∙ e3)) (so_far_end a.taken lines.waiting piece lines'.waiting a.total a.past run.number run.refused true a.machine t);
 }
 along_takes (Some item) true left left_now left_new old now new lines lines' run moved run' piece a c r t g e1 e2 e3 s =
-    let same : item_outcome moved.present item ≡ outcome a.past item = same_outcome a.past moved.present item (e1 ∙ a.stands) in
+    let same : item_outcome moved.state item ≡ outcome a.past item = same_outcome a.past moved.state item (e1 ∙ a.stands) in
     record {
       taken = a.taken ++ piece;
       total = a.total ++ outcome_text run.number (outcome a.past item);
@@ -195,11 +197,11 @@ along_takes (Some item) true left left_now left_new old now new lines lines' run
       consumed = Consumes-trans left left_now left_new a.taken piece a.consumed c;
       read = took_length a.taken piece lines.read lines'.read a.read r;
       printed = printed_more old new (string_bytes moved.text) (string_bytes run'.text) a.total _ (printed_moved old now new (string_bytes run.text) (string_bytes moved.text) a.total a.printed g) (s.text ∙ ap (λ o. string_bytes moved.text ++ outcome_text moved.number o) same ∙ ap (λ n. string_bytes moved.text ++ outcome_text n (outcome a.past item)) e2);
-      stands = s.frus ∙ ap (frus_after moved.present) same ∙ ap (λ (l : List Fru). frus_after l (outcome a.past item)) (e1 ∙ a.stands) ∙ stands_after a.past (outcome a.past item);
+      stands = s.stands ∙ ap (after moved.state) same ∙ ap (λ (now : Standing). after now (outcome a.past item)) (e1 ∙ a.stands) ∙ stands_after a.past (outcome a.past item);
       machine = subst (AllTaken (a.taken ++ piece) (a.total ++ outcome_text run.number (outcome a.past item)) (joined a.past (outcome a.past item))) (sym (s.refused ∙ ap (λ o. moved.refused || is_refused o) same ∙ ap (λ (b : Bool). b || is_refused (outcome a.past item)) e3)) (so_far_last a.taken lines.waiting piece lines'.waiting a.total a.past run.number run.refused item a.machine t);
     }
 along_takes (Some item) false left left_now left_new old now new lines lines' run moved run' piece a c r t g e1 e2 e3 s =
-    let same : item_outcome moved.present item ≡ outcome a.past item = same_outcome a.past moved.present item (e1 ∙ a.stands) in
+    let same : item_outcome moved.state item ≡ outcome a.past item = same_outcome a.past moved.state item (e1 ∙ a.stands) in
     record {
       taken = a.taken ++ piece;
       total = a.total ++ outcome_text run.number (outcome a.past item);
@@ -207,18 +209,18 @@ along_takes (Some item) false left left_now left_new old now new lines lines' ru
       consumed = Consumes-trans left left_now left_new a.taken piece a.consumed c;
       read = took_length a.taken piece lines.read lines'.read a.read r;
       printed = printed_more old new (string_bytes moved.text) (string_bytes run'.text) a.total _ (printed_moved old now new (string_bytes run.text) (string_bytes moved.text) a.total a.printed g) (s.text ∙ ap (λ o. string_bytes moved.text ++ outcome_text moved.number o) same ∙ ap (λ n. string_bytes moved.text ++ outcome_text n (outcome a.past item)) e2);
-      stands = s.frus ∙ ap (frus_after moved.present) same ∙ ap (λ (l : List Fru). frus_after l (outcome a.past item)) (e1 ∙ a.stands) ∙ stands_after a.past (outcome a.past item);
+      stands = s.stands ∙ ap (after moved.state) same ∙ ap (λ (now : Standing). after now (outcome a.past item)) (e1 ∙ a.stands) ∙ stands_after a.past (outcome a.past item);
       machine = rw (s.number ∙ ap (λ n. n + 1) e2, s.refused ∙ ap (λ o. moved.refused || is_refused o) same ∙ ap (λ (b : Bool). b || is_refused (outcome a.past item)) e3) (so_far_more a.taken lines.waiting piece lines'.waiting a.total a.past run.number run.refused item a.machine t);
     }
 
--- what was got is taken, after what was gathered moved
-pub along_got : (got : Got) (line : List ℕ) (left left_now left_new old now new : Option (List ℕ)) (lines lines' : Feed) (run moved run' : Run) → moved ≡ record run { text = moved.text } → line ≡ lines'.line → Along left left_now old now lines run → TakesNext got lines lines' left_now left_new → Gathers now new (string_bytes run.text) (string_bytes moved.text) [] → TakesGot (item_got got line) moved run' → AlongOr lines'.ended left left_new old new lines' run'
-along_got got line left left_now left_new old now new lines lines' run moved run' m e a t g s =
-    along_takes (item_got got lines'.line) lines'.ended left left_now left_new old now new lines lines' run moved run' t.piece a t.consumed t.read t.item g
-    (ap (λ (r : Run). r.present) m) (ap (λ (r : Run). r.number) m) (ap (λ (r : Run). r.refused) m) (subst (λ (l : List ℕ). TakesGot (item_got got l) moved run') e s)
+-- what came is taken, after what was gathered moved
+pub along_next : (next : NextItem) (left left_now left_new old now new : Option (List ℕ)) (lines lines' : ItemFeed) (run moved run' : Run) → moved ≡ record run { text = moved.text } → Along left left_now old now lines run → TakesNextItem next lines lines' left_now left_new → Gathers now new (string_bytes run.text) (string_bytes moved.text) [] → TakesNext (item_next next lines') moved run' → AlongOr lines'.ended left left_new old new lines' run'
+along_next next left left_now left_new old now new lines lines' run moved run' m a t g s =
+    along_takes (item_next next lines') lines'.ended left left_now left_new old now new lines lines' run moved run' t.piece a t.consumed t.read t.item g
+    (ap (λ (r : Run). r.state) m) (ap (λ (r : Run). r.number) m) (ap (λ (r : Run). r.refused) m) s
 
 -- what is gathered moves
-pub along_moved : (ended : Bool) (left left_now old now new : Option (List ℕ)) (lines : Feed) (run moved : Run) → AlongOr ended left left_now old now lines run → Gathers now new (string_bytes run.text) (string_bytes moved.text) [] → moved.present ≡ run.present → moved.number ≡ run.number → moved.refused ≡ run.refused → AlongOr ended left left_now old new lines moved
+pub along_moved : (ended : Bool) (left left_now old now new : Option (List ℕ)) (lines : ItemFeed) (run moved : Run) → AlongOr ended left left_now old now lines run → Gathers now new (string_bytes run.text) (string_bytes moved.text) [] → moved.state ≡ run.state → moved.number ≡ run.number → moved.refused ≡ run.refused → AlongOr ended left left_now old new lines moved
 along_moved false left left_now old now new lines run moved a g e1 e2 e3 = record {
   taken = a.taken;
   total = a.total;
@@ -241,33 +243,33 @@ along_moved true left left_now old now new lines run moved a g e1 e2 e3 = record
 }
 
 -- and it is known whether the source was read to its end
-pub along_told : (told ended : Bool) (left left_now old now new : Option (List ℕ)) (lines : Feed) (run moved : Run) → ended ≡ told → moved ≡ record run { text = moved.text } → AlongOr ended left left_now old now lines run → Gathers now new (string_bytes run.text) (string_bytes moved.text) [] → AlongOr told left left_now old new lines moved
+pub along_told : (told ended : Bool) (left left_now old now new : Option (List ℕ)) (lines : ItemFeed) (run moved : Run) → ended ≡ told → moved ≡ record run { text = moved.text } → AlongOr ended left left_now old now lines run → Gathers now new (string_bytes run.text) (string_bytes moved.text) [] → AlongOr told left left_now old new lines moved
 along_told told ended left left_now old now new lines run moved e m a g =
     subst (λ (b : Bool). AlongOr b left left_now old new lines moved) e
-    (along_moved ended left left_now old now new lines run moved a g (ap (λ (r : Run). r.present) m) (ap (λ (r : Run). r.number) m) (ap (λ (r : Run). r.refused) m))
+    (along_moved ended left left_now old now new lines run moved a g (ap (λ (r : Run). r.state) m) (ap (λ (r : Run). r.number) m) (ap (λ (r : Run). r.refused) m))
 
 drop_more : (script : Option (List ℕ)) (total more : List ℕ) → Begins script (total ++ more) → Begins script total
 drop_more None total more h = tt
 drop_more (Some script) total more h = (more ++ h.0, h.1 ∙ append_assoc total more h.0)
 
 -- it stops where a write of what was gathered stops
-pub along_cut : (ended : Bool) (left left_now old now new : Option (List ℕ)) (lines : Feed) (run : Run) → (ended ≡ true → IsAtEnd left_now) → AlongOr ended left left_now old now lines run → AppendsFront now new (string_bytes run.text) → IsFront left old new
+pub along_cut : (ended : Bool) (left left_now old now new : Option (List ℕ)) (lines : ItemFeed) (run : Run) → (ended ≡ true → IsAtEnd left_now) → AlongOr ended left left_now old now lines run → AppendsFront now new (string_bytes run.text) → IsFront left old new
 along_cut false left left_now old now new lines run e a f = begins_cut left old now new (string_bytes run.text) a.total (along_begins left left_now a.taken lines.waiting a.total a.past run.number run.refused a.consumed a.machine) a.printed f
-along_cut true left left_now old now new lines run e a f = begins_cut left old now new (string_bytes run.text) a.total (drop_more left a.total (final_list (present a.past)) (ended_begins left left_now a.taken a.total a.past run.refused a.consumed (e refl) a.machine)) a.printed f
+along_cut true left left_now old now new lines run e a f = begins_cut left old now new (string_bytes run.text) a.total (drop_more left a.total (final_list (standing a.past).frus) (ended_begins left left_now a.taken a.total a.past run.refused a.consumed (e refl) a.machine)) a.printed f
 
 -- it stops where an item was got and not taken
-pub along_front : (left left_now old now new : Option (List ℕ)) (lines : Feed) (run : Run) (kept : List ℕ) → Along left left_now old now lines run → Gathers now new (string_bytes run.text) kept [] → IsFront left old new
+pub along_front : (left left_now old now new : Option (List ℕ)) (lines : ItemFeed) (run : Run) (kept : List ℕ) → Along left left_now old now lines run → Gathers now new (string_bytes run.text) kept [] → IsFront left old new
 along_front left left_now old now new lines run kept a g =
     begins_front left old new kept a.total (along_begins left left_now a.taken lines.waiting a.total a.past run.number run.refused a.consumed a.machine) (printed_moved old now new (string_bytes run.text) kept a.total a.printed g)
 
 -- it stops in the final list
-pub ended_cut : (left left_now old now new : Option (List ℕ)) (lines : Feed) (run : Run) → IsAtEnd left_now → Ended left left_now old now lines run → AppendsFront now new (string_bytes run.text ++ final_list run.present) → IsFront left old new
+pub ended_cut : (left left_now old now new : Option (List ℕ)) (lines : ItemFeed) (run : Run) → IsAtEnd left_now → Ended left left_now old now lines run → AppendsFront now new (string_bytes run.text ++ final_list run.state.frus) → IsFront left old new
 ended_cut left left_now old now new lines run e a f =
-    begins_stopped left old now new (string_bytes run.text) (final_list run.present) a.total
-    (subst (λ (frus : List Fru). Begins left (a.total ++ final_list frus)) (sym a.stands) (ended_begins left left_now a.taken a.total a.past run.refused a.consumed e a.machine)) a.printed f
+    begins_stopped left old now new (string_bytes run.text) (final_list run.state.frus) a.total
+    (subst (λ (now : Standing). Begins left (a.total ++ final_list now.frus)) (sym a.stands) (ended_begins left left_now a.taken a.total a.past run.refused a.consumed e a.machine)) a.printed f
 
 -- all is written
-pub ended_text : (left left_now old now new : Option (List ℕ)) (lines : Feed) (run : Run) → IsAtEnd left_now → Ended left left_now old now lines run → Appends now new (string_bytes run.text ++ final_list run.present) → Replays (status_of (Ok run.refused)) left old new
+pub ended_text : (left left_now old now new : Option (List ℕ)) (lines : ItemFeed) (run : Run) → IsAtEnd left_now → Ended left left_now old now lines run → Appends now new (string_bytes run.text ++ final_list run.state.frus) → Replays (status_of (Ok run.refused)) left old new
 ended_text None left_now old now new lines run e a w = tt
 ended_text (Some script) None old now new lines run e a w = absurd a.consumed
 ended_text (Some script) (Some rest) old now new lines run e a w = of run.refused all (ap refuses whole ∙ a.machine.refusal)
@@ -275,10 +277,10 @@ ended_text (Some script) (Some rest) old now new lines run e a w = of run.refuse
     whole : script ≡ a.taken
     whole = a.consumed ∙ ap (λ (l : List ℕ). a.taken ++ l) e ∙ append-nil a.taken
 
-    text : a.printed.written ++ (string_bytes run.text ++ final_list run.present) ≡ out script
+    text : a.printed.written ++ (string_bytes run.text ++ final_list run.state.frus) ≡ out script
     text =
-        sym (append_assoc a.printed.written (string_bytes run.text) (final_list run.present)) ∙ ap (λ (l : List ℕ). l ++ final_list run.present) a.printed.parts
-        ∙ ap (λ (frus : List Fru). a.total ++ final_list frus) a.stands ∙ sym a.machine.all ∙ sym (ap out whole)
+        sym (append_assoc a.printed.written (string_bytes run.text) (final_list run.state.frus)) ∙ ap (λ (l : List ℕ). l ++ final_list run.state.frus) a.printed.parts
+        ∙ ap (λ (now : Standing). a.total ++ final_list now.frus) a.stands ∙ sym a.machine.all ∙ sym (ap out whole)
 
     all : Appends old new (out script)
     all = subst (Appends old new) text (Appends-trans old now new a.printed.written _ a.printed.appended w)
@@ -288,7 +290,7 @@ ended_text (Some script) (Some rest) old now new lines run e a w = of run.refuse
     of false t r = record { text = t; refusal = r }
 
 -- all was taken
-pub ended_reached : (left left_now old now new : Option (List ℕ)) (lines : Feed) (run : Run) → IsAtEnd left_now → lines.read < 2 ^ 40 → Ended left left_now old now lines run → Reaches (status_of (Ok run.refused)) left left_now old new
+pub ended_reached : (left left_now old now new : Option (List ℕ)) (lines : ItemFeed) (run : Run) → IsAtEnd left_now → lines.read < 2 ^ 40 → Ended left left_now old now lines run → Reaches (status_of (Ok run.refused)) left left_now old new
 ended_reached left left_now old now new lines run e l a = of run.refused (record { bytes = a.taken; consumed = a.consumed; count = omega (arith, a.read, l) })
   where
     of : (refused : Bool) → Takes left left_now (λ count. count < 2 ^ 40) → Reaches (status_of (Ok refused)) left left_now old new
@@ -296,12 +298,15 @@ ended_reached left left_now old now new lines run e l a = of run.refused (record
     of false t = (e, t)
 
 -- at least a byte was taken of an item that is not the end
-pub spends_item : (got : Got) (lines lines' : Feed) (bytes : List ℕ) → lines'.ended ≡ false → TakesItem (item_got got lines'.line) lines'.ended bytes lines'.waiting → Spends got lines lines' → lines.read + length lines'.waiting + 1 ≤ lines'.read + length lines.waiting
+pub spends_item : (next : NextItem) (lines lines' : ItemFeed) (bytes : List ℕ) → lines'.ended ≡ false → TakesItem (item_next next lines') lines'.ended bytes lines'.waiting → SpendsItem next lines lines' → lines.read + length lines'.waiting + 1 ≤ lines'.read + length lines.waiting
 spends_item Line lines lines' bytes e t s = s
 spends_item LineTooLong lines lines' bytes e t s = s
+spends_item Block lines lines' bytes e t s = s
+spends_item BlockTooLong lines lines' bytes e t s = s
+spends_item BlockShort lines lines' bytes e t s = s
 spends_item End lines lines' bytes e t s = absurd (let no = t.end in cc)
 
 -- the number of the next item
-pub numbered : (item : Option Item) (moved run' : Run) (ended : Bool) (bytes rest : List ℕ) → ended ≡ false → TakesItem item ended bytes rest → TakesGot item moved run' → run'.number ≡ moved.number + 1
+pub numbered : (item : Option Item) (moved run' : Run) (ended : Bool) (bytes rest : List ℕ) → ended ≡ false → TakesItem item ended bytes rest → TakesNext item moved run' → run'.number ≡ moved.number + 1
 numbered None moved run' ended bytes rest e t s = absurd (let no = t.end in cc)
 numbered (Some item) moved run' ended bytes rest e t s = s.number

@@ -1,10 +1,11 @@
 -- The machine so far.
 use Rattle.std.proofs.Common.{◌≡◌, ℕ, ◌+◌, List, [], ◌∷◌, ◌++◌, Bool, true, false, ◌||◌, refl, ap, sym, ◌∙◌, append_assoc, append-nil}
 use Rattle.bmc_text.specs.Items.{Item, cut_most, cut, items_of, whole_items}
-use Rattle.bmc_text.specs.Reading.{BeginsWith, AreLast, AreNone}
-use Rattle.bmc_machine.specs.Histories.{Step, present}
+use Rattle.bmc_text.specs.Reading.{AreNone}
+use Rattle.bmc_text.specs.Taking.{BeginsWith, AreLast}
+use Rattle.bmc_machine.specs.Histories.{Step, standing}
 use Rattle.bmc_machine.specs.Runs.{Outcome, Nothing, Accepted, Refused, outcome, joined, outcomes, outcome_text, texts, is_refused, final_list, out_from, out, whole_out, refuses_from, refuses}
-use Rattle.bmc_replay.specs.Steps.{frus_after}
+use Rattle.bmc_replay.specs.Steps.{after}
 
 -- Of these bytes of a script the machine has taken all but those that wait; it has printed this much and has come to
 -- this history, and goes on with what waits and whatever follows.
@@ -15,7 +16,7 @@ pub record SoFar (taken waiting total : List ℕ) (past : List Step) (number : �
 
 -- The script was these bytes, and the final list is what is left to print.
 pub record AllTaken (script total : List ℕ) (past : List Step) (refused : Bool) : Type 0 where
-  pub all : out script ≡ total ++ final_list (present past)
+  pub all : out script ≡ total ++ final_list (standing past).frus
   pub refusal : refuses script ≡ refused
 
 -- it begins
@@ -39,7 +40,7 @@ out_from-cons : (number : ℕ) (past : List Step) (item : Item) (items : List It
 unfolding outcomes texts out_from
 out_from-cons number past item items = append_assoc (outcome_text number (outcome past item)) (texts (number + 1) (outcomes (joined past (outcome past item)) items)) _
 
-out_from-nil : (number : ℕ) (past : List Step) → out_from number past [] ≡ final_list (present past)
+out_from-nil : (number : ℕ) (past : List Step) → out_from number past [] ≡ final_list (standing past).frus
 unfolding outcomes texts out_from
 out_from-nil number past = refl
 
@@ -114,9 +115,9 @@ pub so_far_whole : (taken waiting piece total : List ℕ) (past : List Step) (nu
 so_far_whole taken waiting piece total past number refused s none =
     s.whole piece ∙ ap (λ (items : List Item). total ++ texts number (outcomes past items)) none ∙ ap (λ (text : List ℕ). total ++ text) (texts-nil number past) ∙ append-nil total
 
--- what is present stands for the history after an outcome
-pub stands_after : (past : List Step) (outcome : Outcome) → frus_after (present past) outcome ≡ present (joined past outcome)
-unfolding present
+-- what stands after an outcome
+pub stands_after : (past : List Step) (outcome : Outcome) → after (standing past) outcome ≡ standing (joined past outcome)
+unfolding standing
 stands_after past Nothing = refl
 stands_after past (Accepted step) = refl
 stands_after past (Refused refusal) = refl

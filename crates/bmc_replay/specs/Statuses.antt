@@ -14,6 +14,7 @@ use Rattle.bmc_replay.specs.declared.stop.Status.TheVariants.{Done, Refused, Out
 abbrev pub stop_of : LineFault → Stop
 stop_of faults.ReadFault = stops.ReadFault
 stop_of faults.Spent = stops.TooLong
+stop_of faults.OutOfMemory = stops.OutOfMemory
 
 -- the status of a run that came to the end of the script, and refused an item of it or none, or stopped
 abbrev pub status_of : Result Bool Stop → Status

@@ -5,6 +5,7 @@
 mod output;
 mod present;
 mod run;
+mod state;
 mod stop;
 mod top;
 

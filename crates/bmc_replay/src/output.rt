@@ -1,4 +1,4 @@
-ghost use Rattle.std.specs.Prelude.{◌≡◌, ◌++◌, [], OnOk, OnErr, MatchResult, string_bytes};
+ghost use Rattle.std.specs.Prelude.{◌≡◌, ◌<◌, ◌++◌, [], length, OnOk, OnErr, MatchResult, string_bytes};
 ghost use Rattle.std.specs.Io.KnownBytes.{Appends};
 ghost use Rattle.bmc_base.specs.Counts.{HasCause};
 ghost use Rattle.bmc_io.specs.Sinks.{AppendsFront};
@@ -34,6 +34,7 @@ pub fn flush<K: Sink>(text: &mut String, output: &mut K) -> Result<(), IoFault>
 /// Writes all that is gathered where it has grown large, or a front of it.
 pub fn relieve<K: Sink>(text: &mut String, output: &mut K) -> Result<(), IoFault>
     ensures all { OnOk result (Gathers (K.taken output.old) (K.taken output.new) (string_bytes text.old) (string_bytes text.new) []) }
+    ensures small { OnOk result (length (string_bytes text.new) < 65536) }
     ensures front { OnErr result (AppendsFront (K.taken output.old) (K.taken output.new) (string_bytes text.old)) }
     ensures cause { HasCause (K.faults output.old) (K.faults output.new) result }
 {

@@ -1,24 +1,23 @@
 ghost use Rattle.std.specs.Prelude.{◌≡◌, ◌<◌, ◌^◌, IfOk, OnOk};
-ghost use Rattle.bmc_text.specs.Items.{Line};
-ghost use Rattle.bmc_text.specs.Reading.{item_got};
-ghost use Rattle.bmc_machine.specs.Histories as histories;
-ghost use Rattle.bmc_machine.specs.Runs.{command_outcome, item_outcome, step_outcome};
-ghost use Rattle.bmc_replay.specs.Steps.{Comes, CountsItem, IsNew, TakesGot};
+ghost use Rattle.bmc_text.specs.Items as items;
+ghost use Rattle.bmc_text.specs.Taking.{item_next};
+ghost use Rattle.bmc_machine.specs.Runs.{command_outcome, item_outcome};
+ghost use Rattle.bmc_replay.specs.Steps.{Comes, CountsItem, IsNew, TakesNext};
 
 use crate::output::GATHERED;
-use crate::present::Present;
-use bmc_base::{Bytes, OutOfMemory, Place};
+use crate::state::State;
+use bmc_base::OutOfMemory;
 use bmc_report::{Refusal, push_refused_line};
 use bmc_script::{Command, ScriptFault};
-use bmc_text::Got;
-use fru_record::check_record;
+use bmc_text::{Items, NextItem};
+use cfg_json::{Config, ConfigFault};
 use std::alloc::Global;
 
 /// A run of a script so far.
 #[derive(Drop)]
 pub struct Run {
-    /// The FRUs that are present.
-    pub present: Present,
+    /// What stands after it.
+    pub state: State,
     /// The text that is gathered and not yet written.
     pub text: String,
     /// The number of the next item, from 1.
@@ -27,52 +26,40 @@ pub struct Run {
     pub refused: bool,
 }
 
-fn plug(present: &mut Present, place: Place, bytes: Bytes) -> Result<Option<Refusal>, OutOfMemory>
-    ensures { IfOk result (λ refusal. Comes (step_outcome present.old (histories.Plug place bytes)) refusal present.old present.new) }
-{
-    if present.has(place) {
-        return Ok(Some(Refusal::Occupied));
-    }
-    if let Err(rule) = check_record(bytes.as_slice()) {
-        return Ok(Some(Refusal::Fru(rule)));
-    }
-    present.plug(place, bytes)?;
-    Ok(None)
-}
-
-fn unplug(present: &mut Present, place: Place) -> Option<Refusal>
-    ensures { Comes (step_outcome present.old (histories.Unplug place)) result present.old present.new }
-{
-    if present.unplug(place) {
-        None
-    } else {
-        Some(Refusal::NotPresent)
-    }
-}
-
 // Does what a command asks for, or answers why it is refused.
-fn obey(present: &mut Present, command: Command) -> Result<Option<Refusal>, OutOfMemory>
-    ensures { IfOk result (λ refusal. Comes (command_outcome present.old (Ok command)) refusal present.old present.new) }
+fn obey(state: &mut State, command: Command) -> Result<Option<Refusal>, OutOfMemory>
+    ensures { IfOk result (λ refusal. Comes (command_outcome state.old (Ok command)) refusal state.old state.new) }
 {
     match command {
         Command::Nothing => Ok(None),
-        Command::Plug(place, bytes) => plug(present, place, bytes),
-        Command::Unplug(place) => Ok(unplug(present, place)),
+        Command::Plug(place, bytes) => state.plug(place, bytes),
+        Command::Unplug(place) => Ok(state.unplug(place)),
     }
 }
 
-// Takes a line, and answers why it is refused, if it is.
-fn take_line(
-    alloc: Global,
-    present: &mut Present,
-    line: &[u8],
-) -> Result<Option<Refusal>, OutOfMemory>
-    ensures { IfOk result (λ refusal. Comes (item_outcome present.old (Line line.now)) refusal present.old present.new) }
+// Takes a line that asks for no block, and answers why it is refused, if it is.
+fn take_line(alloc: Global, state: &mut State, line: &[u8]) -> Result<Option<Refusal>, OutOfMemory>
+    ensures { IfOk result (λ refusal. Comes (item_outcome state.old (items.Line line.now)) refusal state.old state.new) }
 {
     match Command::read(alloc, line) {
-        Ok(command) => obey(present, command),
+        Ok(command) => obey(state, command),
         Err(ScriptFault::UnknownCommand) => Ok(Some(Refusal::UnknownCommand)),
         Err(ScriptFault::OutOfMemory) => Err(OutOfMemory),
+    }
+}
+
+// Takes the block of a configuration, and answers why it is refused, if it is.
+fn take_block(
+    alloc: Global,
+    state: &mut State,
+    block: &[u8],
+) -> Result<Option<Refusal>, OutOfMemory>
+    ensures { IfOk result (λ refusal. Comes (item_outcome state.old (items.Block block.now)) refusal state.old state.new) }
+{
+    match Config::read(alloc, block) {
+        Ok(config) => state.configure(config),
+        Err(ConfigFault::OutOfMemory) => Err(OutOfMemory),
+        Err(rule) => Ok(Some(Refusal::Config(rule))),
     }
 }
 
@@ -94,23 +81,27 @@ impl Run {
     pub fn new(alloc: Global) -> Result<Run, OutOfMemory>
         ensures { IfOk result IsNew }
     {
+        let state = State::new(alloc)?;
         Ok(Run {
-            present: Present::new(alloc),
+            state,
             text: String::with_capacity(alloc, GATHERED + 4096)?,
             number: 1,
             refused: false,
         })
     }
 
-    /// Takes what was got of the script: gathers its text, and counts it. At the end nothing changes.
-    pub fn take(&mut self, alloc: Global, got: Got, line: &[u8]) -> Result<(), OutOfMemory>
+    /// Takes what came of the script: gathers its text, and counts it. At the end nothing changes.
+    pub fn take(&mut self, alloc: Global, next: NextItem, items: &Items) -> Result<(), OutOfMemory>
         requires { self.old.number < 2 ^ 63 }
-        ensures { OnOk result (TakesGot (item_got got line.now) self.old self.new) }
+        ensures { OnOk result (TakesNext (item_next next items.now) self.old self.new) }
     {
-        let refusal = match got {
-            Got::Line => take_line(alloc, &mut self.present, line)?,
-            Got::LineTooLong => Some(Refusal::UnknownCommand),
-            Got::End => return Ok(()),
+        let refusal = match next {
+            NextItem::Line => take_line(alloc, &mut self.state, items.line())?,
+            NextItem::LineTooLong => Some(Refusal::UnknownCommand),
+            NextItem::Block => take_block(alloc, &mut self.state, items.block())?,
+            NextItem::BlockTooLong => Some(Refusal::ConfigTooLong),
+            NextItem::BlockShort => Some(Refusal::ConfigShort),
+            NextItem::End => return Ok(()),
         };
         count_item(self, refusal)
     }

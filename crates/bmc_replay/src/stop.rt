@@ -55,6 +55,7 @@ impl From<LineFault> for Stop {
         match fault {
             LineFault::ReadFault => Stop::ReadFault,
             LineFault::Spent => Stop::TooLong,
+            LineFault::OutOfMemory => Stop::OutOfMemory,
         }
     }
 }

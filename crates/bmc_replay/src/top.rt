@@ -1,7 +1,7 @@
 ghost use Rattle.std.specs.Prelude.{◌≡◌, ◌<◌, ◌≤◌, ◌^◌, ◌++◌, [], true, false, Ok, Err, OnOk, OnErr, IfOk, IfErr, MatchResult, string_bytes};
 ghost use Rattle.std.specs.Io.KnownBytes.{Appends, IsAtEnd};
 ghost use Rattle.bmc_io.specs.Sinks.{AppendsFront};
-ghost use Rattle.bmc_text.specs.Reading.{TakesNext, Spends};
+ghost use Rattle.bmc_text.specs.Taking.{TakesNextItem, SpendsItem};
 ghost use Rattle.bmc_machine.specs.Runs.{final_list};
 ghost use Rattle.bmc_replay.specs.Advances.{StopsAt};
 ghost use Rattle.bmc_replay.specs.Gathering.{Gathers};
@@ -11,41 +11,42 @@ use crate::output::{flush, relieve};
 use crate::run::Run;
 use crate::stop::{Status, Stop};
 use bmc_io::{Sink, Source};
-use bmc_text::{Got, Lines};
+use bmc_text::{Items, NextItem};
 use std::alloc::Global;
 
 // What comes next of the script. What is gathered is written before the source is asked again.
 fn advance<S: Source, K: Sink>(
-    lines: &mut Lines,
+    alloc: Global,
+    items: &mut Items,
     text: &mut String,
     input: &mut S,
     output: &mut K,
-) -> Result<Got, Stop>
-    requires { lines.old.ended ≡ false }
-    ensures next { IfOk result (λ got. TakesNext got lines.old lines.new (S.left input.old) (S.left input.new)) }
-    ensures spends { IfOk result (λ got. Spends got lines.old lines.new) }
+) -> Result<NextItem, Stop>
+    requires { items.old.ended ≡ false }
+    ensures next { IfOk result (λ next. TakesNextItem next items.old items.new (S.left input.old) (S.left input.new)) }
+    ensures spends { IfOk result (λ next. SpendsItem next items.old items.new) }
     ensures gathered { OnOk result (Gathers (K.taken output.old) (K.taken output.new) (string_bytes text.old) (string_bytes text.new) []) }
-    ensures end { OnOk result (lines.new.ended ≡ true → IsAtEnd (S.left input.new)) }
-    ensures stops { IfErr result (λ stop. StopsAt stop lines.old lines.new (S.left input.old) (S.left input.new) (K.taken output.old) (K.taken output.new) (string_bytes text.old)) }
-    ensures most { lines.new.read ≤ 2 ^ 40 }
-    ensures under { lines.new.ended ≡ true → lines.new.read < 2 ^ 40 }
+    ensures end { OnOk result (items.new.ended ≡ true → IsAtEnd (S.left input.new)) }
+    ensures stops { IfErr result (λ stop. StopsAt stop items.old items.new (S.left input.old) (S.left input.new) (K.taken output.old) (K.taken output.new) (string_bytes text.old)) }
+    ensures most { items.new.read ≤ 2 ^ 40 }
+    ensures under { items.new.ended ≡ true → items.new.read < 2 ^ 40 }
     ensures cause { MatchResult result (λ _. StatusCause Status.Done (S.faults input.old) (S.faults input.new) (K.faults output.old) (K.faults output.new)) (λ stop. StatusCause (status_of (Err stop)) (S.faults input.old) (S.faults input.new) (K.faults output.old) (K.faults output.new)) }
 {
-    if let Some(got) = lines.next_buffered() {
-        return Ok(got);
+    if let Some(next) = items.next_buffered(alloc)? {
+        return Ok(next);
     }
     flush(text, output)?;
-    let got = lines.next(input)?;
-    Ok(got)
+    let next = items.next(alloc, input)?;
+    Ok(next)
 }
 
 // Writes what is gathered, and then the final list.
 fn finish<K: Sink>(alloc: Global, run: &mut Run, output: &mut K) -> Result<(), Stop>
-    ensures all { OnOk result (Appends (K.taken output.old) (K.taken output.new) (string_bytes run.old.text ++ final_list run.old.present)) }
-    ensures front { OnErr result (AppendsFront (K.taken output.old) (K.taken output.new) (string_bytes run.old.text ++ final_list run.old.present)) }
+    ensures all { OnOk result (Appends (K.taken output.old) (K.taken output.new) (string_bytes run.old.text ++ final_list run.old.state.frus)) }
+    ensures front { OnErr result (AppendsFront (K.taken output.old) (K.taken output.new) (string_bytes run.old.text ++ final_list run.old.state.frus)) }
     ensures cause { MatchResult result (λ _. K.faults output.new ≡ K.faults output.old) (λ stop. WriteCause stop (K.faults output.old) (K.faults output.new)) }
 {
-    run.present.push_list(alloc, &mut run.text, output)?;
+    run.state.push_list(alloc, &mut run.text, output)?;
     flush(&mut run.text, output)?;
     Ok(())
 }
@@ -60,13 +61,13 @@ fn replay_items<S: Source, K: Sink>(
     ensures reached { Reaches (status_of result) (S.left input.old) (S.left input.new) (K.taken output.old) (K.taken output.new) }
     ensures cause { StatusCause (status_of result) (S.faults input.old) (S.faults input.new) (K.faults output.old) (K.faults output.new) }
 {
-    let mut lines = Lines::new(alloc)?;
+    let mut items = Items::new(alloc)?;
     let mut run = Run::new(alloc)?;
     'items: loop {
-        let got = advance(&mut lines, &mut run.text, input, output)?;
-        run.take(alloc, got, lines.line())?;
+        let next = advance(alloc, &mut items, &mut run.text, input, output)?;
+        run.take(alloc, next, &items)?;
         relieve(&mut run.text, output)?;
-        if lines.is_ended() {
+        if items.is_ended() {
             break;
         }
     }

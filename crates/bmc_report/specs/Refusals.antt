@@ -4,8 +4,10 @@ use Rattle.fru_area.specs.declared.fault.Area.{Area}
 use Rattle.fru_area.specs.declared.fault.Area.TheVariants.{Chassis, Board, Product}
 use Rattle.fru_area.specs.declared.fault.FruFault.{FruFault}
 use Rattle.fru_area.specs.declared.fault.FruFault.TheVariants.{FruShort, FruTooLong, HeaderVersion, HeaderChecksum, AreaOutside, AreaVersion, AreaLength, AreaChecksum, FieldOutside, NoEnd, OutOfMemory}
+use Rattle.cfg_json.specs.declared.config.ConfigFault.{ConfigFault}
+use Rattle.cfg_json.specs.declared.config.ConfigFault.TheVariants as configs
 use Rattle.bmc_report.specs.declared.refusal.Refusal.{Refusal}
-use Rattle.bmc_report.specs.declared.refusal.Refusal.TheVariants.{UnknownCommand, Occupied, Fru, NotPresent}
+use Rattle.bmc_report.specs.declared.refusal.Refusal.TheVariants.{UnknownCommand, ConfigTooLong, ConfigShort, Config, ConfigAfterPlug, DuplicateName, ConfigLimit, Occupied, Fru, NotPresent}
 
 -- the name of an area
 unfoldable pub area_text : Area → List ℕ
@@ -27,9 +29,25 @@ rule_text (FieldOutside area) = codes "FieldOutside " ++ area_text area
 rule_text (NoEnd area) = codes "NoEnd " ++ area_text area
 rule_text OutOfMemory = codes "OutOfMemory"
 
+-- the name of a rule that a document breaks
+unfoldable pub config_rule_text : ConfigFault → List ℕ
+config_rule_text configs.NotJson = codes "NotJson"
+config_rule_text configs.Fraction = codes "Fraction"
+config_rule_text configs.MissingKey = codes "MissingKey"
+config_rule_text configs.WrongKind = codes "WrongKind"
+config_rule_text configs.OutOfRange = codes "OutOfRange"
+config_rule_text configs.ProbeForm = codes "ProbeForm"
+config_rule_text configs.OutOfMemory = codes "OutOfMemory"
+
 -- the name of a refusal
 unfoldable pub refusal_text : Refusal → List ℕ
 refusal_text UnknownCommand = codes "UnknownCommand"
+refusal_text ConfigTooLong = codes "ConfigTooLong"
+refusal_text ConfigShort = codes "ConfigShort"
+refusal_text (Config rule) = config_rule_text rule
+refusal_text ConfigAfterPlug = codes "ConfigAfterPlug"
+refusal_text DuplicateName = codes "DuplicateName"
+refusal_text ConfigLimit = codes "ConfigLimit"
 refusal_text Occupied = codes "Occupied"
 refusal_text (Fru rule) = rule_text rule
 refusal_text NotPresent = codes "NotPresent"

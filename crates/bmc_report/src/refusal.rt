@@ -1,7 +1,8 @@
 ghost use Rattle.std.specs.Prelude.{◌≡◌, ◌++◌, Some, OnOk, string_bytes};
-ghost use Rattle.bmc_report.specs.Refusals.{area_text, rule_text, refusal_text, refused_line};
+ghost use Rattle.bmc_report.specs.Refusals.{area_text, rule_text, config_rule_text, refusal_text, refused_line};
 
 use bmc_base::OutOfMemory;
+use cfg_json::ConfigFault;
 use fru_area::{Area, FruFault};
 use std::fmt;
 use std::fmt::Write;
@@ -11,6 +12,18 @@ use std::fmt::Write;
 pub enum Refusal {
     /// The line is no command in its form.
     UnknownCommand,
+    /// The block of a configuration has more than 262,144 bytes.
+    ConfigTooLong,
+    /// The script ends within the block of a configuration.
+    ConfigShort,
+    /// The block is no configuration: the first rule that it breaks. For want of memory no line is refused.
+    Config(ConfigFault),
+    /// A FRU was plugged before.
+    ConfigAfterPlug,
+    /// An earlier configuration has the name.
+    DuplicateName,
+    /// There are 256 configurations already.
+    ConfigLimit,
     /// A FRU is at the place already.
     Occupied,
     /// The bytes are no FRU record: the first rule that they break. For want of memory no line is refused.
@@ -61,6 +74,27 @@ impl fmt::Display for Rule {
     }
 }
 
+// The name of a rule that a document breaks.
+#[derive(Clone, Copy)]
+struct ConfigRule(ConfigFault);
+
+#[tactic(auto, unfolding(crate::specs::Refusals::config_rule_text))]
+impl fmt::Display for ConfigRule {
+    ghost output = { λ rule. Some (config_rule_text rule.0) };
+
+    fn fmt<W: fmt::Write>(&self, f: &mut fmt::Formatter<W>) -> fmt::Result {
+        match self.0 {
+            ConfigFault::NotJson => write!(f, "NotJson"),
+            ConfigFault::Fraction => write!(f, "Fraction"),
+            ConfigFault::MissingKey => write!(f, "MissingKey"),
+            ConfigFault::WrongKind => write!(f, "WrongKind"),
+            ConfigFault::OutOfRange => write!(f, "OutOfRange"),
+            ConfigFault::ProbeForm => write!(f, "ProbeForm"),
+            ConfigFault::OutOfMemory => write!(f, "OutOfMemory"),
+        }
+    }
+}
+
 #[tactic(auto, unfolding(crate::specs::Refusals::refusal_text))]
 impl fmt::Display for Refusal {
     ghost output = { λ refusal. Some (refusal_text refusal) };
@@ -68,6 +102,12 @@ impl fmt::Display for Refusal {
     fn fmt<W: fmt::Write>(&self, f: &mut fmt::Formatter<W>) -> fmt::Result {
         match self {
             Refusal::UnknownCommand => write!(f, "UnknownCommand"),
+            Refusal::ConfigTooLong => write!(f, "ConfigTooLong"),
+            Refusal::ConfigShort => write!(f, "ConfigShort"),
+            Refusal::Config(fault) => write!(f, "{}", ConfigRule(*fault)),
+            Refusal::ConfigAfterPlug => write!(f, "ConfigAfterPlug"),
+            Refusal::DuplicateName => write!(f, "DuplicateName"),
+            Refusal::ConfigLimit => write!(f, "ConfigLimit"),
             Refusal::Occupied => write!(f, "Occupied"),
             Refusal::Fru(fault) => write!(f, "{}", Rule(*fault)),
             Refusal::NotPresent => write!(f, "NotPresent"),

@@ -17,7 +17,7 @@ pub const FIELDS: &str =
 pub const NEVER: u64 = u64::MAX;
 
 /// More bytes than a script or a text here has.
-pub const AMPLE: usize = 1 << 18;
+pub const AMPLE: usize = 1 << 20;
 
 /// How the outside of a run behaves: the call of the source that fails, what the sink takes in a call
 /// and in all, and its call that fails.

@@ -1,9 +1,9 @@
 -- The command of a line of a script.
-use Rattle.std.specs.Prelude.{ℕ, ◌+◌, ◌*◌, ◌-◌, ◌≡◌, ⊤, Bool, ◌==◌, ◌&&◌, nat_lt, nat_le, if◌then◌else◌, List, [], ◌∷◌, length, codes, bytes_eq, Option, Some, None, option_map, position, take, drop, fold, Result, Ok, Err}
-use Rattle.std.specs.List.{list_all}
+use Rattle.std.specs.Prelude.{ℕ, ◌≡◌, ⊤, ◌==◌, if◌then◌else◌, List, [], ◌∷◌, length, codes, bytes_eq, Option, Some, None, Result, Ok, Err}
 use Rattle.std.specs.Option.{ok_or}
 use Rattle.bmc_base.specs.Places.{Place, place_of}
 use Rattle.bmc_text.specs.Hex.{hex_decoded}
+use Rattle.bmc_text.specs.Words.{split_space, number}
 use Rattle.bmc_script.specs.declared.command.Command.{Command}
 use Rattle.bmc_script.specs.declared.command.Command.TheVariants.{Plug, Unplug, Nothing}
 use Rattle.bmc_script.specs.declared.command.ScriptFault.{ScriptFault}
@@ -14,22 +14,6 @@ infixl 10 ◌>>=◌
 abbrev pub ◌>>=◌ : {A B : Type 0} → Option A → (A → Option B) → Option B
 None >>= f = None
 (Some x) >>= f = f x
-
--- the bytes before the first space (32) and those behind it, or none where there is no space
-abbrev pub split_space : List ℕ → Option (List ℕ × List ℕ)
-split_space bytes = option_map (λ at. (take at bytes, drop (at + 1) bytes)) (position (λ byte. byte == 32) bytes)
-
-abbrev pub is_digit : ℕ → Bool
-is_digit byte = nat_le 48 byte && nat_le byte 57
-
--- a number with one more decimal digit
-abbrev pub with_digit : ℕ → ℕ → ℕ
-with_digit number digit = 10 * number + (digit - 48)
-
--- the number of 1 to 9 decimal digits, leading zeros among them
-unfoldable pub number : List ℕ → Option ℕ
-number digits =
-    if nat_lt 0 (length digits) && nat_le (length digits) 9 && list_all is_digit digits then Some (fold with_digit 0 digits) else None
 
 -- the place that these two words name
 unfoldable pub place_named : List ℕ → List ℕ → Option Place

@@ -1,8 +1,9 @@
 ghost use Rattle.std.specs.Prelude.{◌≡◌, ◌<◌, ◌==◌, length, Some, IfSome, option_map, position};
-ghost use Rattle.bmc_script.specs.Commands.{GivesCommand, GivesOption, command_of, words_of, plug_of, unplug_of, place_named, number, split_space};
+ghost use Rattle.bmc_text.specs.Words.{split_space};
+ghost use Rattle.bmc_script.specs.Commands.{GivesCommand, GivesOption, command_of, words_of, plug_of, unplug_of, place_named};
 
 use bmc_base::{Bytes, Place};
-use bmc_text::{HexFault, hex_bytes};
+use bmc_text::{HexFault, hex_bytes, read_number};
 use std::alloc::Global;
 use thiserror::Error;
 
@@ -44,23 +45,6 @@ fn word(bytes: &[u8]) -> Option<(&[u8], &[u8])>
         Some(at) => Some((&bytes[..at], &bytes[at + 1..])),
         None => None,
     }
-}
-
-#[tactic(auto, unfolding(crate::specs::Commands::number))]
-fn read_number(digits: &[u8]) -> Option<u32>
-    ensures { result ≡ number digits.now }
-{
-    if digits.is_empty() || digits.len() > 9 {
-        return None;
-    }
-    let mut value: u32 = 0;
-    for digit in digits {
-        if !digit.is_ascii_digit() {
-            return None;
-        }
-        value = 10 * value + u32::from(*digit - b'0');
-    }
-    Some(value)
 }
 
 #[tactic(auto, unfolding(crate::specs::Commands::place_named))]

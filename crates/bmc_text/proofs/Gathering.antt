@@ -1,6 +1,6 @@
--- Bytes that were gathered in a call, and the item that is taken of them.
+-- Bytes that were gathered in a call, and the line that is taken of them.
 use Rattle.std.proofs.Common.{◌≡◌, ℕ, ◌+◌, ◌-◌, ◌≤◌, ◌<◌, List, [], ◌∷◌, ◌++◌, length, take, drop, Bool, true, false, arith, ap, sym, ◌∙◌, refl, subst, length-append, length-take, length-drop, slice_range, append_assoc, append-nil}
-use Rattle.std.specs.Prelude.{Option, Some, None, IfNone}
+use Rattle.std.specs.Prelude.{Option, Some}
 use Rattle.std.specs.Io.KnownBytes.{Consumes}
 use Rattle.std.proofs.KnownBytes.{Consumes-nil, Consumes-trans}
 use Rattle.std.proofs.lemmas.Grind.{common_steps}
@@ -9,13 +9,12 @@ use Rattle.std.proofs.lemmas.Slice.{between_is}
 use Rattle.std.proofs.Math.Seq.{take-add}
 use Rattle.bmc_text.specs.Buffers.{HasNoNewline, IsNewline, Gathers}
 use Rattle.bmc_text.specs.Feeds.{Feed}
-use Rattle.bmc_text.specs.Items.{Item, item_of, items_of, whole_items}
+use Rattle.bmc_text.specs.Items.{Item, line_item}
 use Rattle.bmc_text.specs.Items as items
-use Rattle.bmc_text.specs.Reading.{BeginsWith, TakesItem, TakesNext, TakesNothing, item_got}
+use Rattle.bmc_text.specs.Reading.{BeginsWithLine, TakesLine, TakesNext, TakesNothing, line_got}
 use Rattle.bmc_text.specs.declared.lines.Got.{Got}
 use Rattle.bmc_text.specs.declared.lines.Got.TheVariants.{LineTooLong, End}
-use Rattle.bmc_text.proofs.Newlines.{Front, NoLine, LineThen, front_of, newline_parts, HasNoNewline-nil, HasNoNewline-take, HasNoNewline-append}
-use Rattle.bmc_text.proofs.Cuts.{begins_with_line, items_of-last, whole_items-none, whole_items-line}
+use Rattle.bmc_text.proofs.Newlines.{newline_parts, HasNoNewline-nil, HasNoNewline-take, HasNoNewline-append}
 
 pub Gathers-refl : (feed : Feed) (left : Option (List ℕ)) → Gathers [] feed feed left left
 Gathers-refl feed left = record { piece = []; consumed = Consumes-nil left; read = omega arith; waiting = append-nil feed.waiting }
@@ -51,9 +50,9 @@ takes_after got {a} {b} {c} {l} {m} {n} first next = record {
   piece = first.piece ++ next.piece;
   consumed = Consumes-trans l m n first.piece next.piece first.consumed next.consumed;
   read = omega (arith, first.read, next.read, length-append first.piece next.piece);
-  item =
+  line =
       let bytes : b.waiting ++ next.piece ≡ a.waiting ++ (first.piece ++ next.piece) = ap (λ (xs : List ℕ). xs ++ next.piece) (sym first.waiting) ∙ append_assoc a.waiting first.piece next.piece in
-      subst (λ (xs : List ℕ). TakesItem (item_got got c.line) c.ended xs c.waiting) bytes next.item;
+      subst (λ (xs : List ℕ). TakesLine (line_got got c.line) c.ended xs c.waiting) bytes next.line;
 }
 
 pub nothing_after : {a b c : Feed} {l m n : Option (List ℕ)} → Gathers [] a b l m → a.ended ≡ false → TakesNothing b c m n → TakesNothing a c l n
@@ -63,19 +62,19 @@ nothing_after {a} {b} {c} {l} {m} {n} first going next = record {
   read = omega (arith, first.read, next.read, length-append first.piece next.piece);
   none =
       let bytes : b.waiting ++ next.piece ≡ a.waiting ++ (first.piece ++ next.piece) = ap (λ (xs : List ℕ). xs ++ next.piece) (sym first.waiting) ∙ append_assoc a.waiting first.piece next.piece in
-      sym (ap whole_items bytes) ∙ next.none;
+      subst HasNoNewline bytes next.none;
   goes_on = going;
 }
 
 -- an item of what waited, with nothing read
-pub takes_here : (got : Got) (a b : Feed) (ended : Bool) (left : Option (List ℕ)) → b.read ≡ a.read → b.ended ≡ ended → TakesItem (item_got got b.line) ended a.waiting b.waiting → TakesNext got a b left left
+pub takes_here : (got : Got) (a b : Feed) (ended : Bool) (left : Option (List ℕ)) → b.read ≡ a.read → b.ended ≡ ended → TakesLine (line_got got b.line) ended a.waiting b.waiting → TakesNext got a b left left
 takes_here got a b ended left read end item = record {
   piece = [];
   consumed = Consumes-nil left;
   read = omega arith;
-  item =
-      let at_end : TakesItem (item_got got b.line) b.ended a.waiting b.waiting = subst (λ (e : Bool). TakesItem (item_got got b.line) e a.waiting b.waiting) (sym end) item in
-      subst (λ (xs : List ℕ). TakesItem (item_got got b.line) b.ended xs b.waiting) (sym (append-nil a.waiting)) at_end;
+  line =
+      let at_end : TakesLine (line_got got b.line) b.ended a.waiting b.waiting = subst (λ (e : Bool). TakesLine (line_got got b.line) e a.waiting b.waiting) (sym end) item in
+      subst (λ (xs : List ℕ). TakesLine (line_got got b.line) b.ended xs b.waiting) (sym (append-nil a.waiting)) at_end;
 }
 
 -- no item is whole in what was gathered
@@ -84,36 +83,39 @@ takes_nothing {front} {a} {b} h going none = record {
   piece = h.piece;
   consumed = h.consumed;
   read = h.read;
-  none = ap whole_items h.waiting ∙ whole_items-none (front ++ b.waiting) none;
+  none = subst HasNoNewline (sym h.waiting) none;
   goes_on = going;
 }
 
 -- a line that is whole, of which the front was dropped
 pub begins_with_dropped : (bytes front waiting rest : List ℕ) (at : ℕ) → bytes ≡ front ++ waiting → HasNoNewline front → IsNewline waiting at → rest ≡ drop (at + 1) waiting
-    → BeginsWith bytes (item_of (front ++ take at waiting)) rest
-begins_with_dropped bytes front waiting rest at e none h r =
-    begins_with_line bytes (front ++ take at waiting) rest (HasNoNewline-append front (take at waiting) none (HasNoNewline-take waiting at h))
-    (e ∙ ap (λ (xs : List ℕ). front ++ xs) (newline_parts waiting at h ∙ ap (λ (xs : List ℕ). take at waiting ++ 10 ∷ xs) (sym r)) ∙ sym (append_assoc front (take at waiting) (10 ∷ rest)))
+    → BeginsWithLine bytes (line_item (front ++ take at waiting)) rest
+begins_with_dropped bytes front waiting rest at e none h r = record {
+  raw = front ++ take at waiting;
+  none = HasNoNewline-append front (take at waiting) none (HasNoNewline-take waiting at h);
+  parts = e ∙ ap (λ (xs : List ℕ). front ++ xs) (newline_parts waiting at h ∙ ap (λ (xs : List ℕ). take at waiting ++ 10 ∷ xs) (sym r)) ∙ sym (append_assoc front (take at waiting) (10 ∷ rest));
+  item_is = refl;
+}
 
 -- the item at the front, whose newline stands there
-pub takes_line : (got : Got) (line waiting rest : List ℕ) (at : ℕ) → item_got got line ≡ Some (item_of (take at waiting)) → IsNewline waiting at → rest ≡ drop (at + 1) waiting
-    → TakesItem (item_got got line) false waiting rest
+pub takes_line : (got : Got) (line waiting rest : List ℕ) (at : ℕ) → line_got got line ≡ Some (line_item (take at waiting)) → IsNewline waiting at → rest ≡ drop (at + 1) waiting
+    → TakesLine (line_got got line) false waiting rest
 takes_line got line waiting rest at item h r =
-    subst (λ (found : Option Item). TakesItem found false waiting rest) (sym item) (begins_with_dropped waiting [] waiting rest at refl HasNoNewline-nil h r)
+    subst (λ (found : Option Item). TakesLine found false waiting rest) (sym item) (begins_with_dropped waiting [] waiting rest at refl HasNoNewline-nil h r)
 
 -- the last item, of all that waits
-pub takes_last : (got : Got) (line waiting rest : List ℕ) → item_got got line ≡ Some (item_of waiting) → 0 < length waiting → HasNoNewline waiting → rest ≡ []
-    → TakesItem (item_got got line) true waiting rest
+pub takes_last : (got : Got) (line waiting rest : List ℕ) → line_got got line ≡ Some (line_item waiting) → 0 < length waiting → HasNoNewline waiting → rest ≡ []
+    → TakesLine (line_got got line) true waiting rest
 takes_last got line waiting rest item some none r =
-    subst (λ (found : Option Item). TakesItem found true waiting rest) (sym item) (record { all = items_of-last waiting some none; none = r })
+    subst (λ (found : Option Item). TakesLine found true waiting rest) (sym item) (record { some = some; none = none; item_is = refl; all = r })
 
 -- the end, where nothing waits
-pub takes_end : (got : Got) (line waiting rest : List ℕ) → got ≡ End → waiting ≡ [] → rest ≡ [] → TakesItem (item_got got line) true waiting rest
+pub takes_end : (got : Got) (line waiting rest : List ℕ) → got ≡ End → waiting ≡ [] → rest ≡ [] → TakesLine (line_got got line) true waiting rest
 takes_end got line waiting rest end none r =
-    subst (λ (found : Got). TakesItem (item_got found line) true waiting rest) (sym end) (record { all = none; none = r; end = refl })
+    subst (λ (found : Got). TakesLine (line_got found line) true waiting rest) (sym end) (record { all = none; none = r; end = refl })
 
-too_long : (raw : List ℕ) → 9000 < length raw → item_of raw ≡ items.LineTooLong
-unfolding item_of
+too_long : (raw : List ℕ) → 9000 < length raw → line_item raw ≡ items.LineTooLong
+unfolding line_item
 too_long raw h = grind (arith, common_steps)
 
 -- all that was gathered but what waits is the front of a line that is too long
@@ -141,11 +143,11 @@ takes_long {a} {b} {c} at s newline rest read going = record {
   piece = s.gathers.piece;
   consumed = s.gathers.consumed;
   read = read ∙ s.gathers.read;
-  item =
+  line =
       let begins = begins_with_dropped (a.waiting ++ s.gathers.piece) s.front b.waiting c.waiting at s.gathers.waiting s.none newline rest in
       let item = too_long (s.front ++ take at b.waiting) (omega (arith, s.long, length-append s.front (take at b.waiting))) in
-      subst (λ (e : Bool). TakesItem (Some items.LineTooLong) e (a.waiting ++ s.gathers.piece) c.waiting) (sym going)
-      (subst (λ (found : Item). BeginsWith (a.waiting ++ s.gathers.piece) found c.waiting) item begins);
+      subst (λ (e : Bool). TakesLine (Some items.LineTooLong) e (a.waiting ++ s.gathers.piece) c.waiting) (sym going)
+      (subst (λ (found : Item). BeginsWithLine (a.waiting ++ s.gathers.piece) found c.waiting) item begins);
 }
 
 -- a line that is too long ends with the bytes
@@ -154,10 +156,11 @@ takes_long_last {a} {b} {c} s empty rest read end = record {
   piece = s.gathers.piece;
   consumed = s.gathers.consumed;
   read = read ∙ s.gathers.read;
-  item =
+  line =
       let bytes : a.waiting ++ s.gathers.piece ≡ s.front = s.gathers.waiting ∙ ap (λ (xs : List ℕ). s.front ++ xs) empty ∙ append-nil s.front in
-      let last = ap items_of bytes ∙ items_of-last s.front (omega (arith, s.long)) s.none ∙ ap (λ (item : Item). item ∷ []) (too_long s.front s.long) in
-      subst (λ (e : Bool). TakesItem (Some items.LineTooLong) e (a.waiting ++ s.gathers.piece) c.waiting) (sym end) (record { all = last; none = rest });
+      let last : TakesLine (Some items.LineTooLong) true s.front c.waiting = record { some = omega (arith, s.long); none = s.none; item_is = sym (too_long s.front s.long); all = rest } in
+      subst (λ (e : Bool). TakesLine (Some items.LineTooLong) e (a.waiting ++ s.gathers.piece) c.waiting) (sym end)
+      (subst (λ (xs : List ℕ). TakesLine (Some items.LineTooLong) true xs c.waiting) (sym bytes) last);
 }
 
 pub skips_nothing : {a b : Feed} {l m : Option (List ℕ)} → Skips a b l m → a.ended ≡ false → b.waiting ≡ [] → TakesNothing a b l m
@@ -182,18 +185,3 @@ gathers_piece old new left left_now moved buffer end n waits front fits consumed
 -- the span behind its first n bytes
 pub span_drop : (buffer : List ℕ) (start end n : ℕ) → slice_range buffer (start + n) end ≡ drop n (slice_range buffer start end)
 span_drop buffer start end n = between_is buffer (start + n) end ∙ sym (ap (drop n) (between_is buffer start end) ∙ drop-drop n start (take end buffer))
-
-pub no_line : (found : Option Got) (waiting : List ℕ) → IfNone found (HasNoNewline waiting) → IfNone found (whole_items waiting ≡ [])
-no_line None waiting none = whole_items-none waiting none
-no_line (Some got) waiting none = tt
-
--- where no item is whole, there is no newline
-no_newline_in : (bytes : List ℕ) → Front bytes → whole_items bytes ≡ [] → HasNoNewline bytes
-no_newline_in bytes (NoLine none) h = none
-no_newline_in bytes (LineThen raw rest none e) h = absurd (nonempty _ _ (sym (ap whole_items e ∙ whole_items-line raw rest none) ∙ h))
-  where
-    nonempty : (item : Item) (others : List Item) → item ∷ others ≡ [] → ⊥
-    nonempty item others e = cc
-
-pub no_newline : (bytes : List ℕ) → whole_items bytes ≡ [] → HasNoNewline bytes
-no_newline bytes h = no_newline_in bytes (front_of bytes) h

@@ -1,3 +1,6 @@
 pub mod Newlines
 pub mod Cuts
 pub mod Gathering
+pub mod Asked
+pub mod Blocks
+pub mod Joins

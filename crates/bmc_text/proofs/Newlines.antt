@@ -7,9 +7,7 @@ use Rattle.std.proofs.lemmas.List.{get_or-take, get_or-drop, take-append-drop}
 use Rattle.std.proofs.Math.Seq.{drop-cons}
 use Rattle.memchr.specs.Find.{Nowhere, NoneBefore, Passes}
 use Rattle.bmc_text.specs.Buffers.{HasNoNewline, IsNewline}
-
-abbrev pub is_newline : ℕ → Bool
-is_newline byte = byte == 10
+use Rattle.bmc_text.specs.Items.{is_newline}
 
 pub HasNoNewline-nil : HasNoNewline []
 HasNoNewline-nil k l = absurd (omega arith)
@@ -43,11 +41,11 @@ newline_parts bytes at h =
 step : (b n len : ℕ) → b ≢ 10 → n ≡ len → cond (not (b == 10)) (1 + n) 0 ≡ suc len
 step b n len h e = ap (λ (t : Bool). cond (not t) (1 + n) 0) (ne_eqb b 10 h) ∙ omega arith
 
-len_none : (raw : List ℕ) → HasNoNewline raw → position_or_len is_newline raw ≡ length raw
+pub len_none : (raw : List ℕ) → HasNoNewline raw → position_or_len is_newline raw ≡ length raw
 len_none [] h = refl
 len_none (b ∷ raw) h = step b (position_or_len is_newline raw) (length raw) (h 0 (omega arith)) (len_none raw (HasNoNewline-tail b raw h))
 
-len_line : (raw rest : List ℕ) → HasNoNewline raw → position_or_len is_newline (raw ++ 10 ∷ rest) ≡ length raw
+pub len_line : (raw rest : List ℕ) → HasNoNewline raw → position_or_len is_newline (raw ++ 10 ∷ rest) ≡ length raw
 len_line [] rest h = refl
 len_line (b ∷ raw) rest h = step b (position_or_len is_newline (raw ++ 10 ∷ rest)) (length raw) (h 0 (omega arith)) (len_line raw rest (HasNoNewline-tail b raw h))
 

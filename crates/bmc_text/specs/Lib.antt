@@ -1,5 +1,7 @@
+pub mod Words
 pub mod Items
 pub mod Feeds
-pub mod Reading
-pub mod Hex
 pub mod Buffers
+pub mod Reading
+pub mod Taking
+pub mod Hex

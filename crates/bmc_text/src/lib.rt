@@ -1,11 +1,17 @@
-//! The text of a script: its lines, however the source cuts its bytes, and bytes in hexadecimal. The
-//! commands of lines stand on it.
+//! The text of a script: its lines, each with the block that it asks for, however the source cuts its
+//! bytes, and bytes in hexadecimal. The commands of lines stand on it.
 #![tactic(auto)]
 
 mod hexadecimal;
+mod items;
 mod law;
 mod lines;
+#[cfg(test)]
+mod pieces;
+mod words;
 
 pub use hexadecimal::{HexFault, hex_bytes};
+pub use items::{Items, NextItem};
 pub use law::whole_items_stay;
-pub use lines::{Got, LineFault, Lines};
+pub use lines::{Block, Got, LineFault, Lines};
+pub use words::{block_size, read_number};

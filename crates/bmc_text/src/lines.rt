@@ -1,11 +1,13 @@
-ghost use Rattle.std.specs.Prelude.{◌≡◌, ◌≢◌, ◌<◌, ◌≤◌, ◌+◌, ◌-◌, ◌^◌, [], List, ℕ, Option, true, false, length, take, drop, slice_range, IfOk, OnOk, OnErr, IfSome, IfNone, MatchOption, MatchResult};
+ghost use Rattle.std.specs.Prelude.{◌≡◌, ◌<◌, ◌≤◌, ◌+◌, ◌-◌, ◌^◌, ◌++◌, [], List, ℕ, Option, true, false, length, take, drop, slice_range, IfOk, OnOk, OnErr, IfErr, IfSome, IfNone, MatchOption, MatchResult};
 ghost use Rattle.std.specs.Io.KnownBytes.{Keeps, Consumes, IsAtEnd};
 ghost use Rattle.bmc_base.specs.Counts.{Rose};
 ghost use Rattle.bmc_text.specs.Buffers.{HasNoNewline, IsNewline, Gathers};
-ghost use Rattle.bmc_text.specs.Items.{item_of, without_return, whole_items};
-ghost use Rattle.bmc_text.specs.Reading.{item_got, TakesItem, TakesNext, TakesNothing, Spends, LineCause};
+ghost use Rattle.bmc_text.specs.Items as items;
+ghost use Rattle.bmc_text.specs.Items.{asks, line_item, without_return, behind_block, whole_block, last_block};
+ghost use Rattle.bmc_text.specs.Reading.{line_got, TakesLine, TakesNext, TakesNothing, Spends, LineCause, item_of_block, TakesBlock, StopsBlock, BlockCause};
 
-use bmc_base::OutOfMemory;
+use crate::words::block_size;
+use bmc_base::{Bytes, OutOfMemory};
 use bmc_io::{IoFault, Source};
 use memchr::memchr;
 use std::alloc::Global;
@@ -14,6 +16,9 @@ use thiserror::Error;
 
 /// The most bytes that a line has before its newline.
 const LONGEST: usize = 9000;
+
+/// The most bytes that a block has.
+const LONGEST_BLOCK: usize = 262_144;
 
 /// The most bytes that are read of a source.
 const MOST: u64 = 1 << 40;
@@ -41,6 +46,30 @@ pub enum LineFault {
     /// A read was wanted after 2^40 bytes.
     #[error("more than 2^40 bytes of input")]
     Spent,
+    /// There was no memory for a block.
+    #[error("out of memory")]
+    OutOfMemory,
+}
+
+impl From<OutOfMemory> for LineFault {
+    ghost use Rattle.bmc_text.specs.declared.lines.LineFault.TheVariants.{OutOfMemory};
+
+    ghost from_gives = { λ _ fault. fault ≡ OutOfMemory };
+
+    fn from(_: OutOfMemory) -> Self {
+        LineFault::OutOfMemory
+    }
+}
+
+/// A block of a script.
+#[derive(Drop)]
+pub enum Block {
+    /// Its bytes.
+    Given(Bytes),
+    /// It has more than 262,144 bytes, which were dropped.
+    Long,
+    /// The source ended before it.
+    Short,
 }
 
 /// The lines of a source, read in pieces of up to 64 KiB into one buffer.
@@ -85,6 +114,38 @@ fn kept_len(raw: &[u8]) -> usize
     match raw {
         [kept @ .., b'\r'] => kept.len(),
         _ => raw.len(),
+    }
+}
+
+// The size of the block that a line asks for, of which these are the bytes before its newline.
+#[tactic(auto, unfolding(crate::specs::Items::line_item))]
+pub(crate) fn asked_by(raw: &[u8]) -> Option<u32>
+    ensures { result ≡ asks (line_item raw.now) }
+{
+    if raw.len() > LONGEST {
+        return None;
+    }
+    block_size(&raw[..kept_len(raw)])
+}
+
+// Room for a block of `n` bytes, or none for one that is too long.
+fn room_for(alloc: Global, n: usize) -> Result<Vec<u8>, OutOfMemory>
+    ensures { IfOk result (λ bytes. bytes.items ≡ []) }
+{
+    let size = if n > LONGEST_BLOCK { 0 } else { n };
+    Ok(Vec::with_capacity(alloc, size)?)
+}
+
+// The block of `n` bytes, of which these came before the end.
+fn block_of(n: usize, bytes: Vec<u8>) -> Block
+    ensures { item_of_block result ≡ last_block n bytes.items }
+{
+    if n > LONGEST_BLOCK {
+        Block::Long
+    } else if bytes.len() < n {
+        Block::Short
+    } else {
+        Block::Given(Bytes::from(bytes))
     }
 }
 
@@ -150,7 +211,7 @@ impl Lines {
         self.ended
     }
 
-    /// The next item among the bytes that were read already, or none where no line is whole in them;
+    /// The next line among the bytes that were read already, or none where no line is whole in them;
     /// then nothing changes.
     #[inline]
     pub fn next_buffered(&mut self) -> Option<Got>
@@ -158,7 +219,7 @@ impl Lines {
         ensures spends { IfSome result (λ got. Spends got self.old self.new) }
         ensures read { self.new.read ≡ self.old.read }
         ensures end { self.new.ended ≡ self.old.ended }
-        ensures none { IfNone result (whole_items self.old.waiting ≡ []) }
+        ensures none { IfNone result (HasNoNewline self.old.waiting) }
         ensures same { IfNone result (self.new ≡ self.old) }
         ensures most { self.new.read ≤ 2 ^ 40 }
         ensures under { self.new.ended ≡ true → self.new.read < 2 ^ 40 }
@@ -166,7 +227,7 @@ impl Lines {
         self.next_behind(0)
     }
 
-    /// The next item of the source. It reads only while no line is whole in what was read, and not
+    /// The next line of the source. It reads only while no line is whole in what was read, and not
     /// again once the source has given its end. It is not called again after a fault.
     pub fn next<S: Source>(&mut self, source: &mut S) -> Result<Got, LineFault>
         ensures next { IfOk result (λ got. TakesNext got self.old self.new (S.left source.old) (S.left source.new)) }
@@ -176,7 +237,7 @@ impl Lines {
         ensures most { self.new.read ≤ 2 ^ 40 }
         ensures under { self.new.ended ≡ true → self.new.read < 2 ^ 40 }
         ensures cause { MatchResult result (λ _. S.faults source.new ≡ S.faults source.old) (λ fault. LineCause fault self.new (S.faults source.old) (S.faults source.new)) }
-        ensures waits { whole_items self.old.waiting ≢ [] → self.new.read ≡ self.old.read }
+        ensures waits { (HasNoNewline self.old.waiting → ⊥) → self.new.read ≡ self.old.read }
         ensures after_end { self.old.ended ≡ true → (result ≡ Ok Got.End) × (self.new ≡ self.old) × Keeps (S.left source.old) (S.left source.new) }
     {
         if self.ended {
@@ -188,7 +249,119 @@ impl Lines {
         self.next_read(source)
     }
 
-    // The next item, where no line is whole in what waits and the source goes on. Each byte is searched
+    /// The block of `n` bytes that a line asked for, and a newline directly behind it. It reads only while
+    /// the block and the byte behind it are not all among what was read, and not again once the source has
+    /// given its end. It takes memory for the block before it reads, and is not called again after a fault.
+    pub fn block<S: Source>(
+        &mut self,
+        alloc: Global,
+        source: &mut S,
+        n: u32,
+    ) -> Result<Block, LineFault>
+        ensures block { IfOk result (λ block. TakesBlock n block self.old self.new (S.left source.old) (S.left source.new)) }
+        ensures spends { OnOk result (self.old.read + length self.new.waiting ≤ self.new.read + length self.old.waiting) }
+        ensures end { OnOk result ((self.old.ended ≡ true → IsAtEnd (S.left source.old)) → self.new.ended ≡ true → IsAtEnd (S.left source.new)) }
+        ensures stops { IfErr result (λ fault. StopsBlock fault n self.old self.new (S.left source.old) (S.left source.new)) }
+        ensures most { self.new.read ≤ 2 ^ 40 }
+        ensures under { self.new.ended ≡ true → self.new.read < 2 ^ 40 }
+        ensures cause { MatchResult result (λ _. S.faults source.new ≡ S.faults source.old) (λ fault. BlockCause fault self.new (S.faults source.old) (S.faults source.new)) }
+        ensures waits { n < length self.old.waiting → self.new.read ≡ self.old.read }
+        ensures after_end { self.old.ended ≡ true → self.new.read ≡ self.old.read }
+    {
+        let n = n as usize;
+        if n < self.waiting().len() {
+            let bytes = self.take_block(alloc, n)?;
+            return Ok(Block::Given(bytes));
+        }
+        let bytes = room_for(alloc, n)?;
+        if self.ended {
+            return Ok(block_of(n, bytes));
+        }
+        self.read_block(source, n, bytes)
+    }
+
+    /// The block of `n` bytes that a line asked for, and a newline directly behind it, where they are among
+    /// what was read.
+    pub(crate) fn take_block(&mut self, alloc: Global, n: usize) -> Result<Bytes, OutOfMemory>
+        requires { n < length self.old.waiting }
+        ensures block { IfOk result (λ bytes. whole_block n self.old.waiting ≡ Some (items.Block bytes, self.new.waiting)) }
+        ensures spends { length self.new.waiting ≤ length self.old.waiting }
+        ensures read { self.new.read ≡ self.old.read }
+        ensures end { self.new.ended ≡ self.old.ended }
+        ensures going { self.old.ended ≡ false }
+        ensures most { self.new.read ≤ 2 ^ 40 }
+    {
+        let bytes = Bytes::copy(alloc, &self.waiting()[..n])?;
+        self.take(0, n);
+        self.drop_newline();
+        Ok(bytes)
+    }
+
+    // The block of `n` bytes and a newline behind it, where they are not all among what waits and the
+    // source goes on.
+    fn read_block<S: Source>(
+        &mut self,
+        source: &mut S,
+        n: usize,
+        mut bytes: Vec<u8>,
+    ) -> Result<Block, LineFault>
+        requires short { length self.old.waiting ≤ n }
+        requires empty { bytes.items ≡ [] }
+        requires going { self.old.ended ≡ false }
+        requires most { self.old.read ≤ 2 ^ 40 }
+        ensures block { IfOk result (λ block. TakesBlock n block self.old self.new (S.left source.old) (S.left source.new)) }
+        ensures spends { OnOk result (self.old.read + length self.new.waiting ≤ self.new.read + length self.old.waiting) }
+        ensures end { OnOk result (self.new.ended ≡ true → IsAtEnd (S.left source.new)) }
+        ensures stops { IfErr result (λ fault. StopsBlock fault n self.old self.new (S.left source.old) (S.left source.new)) }
+        ensures most { self.new.read ≤ 2 ^ 40 }
+        ensures under { self.new.ended ≡ true → self.new.read < 2 ^ 40 }
+        ensures cause { MatchResult result (λ _. S.faults source.new ≡ S.faults source.old) (λ fault. BlockCause fault self.new (S.faults source.old) (S.faults source.new)) }
+    {
+        let mut wanted = n;
+        'pieces: loop {
+            let count = self.waiting().len();
+            self.move_front(count, n, &mut bytes)?;
+            wanted -= count;
+            if self.fill(source)? == 0 {
+                self.finish();
+                return Ok(block_of(n, bytes));
+            }
+            if wanted < self.waiting().len() {
+                self.move_front(wanted, n, &mut bytes)?;
+                self.drop_newline();
+                return Ok(block_of(n, bytes));
+            }
+        }
+    }
+
+    // Takes the first bytes that wait behind those of a block of `n` bytes, or drops them where it is too
+    // long.
+    fn move_front(&mut self, count: usize, n: usize, bytes: &mut Vec<u8>) -> Result<(), OutOfMemory>
+        requires within { count ≤ length self.old.waiting }
+        ensures bytes { OnOk result (n ≤ 262144 → bytes.new.items ≡ bytes.old.items ++ take count self.old.waiting) }
+        ensures waiting { OnOk result (self.new.waiting ≡ drop count self.old.waiting) }
+        ensures read { self.new.read ≡ self.old.read }
+        ensures end { self.new.ended ≡ self.old.ended }
+    {
+        if n <= LONGEST_BLOCK {
+            bytes.extend_from_slice(&self.waiting()[..count])?;
+        }
+        self.take(0, count);
+        Ok(())
+    }
+
+    // Drops a newline at the front of what waits.
+    fn drop_newline(&mut self)
+        ensures waiting { self.new.waiting ≡ behind_block self.old.waiting }
+        ensures read { self.new.read ≡ self.old.read }
+        ensures end { self.new.ended ≡ self.old.ended }
+    {
+        if self.waiting().first() == Some(&b'\n') {
+            self.take(0, 1);
+        }
+    }
+
+    // The next line, where no line is whole in what waits and the source goes on. Each byte is searched
     // once, however small the pieces are.
     fn next_read<S: Source>(&mut self, source: &mut S) -> Result<Got, LineFault>
         requires none { HasNoNewline self.old.waiting }
@@ -280,7 +453,7 @@ impl Lines {
     fn next_behind(&mut self, scanned: usize) -> Option<Got>
         requires within { scanned ≤ length self.old.waiting }
         requires none { HasNoNewline (take scanned self.old.waiting) }
-        ensures item { IfSome result (λ got. TakesItem (item_got got self.new.line) false self.old.waiting self.new.waiting) }
+        ensures line { IfSome result (λ got. TakesLine (line_got got self.new.line) false self.old.waiting self.new.waiting) }
         ensures spends { IfSome result (λ got. Spends got self.old self.new) }
         ensures going { IfSome result (λ _. self.new.ended ≡ false) }
         ensures end { self.new.ended ≡ self.old.ended }
@@ -291,14 +464,14 @@ impl Lines {
         ensures under { self.new.ended ≡ true → self.new.read < 2 ^ 40 }
     {
         let at = newline_behind(self.waiting(), scanned)?;
-        Some(self.take_item(at, at + 1))
+        Some(self.take_line(at, at + 1))
     }
 
-    // The last item, whose bytes are all that waits, at the end of the source.
+    // The last line, whose bytes are all that waits, at the end of the source.
     fn take_last(&mut self) -> Got
         requires none { HasNoNewline self.old.waiting }
         requires under { self.old.read < 2 ^ 40 }
-        ensures item { TakesItem (item_got result self.new.line) true self.old.waiting self.new.waiting }
+        ensures line { TakesLine (line_got result self.new.line) true self.old.waiting self.new.waiting }
         ensures spends { Spends result self.old self.new }
         ensures end { self.new.ended ≡ true }
         ensures read { self.new.read ≡ self.old.read }
@@ -307,18 +480,28 @@ impl Lines {
         let got = if all == 0 {
             Got::End
         } else {
-            self.take_item(all, all)
+            self.take_line(all, all)
         };
         self.finish();
         got
     }
 
-    // Takes the item of the bytes before `at`, and goes on at `next`, both from the first byte that waits.
-    #[tactic(auto, unfolding(crate::specs::Items::item_of))]
-    fn take_item(&mut self, at: usize, next: usize) -> Got
+    // The place of the first newline that waits.
+    pub(crate) fn newline(&self) -> Option<usize>
+        ensures place { MatchOption result (HasNoNewline self.now.waiting) (λ at. IsNewline self.now.waiting at) }
+        ensures going { IfSome result (λ _. self.now.ended ≡ false) }
+        ensures most { self.now.read ≤ 2 ^ 40 }
+        ensures under { self.now.ended ≡ true → self.now.read < 2 ^ 40 }
+    {
+        newline_behind(self.waiting(), 0)
+    }
+
+    // Takes the line of the bytes before `at`, and goes on at `next`, both from the first byte that waits.
+    #[tactic(auto, unfolding(crate::specs::Items::line_item))]
+    pub(crate) fn take_line(&mut self, at: usize, next: usize) -> Got
         requires order { at ≤ next }
         requires within { next ≤ length self.old.waiting }
-        ensures item { item_got result self.new.line ≡ Some (item_of (take at self.old.waiting)) }
+        ensures line { line_got result self.new.line ≡ Some (line_item (take at self.old.waiting)) }
         ensures waiting { self.new.waiting ≡ drop next self.old.waiting }
         ensures read { self.new.read ≡ self.old.read }
         ensures end { self.new.ended ≡ self.old.ended }
@@ -367,7 +550,7 @@ impl Lines {
     }
 
     // The bytes that wait, and what holds of every reader.
-    fn waiting(&self) -> &[u8]
+    pub(crate) fn waiting(&self) -> &[u8]
         ensures value { result.now ≡ self.now.waiting }
         ensures len { length result.now ≤ 65536 }
         ensures most { self.now.read ≤ 2 ^ 40 }
@@ -381,47 +564,8 @@ impl Lines {
 #[cfg(test)]
 mod tests {
     use super::*;
-    use bmc_io::IoFault;
+    use crate::pieces::{Pieces, letters};
     use std::test::Fail;
-
-    // Gives its bytes in pieces of at most `size`. The call with the number `fails` fails.
-    #[derive(Drop)]
-    struct Pieces<'a> {
-        left: &'a [u8],
-        size: usize,
-        fails: u64,
-        calls: u64,
-        faults: u64,
-    }
-
-    impl Source for Pieces<'_> {
-        ghost use Rattle.std.specs.Prelude.{None};
-
-        ghost left = { λ _. None };
-
-        ghost faults = { λ source. source.faults };
-
-        fn read(&mut self, buf: &mut [u8]) -> Result<usize, IoFault> {
-            let fails = self.calls == self.fails;
-            self.calls = self.calls.saturating_add(1);
-            if fails {
-                self.faults = self.faults.saturating_add(1);
-                return Err(IoFault);
-            }
-            let count = self.size.min(buf.len()).min(self.left.len());
-            let (piece, left) = self.left.split_at(count);
-            buf[..count].copy_from_slice(piece);
-            self.left = left;
-            Ok(count)
-        }
-    }
-
-    // So many letters, and then a text.
-    fn letters(alloc: Global, count: usize, text: &[u8]) -> Result<Vec<u8>, Fail> {
-        let mut bytes = vec![in alloc; b'a'; count]?;
-        bytes.extend_from_slice(text)?;
-        Ok(bytes)
-    }
 
     // All that is got: a line and then `|`, `?` for a line that is too long, `$` for the end, twice,
     // and `!` for a fault.
@@ -455,7 +599,7 @@ mod tests {
     }
 
     #[test]
-    fn gets_the_items(rt: HostRuntime) -> Result<(), Fail> {
+    fn gets_the_lines(rt: HostRuntime) -> Result<(), Fail> {
         // letters and a text in the script, letters and a text in what is got
         let cases: [(usize, &str, usize, &str); 16] = [
             (0, "", 0, "$$"),
@@ -480,13 +624,7 @@ mod tests {
             let want = letters(rt.alloc(), letters_got, text_got.as_bytes())?;
             for size in [1, 7, usize::MAX] {
                 for buffered in [false, true] {
-                    let mut source = Pieces {
-                        left: &script,
-                        size,
-                        fails: u64::MAX,
-                        calls: 0,
-                        faults: 0,
-                    };
+                    let mut source = Pieces::new(&script, size, u64::MAX);
                     let got = all_got(rt.alloc(), &mut source, buffered)?;
                     assert!(rt;
                         got.as_slice() == want.as_slice(),
@@ -501,13 +639,7 @@ mod tests {
     #[test]
     fn keeps_any_bytes(rt: HostRuntime) -> Result<(), Fail> {
         let script = [0xff, 0xc3, b'\r', 0, b'\n', 0x80, b'\n'];
-        let mut source = Pieces {
-            left: &script,
-            size: 2,
-            fails: u64::MAX,
-            calls: 0,
-            faults: 0,
-        };
+        let mut source = Pieces::new(&script, 2, u64::MAX);
         let got = all_got(rt.alloc(), &mut source, true)?;
         assert_eq!(rt;
             got.as_slice(),
@@ -528,13 +660,7 @@ mod tests {
             (5, "one|two|three|$$", 5),
         ];
         for (fails, want, calls) in cases {
-            let mut source = Pieces {
-                left: b"one\ntwo\r\nthree",
-                size: 4,
-                fails,
-                calls: 0,
-                faults: 0,
-            };
+            let mut source = Pieces::new(b"one\ntwo\r\nthree", 4, fails);
             let got = all_got(rt.alloc(), &mut source, false)?;
             assert_eq!(rt; got.as_slice(), want.as_bytes(), "at call {fails}");
             assert_eq!(rt; source.calls, calls, "at call {fails}");
@@ -544,18 +670,18 @@ mod tests {
 
     #[test]
     fn stops_at_the_most(rt: HostRuntime) -> Result<(), Fail> {
-        let mut source = Pieces {
-            left: b"ab\ncd\n",
-            size: 7,
-            fails: u64::MAX,
-            calls: 0,
-            faults: 0,
-        };
+        let mut source = Pieces::new(b"ab\ncd\n", 7, u64::MAX);
         let mut lines = Lines::new(rt.alloc())?;
         lines.read = MOST - 4;
         assert!(rt; lines.next(&mut source) == Ok(Got::Line));
         assert_eq!(rt; lines.line(), b"ab".as_slice());
         assert!(rt; lines.next(&mut source) == Err(LineFault::Spent));
+        assert_eq!(rt; source.calls, 1);
+        let mut source = Pieces::new(b"abcde", 7, u64::MAX);
+        let mut lines = Lines::new(rt.alloc())?;
+        lines.read = MOST - 4;
+        let fault = lines.block(rt.alloc(), &mut source, 4).err();
+        assert!(rt; fault == Some(LineFault::Spent));
         assert_eq!(rt; source.calls, 1);
         Ok(())
     }

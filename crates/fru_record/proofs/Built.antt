@@ -1,6 +1,6 @@
 -- What is built is read as it was.
-use Rattle.std.proofs.Common.{◌≡◌, ◌≢◌, ℕ, zero, suc, ◌+◌, ◌-◌, ◌*◌, ◌/◌, ◌%◌, ◌<◌, ◌≤◌, Bool, true, false, List, [], ◌∷◌, ◌++◌, length, map, take, drop, get_or, replicate, sum, chars, slice_index, slice_range, Option, Some, None, Result, Ok, refl, ap, ap₂, sym, subst, ◌∙◌, append_assoc, length-append, add-zero, append-nil, decimal, nat_eq, if◌then◌else◌, arith}
-use Rattle.std.specs.Prelude.{◌||◌, nat_lt, encode_utf8}
+use Rattle.std.proofs.Common.{◌≡◌, ◌≢◌, ℕ, zero, suc, ◌+◌, ◌-◌, ◌*◌, ◌/◌, ◌%◌, ◌<◌, ◌≤◌, true, false, List, [], ◌∷◌, ◌++◌, length, map, get_or, replicate, chars, slice_range, Option, Some, None, Ok, refl, ap, ap₂, sym, subst, ◌∙◌, append_assoc, length-append, add-zero, append-nil, decimal, nat_eq, if◌then◌else◌, arith}
+use Rattle.std.specs.Prelude.{nat_lt, encode_utf8}
 use Rattle.std.specs.List.{flat_map, list_any, All}
 use Rattle.std.specs.Str.{IsUtf8}
 use Rattle.std.proofs.Math.Utf8.{encodes}
@@ -9,7 +9,7 @@ use Rattle.std.proofs.lemmas.List.Elements.{All-cons}
 use Rattle.std.proofs.lemmas.List.Sums.{sum_by-append}
 use Rattle.std.proofs.lemmas.List.{take_at, drop_at, get_or-append-add, length-replicate}
 use Rattle.std.proofs.lemmas.Str.{encodes-chars, encode_ascii}
-use Rattle.fru_area.specs.Areas.{named, named_field}
+use Rattle.fru_area.specs.Areas.{named}
 use Rattle.fru_area.specs.Headers.{checksum, area_end}
 use Rattle.fru_area.specs.Texts.{text_of, latin_text, six_bit_text}
 use Rattle.fru_area.specs.Walks.{Raw, Spells, ended, field, field_bytes}
@@ -29,7 +29,7 @@ use Rattle.fru_record.specs.declared.parts.BoardPart.{BoardPart}
 use Rattle.fru_record.specs.declared.parts.ProductPart.{ProductPart}
 use Rattle.fru_record.specs.Views.{IsWritable, AreWritable, breaks}
 use Rattle.fru_record.specs.declared.text_rule.TextRule.{TextRule}
-use Rattle.fru_record.specs.declared.text_rule.TextRule.TheVariants.{Latin, Length, Single}
+use Rattle.fru_record.specs.declared.text_rule.TextRule.TheVariants.{Single}
 use Rattle.fru_record.proofs.Sizes.{allowed-writable, allowed-early, allowed-short}
 use Rattle.fru_record.proofs.Spelled.{spelled-record}
 use Rattle.fru_record.proofs.Texts.{both_false, writable-short, AreWritable-append}

@@ -1,5 +1,5 @@
 -- The text of a date, digit by digit.
-use Rattle.std.proofs.Common.{◌≡◌, ℕ, zero, suc, ◌+◌, ◌*◌, ◌/◌, ◌%◌, ◌<◌, ◌≤◌, List, [], ◌∷◌, ◌++◌, map, pos, refl, sym, ap, ap₂, ◌∙◌, arith, decimal}
+use Rattle.std.proofs.Common.{◌≡◌, ℕ, ◌+◌, ◌/◌, ◌%◌, ◌<◌, ◌≤◌, List, [], ◌∷◌, ◌++◌, map, pos, refl, sym, ap, ◌∙◌, arith, decimal}
 use Rattle.std.specs.Int.Digits.{digits_of}
 use Rattle.std.specs.Str.{IsAscii}
 use Rattle.std.proofs.lemmas.Fmt.{decimal-digits_of}
@@ -11,7 +11,7 @@ use Rattle.jiff_core.proofs.CalendarLemmas.{day_count-lt_year, days_in_month_bou
 use Rattle.fru_record.specs.Dates.{manufacture_day, date_text}
 use Rattle.jiff_core.specs.declared.civil.date.Date.{Date}
 use Rattle.fru_record.specs.Views.{IsDay}
-use Rattle.fru_record.proofs.Days.{IsCounted, IsCounted-manufacture, day_count-first_day}
+use Rattle.fru_record.proofs.Days.{IsCounted-manufacture, day_count-first_day}
 
 digits-front : (n : ℕ) (front : List ℕ) → 0 < n → digits_of 10 (n / 10) ≡ front → digits_of 10 n ≡ front ++ n % 10 ∷ []
 digits-front n front h e = digits_of_step 10 n (omega arith) h ∙ ap (λ (ds : List ℕ). ds ++ n % 10 ∷ []) e

@@ -1,7 +1,7 @@
 -- What comes of reading a record, step by step.
-use Rattle.std.proofs.Common.{◌≡◌, ◌≢◌, ◌*◌, ℕ, List, [], ◌++◌, Result, Ok, Err, cond, nat_eq, refl, ap, ap₂, sym, ◌∙◌}
+use Rattle.std.proofs.Common.{◌≡◌, ◌≢◌, ◌*◌, ℕ, List, [], ◌++◌, Result, Ok, Err, refl, ap, sym, ◌∙◌}
 use Rattle.std.proofs.lemmas.Bool.{ne_eqb}
-use Rattle.fru_area.specs.Answers.{Gives, GivesFault}
+use Rattle.fru_area.specs.Answers.{GivesFault}
 use Rattle.fru_area.specs.Areas.{area_fields}
 use Rattle.fru_area.specs.Headers.{header, area_at}
 use Rattle.fru_area.specs.declared.fault.Area.{Area}

@@ -1,5 +1,5 @@
 -- What is read of a record is what its bytes spell.
-use Rattle.std.proofs.Common.{◌≡◌, ◌≢◌, ◌≤◌, ◌+◌, ◌*◌, ℕ, List, [], ◌++◌, length, take, Bool, true, false, not, cond, eq-eqb, nat_eq, nat_lt, slice_index, slice_range, Result, Ok, Err, refl, ap, ap₂, sym, subst, ◌∙◌, arith}
+use Rattle.std.proofs.Common.{◌≡◌, ◌≢◌, ◌≤◌, ◌+◌, ◌*◌, ℕ, List, [], ◌++◌, length, take, Bool, true, false, not, cond, eq-eqb, nat_eq, nat_lt, slice_index, slice_range, Result, Ok, Err, refl, ap, sym, ◌∙◌}
 use Rattle.std.proofs.lemmas.Bool.{eqb-true, ne_eqb, ltb-false, le-ltb}
 use Rattle.std.specs.Prelude.{◌||◌}
 use Rattle.fru_area.specs.Areas.{named, named_ok, area_fields}

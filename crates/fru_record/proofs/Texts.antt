@@ -5,7 +5,7 @@ use Rattle.std.specs.Prelude.{◌||◌, ◌&&◌}
 use Rattle.std.specs.List.{list_any}
 use Rattle.std.proofs.lemmas.Bool.{ltb-false}
 use Rattle.std.proofs.lemmas.List.Folds.{list_any_at, list_any-append}
-use Rattle.fru_record.specs.Building.{is_bad_single, is_not_latin, is_too_long, field_of_chars, field_of_text}
+use Rattle.fru_record.specs.Building.{is_bad_single, field_of_chars, field_of_text}
 use Rattle.fru_record.specs.Views.{breaks, IsWritable, AreWritable, field_head, first_char}
 use Rattle.fru_record.specs.declared.text_rule.TextRule.{TextRule}
 use Rattle.fru_record.specs.declared.text_rule.TextRule.TheVariants.{Latin, Length, Single}

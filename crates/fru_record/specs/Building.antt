@@ -1,7 +1,7 @@
 -- The bytes of a record that is built of parts, or why it can't be (FRU definition 1.0, sections 8 and 10 to 13).
-use Rattle.std.specs.Prelude.{ℕ, ◌≡◌, ◌+◌, ◌*◌, ◌-◌, ◌/◌, ◌%◌, ◌^◌, ⊤, Bool, false, ◌==◌, ◌||◌, ◌&&◌, not, nat_lt, nat_le, if◌then◌else◌, List, [], ◌∷◌, ◌++◌, length, chars, sum, replicate, Option, Some, None, Result, Ok, Err}
+use Rattle.std.specs.Prelude.{ℕ, ◌≡◌, ◌+◌, ◌*◌, ◌-◌, ◌/◌, ◌%◌, ◌^◌, ⊤, Bool, false, ◌||◌, nat_lt, nat_le, if◌then◌else◌, List, [], ◌∷◌, ◌++◌, length, chars, sum, replicate, Option, Some, None, Result, Ok, Err}
 use Rattle.std.specs.List.{list_any, flat_map}
-use Rattle.fru_record.specs.Parts.{texts_of, chassis_texts, board_texts, product_texts}
+use Rattle.fru_record.specs.Parts.{texts_of}
 use Rattle.fru_record.specs.declared.parts.Parts.{Parts}
 use Rattle.fru_record.specs.declared.parts.ChassisPart.{ChassisPart}
 use Rattle.fru_record.specs.declared.parts.BoardPart.{BoardPart}

@@ -1,4 +1,3 @@
-use Rattle.fru_record.specs.Parts.{chassis_texts}
 use Rattle.fru_record.proofs.builder.push_chassis.Goals as goal
 
 pub push_area-requires-clause-texts : goal.push_area-requires-clause-texts

@@ -1,4 +1,4 @@
-use Rattle.std.proofs.Common.{ℕ, List, get_or, sym, subst, ◌∙◌, arith, below_more}
+use Rattle.std.proofs.Common.{ℕ, List, get_or, subst, ◌∙◌, arith, below_more}
 use Rattle.std.specs.Str.{IsUtf8}
 use Rattle.std.proofs.lemmas.Grind.{common_steps}
 use Rattle.std.proofs.lemmas.List.{get_or_default}

@@ -1,6 +1,5 @@
 use Rattle.std.proofs.Common.{Ok, Err, rules}
 use Rattle.std.specs.Result.{MatchResult, IsOk}
-use Rattle.std.specs.Str.{IsUtf8}
 use Rattle.std.specs.Prelude.{Result}
 use Rattle.std.proofs.lemmas.Str.{IsUtf8-from_ascii}
 use Rattle.fru_record.proofs.DateTexts.{IsAscii-date_text}

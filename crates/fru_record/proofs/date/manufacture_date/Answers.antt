@@ -1,7 +1,5 @@
 use Rattle.std.proofs.Common.{ℕ, ◌<◌, ◌≤◌, ◌/◌, arith, ◌∙◌, FitsSigned, w64}
 use Rattle.std.proofs.lemmas.Int.{to_z-of_z}
-use Rattle.std.proofs.lemmas.Result.{IfOk-at_ok}
-use Rattle.jiff.specs.Words.{epoch_day}
 use Rattle.jiff.proofs.SpanFacts.{signed_arith, date_add-days, can_add-days}
 use Rattle.fru_record.proofs.Days.{IsEpochDay-later, IsDay-later}
 use Rattle.fru_record.proofs.date.manufacture_date.Goals as goal

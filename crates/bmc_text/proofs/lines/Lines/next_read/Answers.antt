@@ -13,12 +13,12 @@ returns-in_err-fill-clause-stops g c =
 pub returns-then-branch-eq0-clause-next : goal.returns-then-branch-eq0-clause-next
 returns-then-branch-eq0-clause-next g c =
     takes_after c.take_last.result (Gathers-trans c.pieces.invariant.gathers c.fill.ensures.gathers)
-    (takes_here c.take_last.result _ _ _ _ c.take_last.ensures.read c.take_last.ensures.end c.take_last.ensures.item)
+    (takes_here c.take_last.result _ _ _ _ c.take_last.ensures.read c.take_last.ensures.end c.take_last.ensures.line)
 
 pub returns-in-Some-clause-next : goal.returns-in-Some-clause-next
 returns-in-Some-clause-next g c =
     takes_after c.in-Some.got (Gathers-trans c.pieces.invariant.gathers c.fill.ensures.gathers)
-    (takes_here c.in-Some.got _ _ _ _ c.next_behind.ensures.read c.in-Some.ensures.going c.in-Some.ensures.item)
+    (takes_here c.in-Some.got _ _ _ _ c.next_behind.ensures.read c.in-Some.ensures.going c.in-Some.ensures.line)
 
 pub returns-then-scanned-gt-LONGEST-clause-next : goal.returns-then-scanned-gt-LONGEST-clause-next
 returns-then-scanned-gt-LONGEST-clause-next g c = IfOk-weaker c.skip.result _ _ (λ got next. takes_after got c.pieces.invariant.gathers next) c.skip.ensures.next

@@ -1,4 +1,4 @@
-use Rattle.std.proofs.Common.{◌≡◌, ℕ, List, Option, Some, None, option_map, find, bytes_eq, Bor, ap, sym, ◌∙◌}
+use Rattle.std.proofs.Common.{◌≡◌, ℕ, List, Option, Some, None, option_map, find, bytes_eq, ap, ◌∙◌}
 use Rattle.fru_area.specs.Names.{name_text}
 use Rattle.fru_area.specs.declared.field.Field.{Field}
 use Rattle.fru_record.specs.Lookups.{text_named}

@@ -1,0 +1,13 @@
+-- A new name goes last in the map, and so does its configuration.
+use Rattle.cfg_json.proofs.Shelves.{entries_with, configs_of_more, AreNamed_more}
+use Rattle.cfg_json.proofs.shelf.Shelf.add.Goals as goal
+
+pub invariant_of-self-2 : goal.invariant_of-self-2
+invariant_of-self-2 c =
+    let new = rw (← c.self.view_is) at c.requires in
+    rw (c.in_ok-insert.ensures.entries, c.name.ensures, entries_with c.args.config c.self.inside.configs.entries c.self.invariant new) (AreNamed_more c.args.config c.self.inside.configs.entries c.self.invariant)
+
+pub returns-clause-ok : goal.returns-clause-ok
+returns-clause-ok c =
+    let new = rw (← c.self.view_is) at c.requires in
+    rw (← c.self.view_is, c.in_ok-insert.ensures.entries, c.name.ensures, entries_with c.args.config c.self.inside.configs.entries c.self.invariant new) (configs_of_more c.args.config c.self.inside.configs.entries)

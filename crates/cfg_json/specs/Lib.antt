@@ -1,0 +1,5 @@
+pub mod Probes
+pub mod Configs
+pub mod Documents
+pub mod Answers
+pub mod Shelves

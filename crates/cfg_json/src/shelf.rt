@@ -1,0 +1,73 @@
+ghost use Rattle.std.specs.Prelude.{◌≡◌, ◌<◌, ◌∷◌, ◌++◌, [], None, length, slice_get, option_map, IfOk, OnOk, OnErr};
+ghost use Rattle.cfg_json.specs.Shelves.{number_of};
+
+use crate::config::Config;
+use bmc_base::{Name, OutOfMemory};
+use indexmap::IndexMap;
+use std::alloc::Global;
+use std::marker::Model;
+
+/// The configurations, in the order in which they were accepted, each under a name of its own.
+#[derive(Drop)]
+pub struct Shelf {
+    configs: IndexMap<Name, Config>,
+}
+
+impl Model for Shelf {
+    ghost use Rattle.std.specs.Prelude.{List, map};
+    ghost use Rattle.cfg_json.specs.Configs.{Config};
+    ghost use Rattle.cfg_json.specs.Shelves.{configs_of, AreNamed};
+
+    ghost Value = { List Config };
+
+    ghost view = { λ s. configs_of s.configs.entries };
+
+    ghost invariant = { λ s. AreNamed s.configs.entries };
+}
+
+// How many configurations a new shelf has room for.
+const ROOM: usize = 8;
+
+impl Shelf {
+    /// No configurations, and room for a few.
+    pub fn new(alloc: Global) -> Result<Shelf, OutOfMemory>
+        ensures { IfOk result (λ shelf. shelf ≡ []) }
+    {
+        let configs = IndexMap::with_capacity(alloc, ROOM)?;
+        Ok(Shelf { configs })
+    }
+
+    /// Puts a configuration behind the others, or changes nothing. Its name is new.
+    pub fn add(&mut self, config: Config) -> Result<(), OutOfMemory>
+        requires { number_of self.old config.name ≡ None }
+        ensures ok { OnOk result (self.new ≡ self.old ++ config ∷ []) }
+        ensures err { OnErr result (self.new ≡ self.old) }
+    {
+        self.configs.insert(config.name(), config)?;
+        Ok(())
+    }
+
+    /// How many there are.
+    pub fn len(&self) -> usize
+        ensures { result ≡ length self.now }
+    {
+        self.configs.len()
+    }
+
+    /// The configuration with this number, from 0, or none.
+    pub fn at(&self, number: usize) -> Option<&Config>
+        ensures { option_map (λ config. config.now) result ≡ slice_get self.now number }
+    {
+        match self.configs.get_index(number) {
+            Some((_, config)) => Some(config),
+            None => None,
+        }
+    }
+
+    /// The number of the configuration with this name, or none.
+    pub fn position(&self, name: &Name) -> Option<usize>
+        ensures { result ≡ number_of self.now name.now }
+    {
+        self.configs.get_index_of(name)
+    }
+}

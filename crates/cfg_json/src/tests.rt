@@ -1,0 +1,275 @@
+use crate::{Config, ConfigFault, PlainProbe, Shelf, plain_probes_read_as_written};
+use bmc_base::Name;
+use fru_area::FieldName;
+use std::alloc::Global;
+use std::process::Abort;
+use std::test::Fail;
+
+#[test]
+fn constant_probes(rt: HostRuntime) -> Result<(), Fail> {
+    plain_probes_read_as_written();
+    let rows = [
+        (r#"{"Name":"A","Probe":"TRUE"}"#, "A"),
+        (" { \"Probe\" : \"TRUE\" ,\n\"Name\" : \"A B\" }\r\n", "A B"),
+        (
+            r#"{"Name":"aaaaaaaaaaaaaaaaaaaaaaaaaaaaaaaaaaaaaaaaaaaaaaaaaaaaaaaaaaaaaaaa","Probe":"TRUE"}"#,
+            "aaaaaaaaaaaaaaaaaaaaaaaaaaaaaaaaaaaaaaaaaaaaaaaaaaaaaaaaaaaaaaaa",
+        ),
+        ("{\"Name\":\"\\u00e9\\n\",\"Probe\":\"TRUE\"}", "é\n"),
+        (
+            r#"{"Name":"A","Probe":"TRUE","x":[18446744073709551615,-9223372036854775808,0,null]}"#,
+            "A",
+        ),
+        (r#"{"x":0.5,"x":1,"Name":"A","Probe":"TRUE"}"#, "A"),
+        (
+            r#"{"Name":0.5,"Name":"","Name":"B","Probe":5,"Probe":"TRUE"}"#,
+            "B",
+        ),
+        (r#"{"Name":"A","Probe":"TRUE","exposes":[]}"#, "A"),
+    ];
+    for (document, name) in rows {
+        let config = Config::read(rt.alloc(), document.as_bytes())?;
+        assert_eq!(rt; config.name().as_str(), name, "{document}");
+        assert!(rt; matches!(config.probe(), PlainProbe::Always), "{document}");
+    }
+    Ok(())
+}
+
+#[test]
+fn field_probes(rt: HostRuntime) -> Result<(), Fail> {
+    let rows = [
+        (
+            FieldName::BoardManufacturer,
+            "ACM",
+            r#"{"Name":"R","Probe":"xyz.openbmc_project.FruDevice({'BOARD_MANUFACTURER': 'ACM'})"}"#,
+        ),
+        (
+            FieldName::BoardProductName,
+            "RSR",
+            r#"{"Name":"R","Probe":"xyz.openbmc_project.FruDevice({'BOARD_PRODUCT_NAME': 'RSR'})"}"#,
+        ),
+        (
+            FieldName::BoardSerialNumber,
+            "0",
+            r#"{"Name":"R","Probe":"xyz.openbmc_project.FruDevice({'BOARD_SERIAL_NUMBER': '0'})"}"#,
+        ),
+        (
+            FieldName::BoardPartNumber,
+            "azAZ09",
+            r#"{"Name":"R","Probe":"xyz.openbmc_project.FruDevice({'BOARD_PART_NUMBER': 'azAZ09'})"}"#,
+        ),
+        (
+            FieldName::BoardFruVersionId,
+            "A1A1A1A1A1A1A1A1A1A1A1A1A1A1A1A1A1A1A1A1A1A1A1A1A1A1A1A1A1A1A1A1",
+            r#"{"Name":"R","Probe":"xyz.openbmc_project.FruDevice({'BOARD_FRU_VERSION_ID': 'A1A1A1A1A1A1A1A1A1A1A1A1A1A1A1A1A1A1A1A1A1A1A1A1A1A1A1A1A1A1A1A1'})"}"#,
+        ),
+    ];
+    for (field, text, document) in rows {
+        let config = Config::read(rt.alloc(), document.as_bytes())?;
+        assert_eq!(rt; config.name().as_str(), "R");
+        match config.probe() {
+            PlainProbe::Contains(name, wanted) => {
+                assert_eq!(rt; *name, field);
+                assert_eq!(rt; wanted.as_str(), text);
+            }
+            PlainProbe::Always => assert!(rt; false, "{document}"),
+        }
+    }
+    Ok(())
+}
+
+fn assert_refused(rt: &impl Abort, alloc: Global, fault: ConfigFault, documents: &[&str]) {
+    for document in documents {
+        let given = Config::read(alloc, document.as_bytes()).err();
+        assert_eq!(rt; given, Some(fault), "{document}");
+    }
+}
+
+#[test]
+fn no_json(rt: HostRuntime) {
+    let documents = [
+        "",
+        "{",
+        r#"{"Name":"A","Probe":"TRUE"} x"#,
+        r#"{"Name":"A","Probe":"TRUE",}"#,
+        "{'Name':'A'}",
+        r#"{"Name":"A","Probe":"TRUE","x":1e400}"#,
+        r#"{"Name":"A","Probe":"TRUE","x":01}"#,
+        "\u{FEFF}{\"Name\":\"A\",\"Probe\":\"TRUE\"}",
+    ];
+    assert_refused(&rt, rt.alloc(), ConfigFault::NotJson, &documents);
+    let bytes: [&[u8]; 3] = [
+        b"\xFF",
+        b"{\"Name\":\"\xC3\",\"Probe\":\"TRUE\"}",
+        b"{\"Name\":\"A\",\"Probe\":\"TRUE\"}\x00",
+    ];
+    for document in bytes {
+        let given = Config::read(rt.alloc(), document).err();
+        assert_eq!(rt; given, Some(ConfigFault::NotJson), "{document:?}");
+    }
+}
+
+#[test]
+fn fractions(rt: HostRuntime) {
+    let documents = [
+        r#"{"Name":"A","Probe":"TRUE","x":0.5}"#,
+        r#"{"Name":"A","Probe":"TRUE","x":-0}"#,
+        r#"{"Name":"A","Probe":"TRUE","x":1e2}"#,
+        r#"{"Name":"A","Probe":"TRUE","x":1.0}"#,
+        r#"{"Name":"A","Probe":"TRUE","x":[[{"y":[0.5]}]]}"#,
+        r#"{"Name":"A","Probe":"TRUE","x":99999999999999999999}"#,
+        r#"{"Name":"A","Probe":"TRUE","x":18446744073709551616}"#,
+        r#"{"Name":"A","Probe":"TRUE","x":-9223372036854775809}"#,
+        "0.5",
+        "[0.5]",
+        r#"{"x":0.5}"#,
+        r#"{"Name":0.5,"Probe":"TRUE"}"#,
+        r#"{"x":1,"x":0.5,"Name":"A","Probe":"TRUE"}"#,
+    ];
+    assert_refused(&rt, rt.alloc(), ConfigFault::Fraction, &documents);
+}
+
+#[test]
+fn wrong_kinds(rt: HostRuntime) {
+    let documents = [
+        "null",
+        "true",
+        "7",
+        r#""Name""#,
+        "[]",
+        r#"[{"Name":"A","Probe":"TRUE"}]"#,
+        r#"{"Name":null}"#,
+        r#"{"Name":7,"Probe":"TRUE"}"#,
+        r#"{"Name":["A"],"Probe":"TRUE"}"#,
+        r#"{"Name":"R","Probe":null}"#,
+        r#"{"Name":"R","Probe":5}"#,
+        r#"{"Name":"R","Probe":true}"#,
+        r#"{"Name":"R","Probe":{}}"#,
+        r#"{"Name":"A","Probe":5,"Exposes":[]}"#,
+    ];
+    assert_refused(&rt, rt.alloc(), ConfigFault::WrongKind, &documents);
+}
+
+#[test]
+fn missing_keys(rt: HostRuntime) {
+    let documents = [
+        "{}",
+        r#"{"Probe":"TRUE"}"#,
+        r#"{"name":"A","Probe":"TRUE"}"#,
+        r#"{"Name":"A"}"#,
+        r#"{"Name":"A","Exposes":[]}"#,
+    ];
+    assert_refused(&rt, rt.alloc(), ConfigFault::MissingKey, &documents);
+}
+
+#[test]
+fn out_of_range(rt: HostRuntime) {
+    let documents = [
+        r#"{"Name":"","Probe":"TRUE"}"#,
+        r#"{"Name":"","Probe":5}"#,
+        r#"{"Name":"aaaaaaaaaaaaaaaaaaaaaaaaaaaaaaaaaaaaaaaaaaaaaaaaaaaaaaaaaaaaaaaaa","Probe":"TRUE"}"#,
+        r#"{"Name":"ééééééééééééééééééééééééééééééééé","Probe":"TRUE"}"#,
+    ];
+    assert_refused(&rt, rt.alloc(), ConfigFault::OutOfRange, &documents);
+}
+
+#[test]
+fn no_plain_probes(rt: HostRuntime) {
+    let documents = [
+        r#"{"Name":"R","Probe":"TRUE "}"#,
+        r#"{"Name":"R","Probe":" TRUE"}"#,
+        r#"{"Name":"R","Probe":"true"}"#,
+        r#"{"Name":"R","Probe":"FALSE"}"#,
+        r#"{"Name":"R","Probe":""}"#,
+        r#"{"Name":"R","Probe":"xyz.openbmc_project.FruDevice({'BOARD_PRODUCT_NAME':'RSR'})"}"#,
+        r#"{"Name":"R","Probe":"xyz.openbmc_project.FruDevice({'BOARD_PRODUCT_NAME' : 'RSR'})"}"#,
+        r#"{"Name":"R","Probe":"xyz.openbmc_project.FruDevice({ 'BOARD_PRODUCT_NAME': 'RSR'})"}"#,
+        r#"{"Name":"R","Probe":"xyz.openbmc_project.FruDevice({'BOARD_PRODUCT_NAME': 'RSR' })"}"#,
+        r#"{"Name":"R","Probe":"xyz.openbmc_project.FruDevice ({'BOARD_PRODUCT_NAME': 'RSR'})"}"#,
+        r#"{"Name":"R","Probe":"xyz.openbmc_project.FruDevice({'BOARD_PRODUCT_NAME': 'RSR'}) "}"#,
+        r#"{"Name":"R","Probe":"xyz.openbmc_project.FruDevice({'BOARD_PRODUCT_NAME': 'RSR'"}"#,
+        r#"{"Name":"R","Probe":"xyz.openbmc_project.FruDevice({'BOARD_PRODUCT_NAME': 'RSR', 'BOARD_PART_NUMBER': 'P'})"}"#,
+        r#"{"Name":"R","Probe":"xyz.openbmc_project.FruDevice({'BOARD_PRODUCT_NAME': 5})"}"#,
+        r#"{"Name":"R","Probe":"xyz.openbmc_project.FruDevice({})"}"#,
+        r#"{"Name":"R","Probe":"xyz.openbmc_project.FruDevice({'PRODUCT_PRODUCT_NAME': 'RSR'})"}"#,
+        r#"{"Name":"R","Probe":"xyz.openbmc_project.FruDevice({'BOARD_MANUFACTURE_DATE': 'RSR'})"}"#,
+        r#"{"Name":"R","Probe":"xyz.openbmc_project.FruDevice({'BOARD_INFO_AM1': 'RSR'})"}"#,
+        r#"{"Name":"R","Probe":"xyz.openbmc_project.FruDevice({'BOARD_': 'RSR'})"}"#,
+        r#"{"Name":"R","Probe":"xyz.openbmc_project.FruDevice({'BOARD_PRODUCT_NAME': ''})"}"#,
+        r#"{"Name":"R","Probe":"xyz.openbmc_project.FruDevice({'BOARD_PRODUCT_NAME': 'AAAAAAAAAAAAAAAAAAAAAAAAAAAAAAAAAAAAAAAAAAAAAAAAAAAAAAAAAAAAAAAAA'})"}"#,
+        r#"{"Name":"R","Probe":"xyz.openbmc_project.FruDevice({'BOARD_PRODUCT_NAME': 'RSR-1'})"}"#,
+        r#"{"Name":"R","Probe":"xyz.openbmc_project.FruDevice({'BOARD_PRODUCT_NAME': 'RSR 1'})"}"#,
+        r#"{"Name":"R","Probe":"xyz.openbmc_project.FruDevice({'BOARD_PRODUCT_NAME': '.*'})"}"#,
+        r#"{"Name":"R","Probe":"xyz.openbmc_project.FruDevice({'BOARD_PRODUCT_NAME': 'É'})"}"#,
+        r#"{"Name":"R","Probe":"xyz.openbmc_project.FruDevice({'BOARD_PRODUCT_NAME': 'R''})"}"#,
+        r#"{"Name":"R","Probe":[]}"#,
+        r#"{"Name":"R","Probe":["TRUE"]}"#,
+        r#"{"Name":"R","Probe":["AND","AND","AND","AND","AND","AND","AND","AND","AND","AND","AND","AND","AND","AND","AND","AND","AND","AND","AND","AND","AND","AND","AND","AND","AND","AND","AND","AND","AND","AND","AND","AND","AND","AND"]}"#,
+        r#"{"Name":"A","Probe":"TRUE","Exposes":[]}"#,
+        r#"{"Name":"A","Probe":"TRUE","Exposes":null}"#,
+        r#"{"Name":"A","Probe":"TRUE","Exposes":[{"Type":"temp"}]}"#,
+    ];
+    assert_refused(&rt, rt.alloc(), ConfigFault::ProbeForm, &documents);
+}
+
+// A configuration with a member of so many arrays, one in the other.
+fn nested(alloc: Global, arrays: usize) -> Result<String, Fail> {
+    let mut document = String::from_str(alloc, r#"{"Name":"A","Probe":"TRUE","x":"#)?;
+    for _ in 0..arrays {
+        document.push('[')?;
+    }
+    for _ in 0..arrays {
+        document.push(']')?;
+    }
+    document.push('}')?;
+    Ok(document)
+}
+
+#[test]
+fn nesting(rt: HostRuntime) -> Result<(), Fail> {
+    for (arrays, fault) in [
+        (0, Some(ConfigFault::NotJson)),
+        (1, None),
+        (126, None),
+        (127, Some(ConfigFault::NotJson)),
+        (10_000, Some(ConfigFault::NotJson)),
+    ] {
+        let document = nested(rt.alloc(), arrays)?;
+        let given = Config::read(rt.alloc(), document.as_bytes()).err();
+        assert_eq!(rt; given, fault, "{arrays}");
+    }
+    Ok(())
+}
+
+// The configuration of this number, put on the shelf.
+fn add(rt: &impl Abort, alloc: Global, shelf: &mut Shelf, number: usize) -> Result<(), Fail> {
+    let document = format!(in alloc; "{{\"Name\":\"Board {number}\",\"Probe\":\"TRUE\"}}")?;
+    let config = Config::read(alloc, document.as_bytes())?;
+    assert!(rt; shelf.position(&config.name()).is_none());
+    assert_eq!(rt; shelf.len(), number);
+    shelf.add(config)?;
+    Ok(())
+}
+
+#[test]
+fn shelves(rt: HostRuntime) -> Result<(), Fail> {
+    let mut shelf = Shelf::new(rt.alloc())?;
+    assert_eq!(rt; shelf.len(), 0);
+    assert!(rt; shelf.at(0).is_none());
+    for number in 0..256usize {
+        add(&rt, rt.alloc(), &mut shelf, number)?;
+    }
+    assert_eq!(rt; shelf.len(), 256);
+    for number in 0..256usize {
+        let text = format!(in rt.alloc(); "Board {number}")?;
+        let name = Name::new(text.as_str())?;
+        assert_eq!(rt; shelf.position(&name), Some(number));
+        match shelf.at(number) {
+            Some(config) => assert_eq!(rt; config.name().as_str(), text.as_str()),
+            None => assert!(rt; false, "{number}"),
+        }
+    }
+    assert!(rt; shelf.at(256).is_none());
+    assert_eq!(rt; shelf.position(&Name::new("Board")?), None);
+    Ok(())
+}
