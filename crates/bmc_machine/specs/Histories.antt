@@ -1,5 +1,5 @@
 -- What has happened, and what stands after it.
-use Rattle.std.specs.Prelude.{ℕ, Bool, true, false, nat_le, if◌then◌else◌, List, [], ◌∷◌, ◌++◌, length, is_some, Option, Some, None, Result, Ok, Err}
+use Rattle.std.specs.Prelude.{ℕ, Bool, true, false, nat_le, if◌then◌else◌, List, [], ◌∷◌, ◌++◌, length, filter, not, is_some, Option, Some, None, Result, Ok, Err}
 use Rattle.std.specs.List.{list_any}
 use Rattle.std.specs.Ordering.{is_lt, is_eq}
 use Rattle.bmc_base.specs.Places.{Place, place_cmp}
@@ -23,6 +23,14 @@ pub record Fru : Type 0 where
   pub place : Place
   pub bytes : List ℕ
 
+abbrev pub fields_in : Result (List Field) FruFault → List Field
+fields_in (Ok fields) = fields
+fields_in (Err rule) = []
+
+-- the fields of a FRU, read from its bytes
+abbrev pub fields_of : Fru → List Field
+fields_of fru = fields_in (record_of fru.bytes)
+
 abbrev pub is_at : Place → Fru → Bool
 is_at place fru = is_eq (place_cmp place fru.place)
 
@@ -36,8 +44,7 @@ put fru (other ∷ frus) = if is_lt (place_cmp fru.place other.place) then fru �
 
 -- without the one at this place
 abbrev pub without : Place → List Fru → List Fru
-without place [] = []
-without place (fru ∷ frus) = if is_at place fru then frus else fru ∷ without place frus
+without place frus = filter (λ fru. not (is_at place fru)) frus
 
 -- what stands after a history: the configurations in their order, the FRUs that are present by place, and whether any
 -- FRU was ever plugged

@@ -8,56 +8,56 @@ use Rattle.bmc_script.specs.declared.command.Command.TheVariants as commands
 use Rattle.bmc_script.specs.declared.command.ScriptFault.{ScriptFault}
 use Rattle.bmc_report.specs.Refusals.{refused_line}
 use Rattle.bmc_report.specs.Rows.{fru_row}
+use Rattle.bmc_report.specs.Changes.{change_line}
+use Rattle.bmc_report.specs.declared.change.Change.{Change}
 use Rattle.bmc_report.specs.declared.refusal.Refusal.{Refusal}
 use Rattle.bmc_report.specs.declared.refusal.Refusal.TheVariants.{UnknownCommand, ConfigTooLong, ConfigShort, Config as NoConfig}
-use Rattle.fru_area.specs.declared.field.Field.{Field}
-use Rattle.fru_area.specs.declared.fault.FruFault.{FruFault}
-use Rattle.fru_record.specs.Records.{record_of}
 use Rattle.cfg_json.specs.Configs.{Config}
 use Rattle.cfg_json.specs.Documents.{config_read}
 use Rattle.cfg_json.specs.declared.config.ConfigFault.{ConfigFault}
-use Rattle.bmc_machine.specs.Histories.{Step, Configure, Plug, Unplug, Fru, Standing, standing, refusal_of}
+use Rattle.bmc_machine.specs.Histories.{Step, Configure, Plug, Unplug, Fru, fields_of, Standing, standing, refusal_of}
+use Rattle.bmc_machine.specs.Boards.{changes}
 
--- what comes of an item
+-- what comes of an item: nothing, a step with its changes, or a refusal
 pub data Outcome : Type 0 where
   Nothing : Outcome
-  Accepted : Step → Outcome
+  Accepted : Step → List Change → Outcome
   Refused : Refusal → Outcome
 
-abbrev pub judged : Step → Option Refusal → Outcome
-judged step None = Accepted step
-judged step (Some refusal) = Refused refusal
+abbrev pub judged : Step → List Change → Option Refusal → Outcome
+judged step changes None = Accepted step changes
+judged step changes (Some refusal) = Refused refusal
 
--- what comes of a step where this stands
-abbrev pub step_outcome : Standing → Step → Outcome
-step_outcome now step = judged step (refusal_of now step)
+-- what comes of a step where this stands, and each step has these changes
+abbrev pub step_outcome : Standing → (Step → List Change) → Step → Outcome
+step_outcome now changes step = judged step (changes step) (refusal_of now step)
 
-abbrev pub command_outcome : Standing → Result Command ScriptFault → Outcome
-command_outcome now (Ok commands.Nothing) = Nothing
-command_outcome now (Ok (commands.Plug place bytes)) = step_outcome now (Plug place bytes)
-command_outcome now (Ok (commands.Unplug place)) = step_outcome now (Unplug place)
-command_outcome now (Err fault) = Refused UnknownCommand
+abbrev pub command_outcome : Standing → (Step → List Change) → Result Command ScriptFault → Outcome
+command_outcome now changes (Ok commands.Nothing) = Nothing
+command_outcome now changes (Ok (commands.Plug place bytes)) = step_outcome now changes (Plug place bytes)
+command_outcome now changes (Ok (commands.Unplug place)) = step_outcome now changes (Unplug place)
+command_outcome now changes (Err fault) = Refused UnknownCommand
 
 -- what comes of a configuration that was read of its block
-abbrev pub config_outcome : Standing → Result Config ConfigFault → Outcome
-config_outcome now (Ok config) = step_outcome now (Configure config)
-config_outcome now (Err rule) = Refused (NoConfig rule)
+abbrev pub config_outcome : Standing → (Step → List Change) → Result Config ConfigFault → Outcome
+config_outcome now changes (Ok config) = step_outcome now changes (Configure config)
+config_outcome now changes (Err rule) = Refused (NoConfig rule)
 
-abbrev pub item_outcome : Standing → Item → Outcome
-item_outcome now (Line line) = command_outcome now (command_of line)
-item_outcome now LineTooLong = Refused UnknownCommand
-item_outcome now (Block bytes) = config_outcome now (config_read bytes)
-item_outcome now BlockTooLong = Refused ConfigTooLong
-item_outcome now BlockShort = Refused ConfigShort
+abbrev pub item_outcome : Standing → (Step → List Change) → Item → Outcome
+item_outcome now changes (Line line) = command_outcome now changes (command_of line)
+item_outcome now changes LineTooLong = Refused UnknownCommand
+item_outcome now changes (Block bytes) = config_outcome now changes (config_read bytes)
+item_outcome now changes BlockTooLong = Refused ConfigTooLong
+item_outcome now changes BlockShort = Refused ConfigShort
 
 -- what comes of an item after a history
 abbrev pub outcome : List Step → Item → Outcome
-outcome past item = item_outcome (standing past) item
+outcome past item = item_outcome (standing past) (changes past) item
 
 -- an accepted step joins the history
 abbrev pub joined : List Step → Outcome → List Step
 joined past Nothing = past
-joined past (Accepted step) = step ∷ past
+joined past (Accepted step changes) = step ∷ past
 joined past (Refused refusal) = past
 
 -- what comes of items after a history, one after another
@@ -70,10 +70,10 @@ abbrev pub history : List Step → List Outcome → List Step
 history past [] = past
 history past (outcome ∷ outcomes) = history (joined past outcome) outcomes
 
--- the text of an outcome of the item with this number
+-- the text of an outcome of the item with this number; the changes are at tick 0, since nothing ticks
 abbrev pub outcome_text : ℕ → Outcome → List ℕ
 outcome_text number Nothing = []
-outcome_text number (Accepted step) = []
+outcome_text number (Accepted step changes) = flat_map (change_line 0) changes
 outcome_text number (Refused refusal) = refused_line number refusal
 
 -- the texts of outcomes of items from this number on
@@ -83,16 +83,12 @@ texts number (outcome ∷ outcomes) = outcome_text number outcome ++ texts (numb
 
 abbrev pub is_refused : Outcome → Bool
 is_refused Nothing = false
-is_refused (Accepted step) = false
+is_refused (Accepted step changes) = false
 is_refused (Refused refusal) = true
-
-abbrev pub fields_in : Result (List Field) FruFault → List Field
-fields_in (Ok fields) = fields
-fields_in (Err rule) = []
 
 -- the row of a FRU that is present, read from its bytes
 abbrev pub row_of : Fru → List ℕ
-row_of fru = fru_row fru.place (fields_in (record_of fru.bytes))
+row_of fru = fru_row fru.place (fields_of fru)
 
 -- the final list
 unfoldable pub final_list : List Fru → List ℕ

@@ -2,6 +2,8 @@
 //! what is printed, as definitions and laws without code. The contract of the run cites them.
 #![tactic(auto)]
 
+mod law;
 mod worked;
 
-pub use worked::worked_scripts;
+pub use law::indexes_are_kept;
+pub use worked::{worked_boards, worked_scripts};

@@ -10,15 +10,16 @@ use Rattle.bmc_text.specs.Taking.{ItemFeed, item_next, TakesNextItem, TakesItem,
 use Rattle.bmc_text.specs.declared.items.NextItem.{NextItem}
 use Rattle.bmc_text.specs.declared.items.NextItem.TheVariants.{Line, LineTooLong, Block, BlockTooLong, BlockShort, End}
 use Rattle.bmc_machine.specs.Histories.{Step, Standing, standing}
-use Rattle.bmc_machine.specs.Runs.{outcome, item_outcome, outcome_text, joined, is_refused, out, out_from, refuses, final_list}
+use Rattle.bmc_machine.specs.Runs.{Outcome, outcome, outcome_text, joined, is_refused, out, out_from, refuses, final_list}
 use Rattle.bmc_replay.specs.declared.run.Run.{Run}
 use Rattle.bmc_replay.specs.declared.stop.Stop.{Stop}
 use Rattle.bmc_replay.specs.declared.stop.Stop.TheVariants as stops
-use Rattle.bmc_replay.specs.Steps.{after, IsNew, TakesNext}
+use Rattle.bmc_replay.specs.Steps.{Leaves, IsNew, TakesNext, view_item}
+use Rattle.bmc_replay.specs.Kept.{View}
 use Rattle.bmc_replay.specs.Gathering.{Gathers}
 use Rattle.bmc_replay.specs.Advances.{GetsNothing, StopsAt}
 use Rattle.bmc_replay.specs.Statuses.{Replays, Reaches, Takes, WritesWhole, status_of}
-use Rattle.bmc_replay.proofs.Machine.{SoFar, AllTaken, so_far_none, so_far_more, so_far_last, so_far_end, so_far_whole, stands_after}
+use Rattle.bmc_replay.proofs.Machine.{SoFar, AllTaken, so_far_none, so_far_more, so_far_last, so_far_end, so_far_whole, Stands, stands_none, stands_after, same_outcome}
 
 -- this much text was printed: part of it is written, and the rest is gathered
 pub record Printed (old now : Option (List ℕ)) (text total : List ℕ) : Type 0 where
@@ -34,7 +35,7 @@ pub record Along (left left_now old now : Option (List ℕ)) (lines : ItemFeed) 
   pub consumed : Consumes left left_now taken
   pub read : length taken ≡ lines.read
   pub printed : Printed old now (string_bytes run.text) total
-  pub stands : run.state ≡ standing past
+  pub stands : Stands run.state past
   pub machine : SoFar taken lines.waiting total past run.number run.refused
 
 -- The source was read to its end, and the final list is left to print.
@@ -45,7 +46,7 @@ pub record Ended (left left_now old now : Option (List ℕ)) (lines : ItemFeed) 
   pub consumed : Consumes left left_now taken
   pub read : length taken ≡ lines.read
   pub printed : Printed old now (string_bytes run.text) total
-  pub stands : run.state ≡ standing past
+  pub stands : Stands run.state past
   pub machine : AllTaken taken total past run.refused
 
 pub printed_none : (a : Option (List ℕ)) (text : List ℕ) → text ≡ [] → Printed a a text []
@@ -67,10 +68,6 @@ printed_more a b text kept total more p e = record {
   parts = ap (λ (l : List ℕ). p.written ++ l) e ∙ sym (append_assoc p.written text more) ∙ ap (λ (l : List ℕ). l ++ more) p.parts;
 }
 
-standing_none : record { configs = []; frus = []; plugged = false } ≡ standing []
-unfolding standing
-standing_none = refl
-
 -- it begins
 pub along_none : (left taken : Option (List ℕ)) (lines : ItemFeed) (run : Run) → lines ≡ record { line = []; block = []; waiting = []; read = 0; ended = false } → IsNew run → Along left left taken taken lines run
 along_none left taken lines run e new = record {
@@ -80,7 +77,7 @@ along_none left taken lines run e new = record {
   consumed = Consumes-nil left;
   read = sym (ap (λ (l : ItemFeed). l.read) e);
   printed = printed_none taken (string_bytes run.text) new.text;
-  stands = new.stands ∙ standing_none;
+  stands = subst (λ (view : View). Stands view []) (sym new.stands) stands_none;
   machine = rw (ap (λ (l : ItemFeed). l.waiting) e, new.number, new.refused) so_far_none;
 }
 
@@ -169,10 +166,6 @@ abbrev pub AlongOr : Bool → Option (List ℕ) → Option (List ℕ) → Option
 AlongOr false left left_now old now lines run = Along left left_now old now lines run
 AlongOr true left left_now old now lines run = Ended left left_now old now lines run
 
--- what comes of an item is the same of what stands and of the history
-same_outcome : (past : List Step) (now : Standing) (item : Item) → now ≡ standing past → item_outcome now item ≡ outcome past item
-same_outcome past now item e = ap (λ (now : Standing). item_outcome now item) e
-
 took_length : (taken piece : List ℕ) (read now : ℕ) → length taken ≡ read → now ≡ read + length piece → length (taken ++ piece) ≡ now
 took_length taken piece read now e f = omega (arith, e, f, length-append taken piece)
 
@@ -185,11 +178,12 @@ along_takes None true left left_now left_new old now new lines lines' run moved 
   consumed = Consumes-trans left left_now left_new a.taken piece a.consumed c;
   read = took_length a.taken piece lines.read lines'.read a.read r;
   printed = rw (ap (λ (r : Run). string_bytes r.text) s) (printed_moved old now new (string_bytes run.text) (string_bytes moved.text) a.total a.printed g);
-  stands = ap (λ (r : Run). r.state) s ∙ e1 ∙ a.stands;
+  stands = subst (λ (view : View). Stands view a.past) (sym (ap (λ (r : Run). r.state) s ∙ e1)) a.stands;
   machine = subst (AllTaken (a.taken ++ piece) a.total a.past) (sym (ap (λ (r : Run). r.refused) s ∙ e3)) (so_far_end a.taken lines.waiting piece lines'.waiting a.total a.past run.number run.refused true a.machine t);
 }
 along_takes (Some item) true left left_now left_new old now new lines lines' run moved run' piece a c r t g e1 e2 e3 s =
-    let same : item_outcome moved.state item ≡ outcome a.past item = same_outcome a.past moved.state item (e1 ∙ a.stands) in
+    let stood : Stands moved.state a.past = subst (λ (view : View). Stands view a.past) (sym e1) a.stands in
+    let same : view_item moved.state item ≡ outcome a.past item = same_outcome moved.state a.past item stood in
     record {
       taken = a.taken ++ piece;
       total = a.total ++ outcome_text run.number (outcome a.past item);
@@ -197,11 +191,12 @@ along_takes (Some item) true left left_now left_new old now new lines lines' run
       consumed = Consumes-trans left left_now left_new a.taken piece a.consumed c;
       read = took_length a.taken piece lines.read lines'.read a.read r;
       printed = printed_more old new (string_bytes moved.text) (string_bytes run'.text) a.total _ (printed_moved old now new (string_bytes run.text) (string_bytes moved.text) a.total a.printed g) (s.text ∙ ap (λ o. string_bytes moved.text ++ outcome_text moved.number o) same ∙ ap (λ n. string_bytes moved.text ++ outcome_text n (outcome a.past item)) e2);
-      stands = s.stands ∙ ap (after moved.state) same ∙ ap (λ (now : Standing). after now (outcome a.past item)) (e1 ∙ a.stands) ∙ stands_after a.past (outcome a.past item);
+      stands = stands_after moved.state run'.state a.past (outcome a.past item) stood (subst (λ (o : Outcome). Leaves moved.state o run'.state) same s.stands);
       machine = subst (AllTaken (a.taken ++ piece) (a.total ++ outcome_text run.number (outcome a.past item)) (joined a.past (outcome a.past item))) (sym (s.refused ∙ ap (λ o. moved.refused || is_refused o) same ∙ ap (λ (b : Bool). b || is_refused (outcome a.past item)) e3)) (so_far_last a.taken lines.waiting piece lines'.waiting a.total a.past run.number run.refused item a.machine t);
     }
 along_takes (Some item) false left left_now left_new old now new lines lines' run moved run' piece a c r t g e1 e2 e3 s =
-    let same : item_outcome moved.state item ≡ outcome a.past item = same_outcome a.past moved.state item (e1 ∙ a.stands) in
+    let stood : Stands moved.state a.past = subst (λ (view : View). Stands view a.past) (sym e1) a.stands in
+    let same : view_item moved.state item ≡ outcome a.past item = same_outcome moved.state a.past item stood in
     record {
       taken = a.taken ++ piece;
       total = a.total ++ outcome_text run.number (outcome a.past item);
@@ -209,7 +204,7 @@ along_takes (Some item) false left left_now left_new old now new lines lines' ru
       consumed = Consumes-trans left left_now left_new a.taken piece a.consumed c;
       read = took_length a.taken piece lines.read lines'.read a.read r;
       printed = printed_more old new (string_bytes moved.text) (string_bytes run'.text) a.total _ (printed_moved old now new (string_bytes run.text) (string_bytes moved.text) a.total a.printed g) (s.text ∙ ap (λ o. string_bytes moved.text ++ outcome_text moved.number o) same ∙ ap (λ n. string_bytes moved.text ++ outcome_text n (outcome a.past item)) e2);
-      stands = s.stands ∙ ap (after moved.state) same ∙ ap (λ (now : Standing). after now (outcome a.past item)) (e1 ∙ a.stands) ∙ stands_after a.past (outcome a.past item);
+      stands = stands_after moved.state run'.state a.past (outcome a.past item) stood (subst (λ (o : Outcome). Leaves moved.state o run'.state) same s.stands);
       machine = rw (s.number ∙ ap (λ n. n + 1) e2, s.refused ∙ ap (λ o. moved.refused || is_refused o) same ∙ ap (λ (b : Bool). b || is_refused (outcome a.past item)) e3) (so_far_more a.taken lines.waiting piece lines'.waiting a.total a.past run.number run.refused item a.machine t);
     }
 
@@ -228,7 +223,7 @@ along_moved false left left_now old now new lines run moved a g e1 e2 e3 = recor
   consumed = a.consumed;
   read = a.read;
   printed = printed_moved old now new (string_bytes run.text) (string_bytes moved.text) a.total a.printed g;
-  stands = e1 ∙ a.stands;
+  stands = subst (λ (view : View). Stands view a.past) (sym e1) a.stands;
   machine = rw (e2, e3) a.machine;
 }
 along_moved true left left_now old now new lines run moved a g e1 e2 e3 = record {
@@ -238,7 +233,7 @@ along_moved true left left_now old now new lines run moved a g e1 e2 e3 = record
   consumed = a.consumed;
   read = a.read;
   printed = printed_moved old now new (string_bytes run.text) (string_bytes moved.text) a.total a.printed g;
-  stands = e1 ∙ a.stands;
+  stands = subst (λ (view : View). Stands view a.past) (sym e1) a.stands;
   machine = subst (AllTaken a.taken a.total a.past) (sym e3) a.machine;
 }
 
@@ -263,13 +258,13 @@ along_front left left_now old now new lines run kept a g =
     begins_front left old new kept a.total (along_begins left left_now a.taken lines.waiting a.total a.past run.number run.refused a.consumed a.machine) (printed_moved old now new (string_bytes run.text) kept a.total a.printed g)
 
 -- it stops in the final list
-pub ended_cut : (left left_now old now new : Option (List ℕ)) (lines : ItemFeed) (run : Run) → IsAtEnd left_now → Ended left left_now old now lines run → AppendsFront now new (string_bytes run.text ++ final_list run.state.frus) → IsFront left old new
+pub ended_cut : (left left_now old now new : Option (List ℕ)) (lines : ItemFeed) (run : Run) → IsAtEnd left_now → Ended left left_now old now lines run → AppendsFront now new (string_bytes run.text ++ final_list run.state.now.frus) → IsFront left old new
 ended_cut left left_now old now new lines run e a f =
-    begins_stopped left old now new (string_bytes run.text) (final_list run.state.frus) a.total
-    (subst (λ (now : Standing). Begins left (a.total ++ final_list now.frus)) (sym a.stands) (ended_begins left left_now a.taken a.total a.past run.refused a.consumed e a.machine)) a.printed f
+    begins_stopped left old now new (string_bytes run.text) (final_list run.state.now.frus) a.total
+    (subst (λ (now : Standing). Begins left (a.total ++ final_list now.frus)) (sym a.stands.now) (ended_begins left left_now a.taken a.total a.past run.refused a.consumed e a.machine)) a.printed f
 
 -- all is written
-pub ended_text : (left left_now old now new : Option (List ℕ)) (lines : ItemFeed) (run : Run) → IsAtEnd left_now → Ended left left_now old now lines run → Appends now new (string_bytes run.text ++ final_list run.state.frus) → Replays (status_of (Ok run.refused)) left old new
+pub ended_text : (left left_now old now new : Option (List ℕ)) (lines : ItemFeed) (run : Run) → IsAtEnd left_now → Ended left left_now old now lines run → Appends now new (string_bytes run.text ++ final_list run.state.now.frus) → Replays (status_of (Ok run.refused)) left old new
 ended_text None left_now old now new lines run e a w = tt
 ended_text (Some script) None old now new lines run e a w = absurd a.consumed
 ended_text (Some script) (Some rest) old now new lines run e a w = of run.refused all (ap refuses whole ∙ a.machine.refusal)
@@ -277,10 +272,10 @@ ended_text (Some script) (Some rest) old now new lines run e a w = of run.refuse
     whole : script ≡ a.taken
     whole = a.consumed ∙ ap (λ (l : List ℕ). a.taken ++ l) e ∙ append-nil a.taken
 
-    text : a.printed.written ++ (string_bytes run.text ++ final_list run.state.frus) ≡ out script
+    text : a.printed.written ++ (string_bytes run.text ++ final_list run.state.now.frus) ≡ out script
     text =
-        sym (append_assoc a.printed.written (string_bytes run.text) (final_list run.state.frus)) ∙ ap (λ (l : List ℕ). l ++ final_list run.state.frus) a.printed.parts
-        ∙ ap (λ (now : Standing). a.total ++ final_list now.frus) a.stands ∙ sym a.machine.all ∙ sym (ap out whole)
+        sym (append_assoc a.printed.written (string_bytes run.text) (final_list run.state.now.frus)) ∙ ap (λ (l : List ℕ). l ++ final_list run.state.now.frus) a.printed.parts
+        ∙ ap (λ (now : Standing). a.total ++ final_list now.frus) a.stands.now ∙ sym a.machine.all ∙ sym (ap out whole)
 
     all : Appends old new (out script)
     all = subst (Appends old new) text (Appends-trans old now new a.printed.written _ a.printed.appended w)

@@ -1,11 +1,16 @@
 -- The machine so far.
-use Rattle.std.proofs.Common.{◌≡◌, ℕ, ◌+◌, List, [], ◌∷◌, ◌++◌, Bool, true, false, ◌||◌, refl, ap, sym, ◌∙◌, append_assoc, append-nil}
+use Rattle.std.proofs.Common.{◌≡◌, ℕ, ◌+◌, List, [], ◌∷◌, ◌++◌, Bool, true, false, ◌||◌, refl, ap, sym, subst, ◌∙◌, Option, append_assoc, append-nil}
 use Rattle.bmc_text.specs.Items.{Item, cut_most, cut, items_of, whole_items}
 use Rattle.bmc_text.specs.Reading.{AreNone}
 use Rattle.bmc_text.specs.Taking.{BeginsWith, AreLast}
-use Rattle.bmc_machine.specs.Histories.{Step, standing}
-use Rattle.bmc_machine.specs.Runs.{Outcome, Nothing, Accepted, Refused, outcome, joined, outcomes, outcome_text, texts, is_refused, final_list, out_from, out, whole_out, refuses_from, refuses}
-use Rattle.bmc_replay.specs.Steps.{after}
+use Rattle.bmc_base.specs.Places.{Place}
+use Rattle.bmc_report.specs.declared.change.Change.{Change}
+use Rattle.bmc_machine.specs.Histories.{Step, Standing, after_step, standing}
+use Rattle.bmc_machine.specs.Boards.{boards, has_board, except, kept, changes_between, changes}
+use Rattle.bmc_machine.proofs.Kept.{kept_next}
+use Rattle.bmc_machine.specs.Runs.{Outcome, Nothing, Accepted, Refused, item_outcome, outcome, joined, outcomes, outcome_text, texts, is_refused, final_list, out_from, out, whole_out, refuses_from, refuses}
+use Rattle.bmc_replay.specs.Kept.{View, IsMoved, kept_of, kept_after, view_changes}
+use Rattle.bmc_replay.specs.Steps.{Leaves, none_kept, view_item}
 
 -- Of these bytes of a script the machine has taken all but those that wait; it has printed this much and has come to
 -- this history, and goes on with what waits and whatever follows.
@@ -115,9 +120,43 @@ pub so_far_whole : (taken waiting piece total : List ℕ) (past : List Step) (nu
 so_far_whole taken waiting piece total past number refused s none =
     s.whole piece ∙ ap (λ (items : List Item). total ++ texts number (outcomes past items)) none ∙ ap (λ (text : List ℕ). total ++ text) (texts-nil number past) ∙ append-nil total
 
--- what stands after an outcome
-pub stands_after : (past : List Step) (outcome : Outcome) → after (standing past) outcome ≡ standing (joined past outcome)
+-- what is kept is what stands after a history, and what each configuration ever had in it
+pub record Stands (view : View) (past : List Step) : Type 0 where
+  pub now : view.now ≡ standing past
+  pub kept : (number : ℕ) → kept_of view.kept number ≡ kept past number
+
+stands_step : (view new : View) (past : List Step) (step : Step) → Stands view past → IsMoved view step new → Stands new (step ∷ past)
 unfolding standing
-stands_after past Nothing = refl
-stands_after past (Accepted step) = refl
-stands_after past (Refused refusal) = refl
+stands_step view new past step s m = record {
+  now = m.now ∙ ap (λ (now : Standing). after_step now step) s.now;
+  kept = λ number.
+      m.kept number
+      ∙ ap (λ (now : Standing). kept_after (kept_of view.kept) (after_step now step) number) s.now
+      ∙ ap (λ (l : List (Option Place)). l ++ except (has_board l) (boards (after_step (standing past) step) number)) (s.kept number)
+      ∙ sym (kept_next step past number);
+}
+
+-- and so it is after an outcome
+pub stands_after : (view new : View) (past : List Step) (outcome : Outcome) → Stands view past → Leaves view outcome new → Stands new (joined past outcome)
+stands_after view new past Nothing s l = subst (λ (view : View). Stands view past) (sym l) s
+stands_after view new past (Accepted step changes) s l = stands_step view new past step s l
+stands_after view new past (Refused refusal) s l = subst (λ (view : View). Stands view past) (sym l) s
+
+pub stands_none : Stands none_kept []
+unfolding standing kept
+stands_none = record { now = refl; kept = λ number. refl }
+
+-- the changes of a step are those of the history
+same_changes : (view : View) (past : List Step) → Stands view past → view_changes view ≡ changes past
+unfolding standing
+same_changes view past s =
+    let kept_is : kept_of view.kept ≡ kept past = λ i number. s.kept number i in
+    ap (λ (now : Standing). λ step. changes_between now (kept_of view.kept) (after_step now step) (kept_after (kept_of view.kept) (after_step now step))) s.now
+    ∙ ap (λ (k : ℕ → List (Option Place)). λ step. changes_between (standing past) k (after_step (standing past) step) (kept_after k (after_step (standing past) step))) kept_is
+    ∙ (λ i step. changes_between (standing past) (kept past) (after_step (standing past) step) (λ number. sym (kept_next step past number) i))
+
+-- what comes of an item is the same
+pub same_outcome : (view : View) (past : List Step) (item : Item) → Stands view past → view_item view item ≡ outcome past item
+same_outcome view past item s =
+    ap (λ (now : Standing). item_outcome now (view_changes view) item) s.now
+    ∙ ap (λ (changes : Step → List Change). item_outcome (standing past) changes item) (same_changes view past s)

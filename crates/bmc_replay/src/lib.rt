@@ -2,6 +2,8 @@
 //! that it writes what the machine of `bmc_machine` writes. The program stands on it.
 #![tactic(auto)]
 
+mod boards;
+mod kept;
 mod output;
 mod present;
 mod run;

@@ -7,8 +7,9 @@ ghost use Rattle.bmc_replay.specs.Kept.{frus_of};
 ghost use Rattle.bmc_replay.specs.Statuses.{WriteCause};
 ghost use Rattle.bmc_replay.specs.Gathering.{Gathers};
 
+use crate::present::Entry;
 use crate::stop::Stop;
-use bmc_base::{Bytes, OutOfMemory, Place};
+use bmc_base::{OutOfMemory, Place};
 use bmc_io::{IoFault, Sink, put_all};
 use bmc_report::push_fru_row;
 use fru_area::FruFault;
@@ -58,7 +59,7 @@ fn push_row(alloc: Global, text: &mut String, place: Place, bytes: &[u8]) -> Res
 /// Gathers the row of each FRU, and writes what grows large on the way.
 pub fn push_list<K: Sink>(
     alloc: Global,
-    frus: &BTreeMap<Place, Bytes>,
+    frus: &BTreeMap<Place, Entry>,
     text: &mut String,
     output: &mut K,
 ) -> Result<(), Stop>
@@ -66,8 +67,8 @@ pub fn push_list<K: Sink>(
     ensures front { OnErr result (AppendsFront (K.taken output.old) (K.taken output.new) (string_bytes text.old ++ final_list (frus_of frus.now.entries))) }
     ensures cause { MatchResult result (λ _. K.faults output.new ≡ K.faults output.old) (λ stop. WriteCause stop (K.faults output.old) (K.faults output.new)) }
 {
-    'rows: for (place, bytes) in frus.iter() {
-        push_row(alloc, text, *place, bytes.as_slice())?;
+    'rows: for (place, entry) in frus.iter() {
+        push_row(alloc, text, *place, entry.bytes.as_slice())?;
         relieve(text, output)?;
     }
     Ok(())

@@ -1,8 +1,9 @@
-ghost use Rattle.std.specs.Prelude.{◌≡◌, ◌<◌, ◌^◌, IfOk, OnOk};
+ghost use Rattle.std.specs.Prelude.{◌≡◌, ◌<◌, ◌^◌, IfOk, OnOk, string_bytes};
 ghost use Rattle.bmc_text.specs.Items as items;
 ghost use Rattle.bmc_text.specs.Taking.{item_next};
-ghost use Rattle.bmc_machine.specs.Runs.{command_outcome, item_outcome};
-ghost use Rattle.bmc_replay.specs.Steps.{Comes, CountsItem, IsNew, TakesNext};
+ghost use Rattle.bmc_machine.specs.Runs.{command_outcome};
+ghost use Rattle.bmc_replay.specs.Kept.{view_changes};
+ghost use Rattle.bmc_replay.specs.Steps.{Comes, CountsItem, IsNew, TakesNext, view_item};
 
 use crate::output::GATHERED;
 use crate::state::State;
@@ -26,23 +27,33 @@ pub struct Run {
     pub refused: bool,
 }
 
-// Does what a command asks for, or answers why it is refused.
-fn obey(state: &mut State, command: Command) -> Result<Option<Refusal>, OutOfMemory>
-    ensures { IfOk result (λ refusal. Comes (command_outcome state.old (Ok command)) refusal state.old state.new) }
+// Does what a command asks for and gathers what changes, or answers why it is refused.
+fn obey(
+    alloc: Global,
+    state: &mut State,
+    command: Command,
+    text: &mut String,
+) -> Result<Option<Refusal>, OutOfMemory>
+    ensures { IfOk result (λ refusal. Comes (command_outcome state.old.now (view_changes state.old) (Ok command)) refusal state.old state.new (string_bytes text.old) (string_bytes text.new)) }
 {
     match command {
         Command::Nothing => Ok(None),
-        Command::Plug(place, bytes) => state.plug(place, bytes),
-        Command::Unplug(place) => Ok(state.unplug(place)),
+        Command::Plug(place, bytes) => state.plug(alloc, place, bytes, text),
+        Command::Unplug(place) => state.unplug(place, text),
     }
 }
 
 // Takes a line that asks for no block, and answers why it is refused, if it is.
-fn take_line(alloc: Global, state: &mut State, line: &[u8]) -> Result<Option<Refusal>, OutOfMemory>
-    ensures { IfOk result (λ refusal. Comes (item_outcome state.old (items.Line line.now)) refusal state.old state.new) }
+fn take_line(
+    alloc: Global,
+    state: &mut State,
+    line: &[u8],
+    text: &mut String,
+) -> Result<Option<Refusal>, OutOfMemory>
+    ensures { IfOk result (λ refusal. Comes (view_item state.old (items.Line line.now)) refusal state.old state.new (string_bytes text.old) (string_bytes text.new)) }
 {
     match Command::read(alloc, line) {
-        Ok(command) => obey(state, command),
+        Ok(command) => obey(alloc, state, command, text),
         Err(ScriptFault::UnknownCommand) => Ok(Some(Refusal::UnknownCommand)),
         Err(ScriptFault::OutOfMemory) => Err(OutOfMemory),
     }
@@ -53,11 +64,12 @@ fn take_block(
     alloc: Global,
     state: &mut State,
     block: &[u8],
+    text: &mut String,
 ) -> Result<Option<Refusal>, OutOfMemory>
-    ensures { IfOk result (λ refusal. Comes (item_outcome state.old (items.Block block.now)) refusal state.old state.new) }
+    ensures { IfOk result (λ refusal. Comes (view_item state.old (items.Block block.now)) refusal state.old state.new (string_bytes text.old) (string_bytes text.new)) }
 {
     match Config::read(alloc, block) {
-        Ok(config) => state.configure(config),
+        Ok(config) => state.configure(alloc, config, text),
         Err(ConfigFault::OutOfMemory) => Err(OutOfMemory),
         Err(rule) => Ok(Some(Refusal::Config(rule))),
     }
@@ -96,9 +108,9 @@ impl Run {
         ensures { OnOk result (TakesNext (item_next next items.now) self.old self.new) }
     {
         let refusal = match next {
-            NextItem::Line => take_line(alloc, &mut self.state, items.line())?,
+            NextItem::Line => take_line(alloc, &mut self.state, items.line(), &mut self.text)?,
             NextItem::LineTooLong => Some(Refusal::UnknownCommand),
-            NextItem::Block => take_block(alloc, &mut self.state, items.block())?,
+            NextItem::Block => take_block(alloc, &mut self.state, items.block(), &mut self.text)?,
             NextItem::BlockTooLong => Some(Refusal::ConfigTooLong),
             NextItem::BlockShort => Some(Refusal::ConfigShort),
             NextItem::End => return Ok(()),

@@ -1,12 +1,15 @@
-ghost use Rattle.std.specs.Prelude.{◌≡◌, ◌++◌, [], None, false, is_some, IfOk, OnOk, OnErr, MatchResult, string_bytes};
+ghost use Rattle.std.specs.Prelude.{◌≡◌, ◌++◌, false, IfOk, OnOk, OnErr, MatchResult, string_bytes};
 ghost use Rattle.bmc_io.specs.Sinks.{AppendsFront};
 ghost use Rattle.bmc_machine.specs.Histories as histories;
-ghost use Rattle.bmc_machine.specs.Runs.{final_list, step_outcome};
+ghost use Rattle.bmc_machine.specs.Runs.{final_list};
 ghost use Rattle.bmc_replay.specs.Gathering.{Gathers};
 ghost use Rattle.bmc_replay.specs.Statuses.{WriteCause};
-ghost use Rattle.bmc_replay.specs.Steps.{Comes};
+ghost use Rattle.bmc_replay.specs.Steps.{Comes, view_step, none_kept};
 
-use crate::present::Present;
+use crate::boards::{accept, find_hits, keep_boards, push_boards};
+use crate::kept::Kept;
+use crate::output::push_list;
+use crate::present::{Entry, has, put_in, take_out};
 use crate::stop::Stop;
 use bmc_base::{Bytes, OutOfMemory, Place};
 use bmc_io::Sink;
@@ -14,43 +17,54 @@ use bmc_report::Refusal;
 use cfg_json::{Config, Shelf};
 use fru_record::check_record;
 use std::alloc::Global;
+use std::collections::BTreeMap;
 use std::marker::Model;
 
 /// How many configurations there are at the most.
 const MOST_CONFIGS: usize = 256;
 
-/// What stands: the configurations, the FRUs that are present, and whether any FRU was ever plugged.
+/// What stands: the configurations, the boards that each of them ever had, the FRUs that are present by
+/// place, and whether any FRU was ever plugged.
 #[derive(Drop)]
 pub struct State {
     configs: Shelf,
-    frus: Present,
+    kept: Kept,
+    frus: BTreeMap<Place, Entry>,
     plugged: bool,
 }
 
 impl Model for State {
-    ghost use Rattle.bmc_machine.specs.Histories.{Standing};
+    ghost use Rattle.bmc_replay.specs.Kept.{View, frus_of, AreKept};
 
-    ghost Value = { Standing };
+    ghost Value = { View };
 
-    ghost view = { λ s. record { configs = s.configs; frus = s.frus; plugged = s.plugged } };
+    ghost view = { λ s. record { now = record { configs = s.configs; frus = frus_of s.frus.entries; plugged = s.plugged }; kept = s.kept } };
+
+    ghost invariant = { λ s. AreKept s.configs s.frus.entries s.plugged s.kept };
 }
 
 impl State {
     /// Nothing has happened.
     pub fn new(alloc: Global) -> Result<State, OutOfMemory>
-        ensures { IfOk result (λ state. state ≡ record { configs = []; frus = []; plugged = false }) }
+        ensures { IfOk result (λ state. state ≡ none_kept) }
     {
         let configs = Shelf::new(alloc)?;
         Ok(State {
             configs,
-            frus: Present::new(alloc),
+            kept: Kept::new(alloc),
+            frus: BTreeMap::new(alloc),
             plugged: false,
         })
     }
 
-    /// Takes a configuration, or answers why it is refused.
-    pub fn configure(&mut self, config: Config) -> Result<Option<Refusal>, OutOfMemory>
-        ensures { IfOk result (λ refusal. Comes (step_outcome self.old (histories.Configure config)) refusal self.old self.new) }
+    /// Takes a configuration and gathers what changes, or answers why it is refused.
+    pub fn configure(
+        &mut self,
+        alloc: Global,
+        config: Config,
+        text: &mut String,
+    ) -> Result<Option<Refusal>, OutOfMemory>
+        ensures { IfOk result (λ refusal. Comes (view_step self.old (histories.Configure config)) refusal self.old self.new (string_bytes text.old) (string_bytes text.new)) }
     {
         if self.plugged {
             return Ok(Some(Refusal::ConfigAfterPlug));
@@ -61,33 +75,47 @@ impl State {
         if self.configs.len() >= MOST_CONFIGS {
             return Ok(Some(Refusal::ConfigLimit));
         }
-        self.configs.add(config)?;
+        accept(alloc, &mut self.configs, &mut self.kept, config, text)?;
         Ok(None)
     }
 
-    /// Takes a FRU that appeared, or answers why it is refused.
-    pub fn plug(&mut self, place: Place, bytes: Bytes) -> Result<Option<Refusal>, OutOfMemory>
-        ensures { IfOk result (λ refusal. Comes (step_outcome self.old (histories.Plug place bytes)) refusal self.old self.new) }
+    /// Takes a FRU that appeared and gathers what changes, or answers why it is refused.
+    pub fn plug(
+        &mut self,
+        alloc: Global,
+        place: Place,
+        bytes: Bytes,
+        text: &mut String,
+    ) -> Result<Option<Refusal>, OutOfMemory>
+        ensures { IfOk result (λ refusal. Comes (view_step self.old (histories.Plug place bytes)) refusal self.old self.new (string_bytes text.old) (string_bytes text.new)) }
     {
-        if self.frus.has(place) {
+        if has(&self.frus, place) {
             return Ok(Some(Refusal::Occupied));
         }
         if let Err(rule) = check_record(bytes.as_slice()) {
             return Ok(Some(Refusal::Fru(rule)));
         }
-        self.frus.plug(place, bytes)?;
+        let hits = find_hits(alloc, &self.configs, place, bytes.as_slice())?;
+        push_boards(&self.configs, &self.kept, &hits, place, false, text)?;
+        keep_boards(&mut self.kept, &hits, place)?;
+        put_in(&mut self.frus, place, Entry { bytes, hits })?;
         self.plugged = true;
         Ok(None)
     }
 
-    /// Takes away the FRU at a place, or answers why that is refused.
-    pub fn unplug(&mut self, place: Place) -> Option<Refusal>
-        ensures { Comes (step_outcome self.old (histories.Unplug place)) result self.old self.new }
+    /// Takes away the FRU at a place and gathers what changes, or answers why that is refused.
+    pub fn unplug(
+        &mut self,
+        place: Place,
+        text: &mut String,
+    ) -> Result<Option<Refusal>, OutOfMemory>
+        ensures { IfOk result (λ refusal. Comes (view_step self.old (histories.Unplug place)) refusal self.old self.new (string_bytes text.old) (string_bytes text.new)) }
     {
-        if !self.frus.unplug(place) {
-            return Some(Refusal::NotPresent);
-        }
-        None
+        let Some(entry) = take_out(&mut self.frus, place) else {
+            return Ok(Some(Refusal::NotPresent));
+        };
+        push_boards(&self.configs, &self.kept, &entry.hits, place, true, text)?;
+        Ok(None)
     }
 
     /// Gathers the row of each FRU, by place, and writes what grows large on the way.
@@ -97,10 +125,10 @@ impl State {
         text: &mut String,
         output: &mut K,
     ) -> Result<(), Stop>
-        ensures all { OnOk result (Gathers (K.taken output.old) (K.taken output.new) (string_bytes text.old) (string_bytes text.new) (final_list self.now.frus)) }
-        ensures front { OnErr result (AppendsFront (K.taken output.old) (K.taken output.new) (string_bytes text.old ++ final_list self.now.frus)) }
+        ensures all { OnOk result (Gathers (K.taken output.old) (K.taken output.new) (string_bytes text.old) (string_bytes text.new) (final_list self.now.now.frus)) }
+        ensures front { OnErr result (AppendsFront (K.taken output.old) (K.taken output.new) (string_bytes text.old ++ final_list self.now.now.frus)) }
         ensures cause { MatchResult result (λ _. K.faults output.new ≡ K.faults output.old) (λ stop. WriteCause stop (K.faults output.old) (K.faults output.new)) }
     {
-        self.frus.push_list(alloc, text, output)
+        push_list(alloc, &self.frus, text, output)
     }
 }

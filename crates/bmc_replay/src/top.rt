@@ -42,8 +42,8 @@ fn advance<S: Source, K: Sink>(
 
 // Writes what is gathered, and then the final list.
 fn finish<K: Sink>(alloc: Global, run: &mut Run, output: &mut K) -> Result<(), Stop>
-    ensures all { OnOk result (Appends (K.taken output.old) (K.taken output.new) (string_bytes run.old.text ++ final_list run.old.state.frus)) }
-    ensures front { OnErr result (AppendsFront (K.taken output.old) (K.taken output.new) (string_bytes run.old.text ++ final_list run.old.state.frus)) }
+    ensures all { OnOk result (Appends (K.taken output.old) (K.taken output.new) (string_bytes run.old.text ++ final_list run.old.state.now.frus)) }
+    ensures front { OnErr result (AppendsFront (K.taken output.old) (K.taken output.new) (string_bytes run.old.text ++ final_list run.old.state.now.frus)) }
     ensures cause { MatchResult result (λ _. K.faults output.new ≡ K.faults output.old) (λ stop. WriteCause stop (K.faults output.old) (K.faults output.new)) }
 {
     run.state.push_list(alloc, &mut run.text, output)?;

@@ -19,7 +19,7 @@ pub rows-preserved : goal.rows-preserved
 rows-preserved g c =
     let row = c.in_ok-push_row.ensures ∙ ap (λ (bytes : List ℕ). string_bytes c.rows.text ++ row_of (record { place = c.in-Some.place.now; bytes = bytes })) c.as_slice.ensures in
     record {
-      rows = rows_more _ _ _ (c.in-Some.place.now, c.in-Some.bytes.now) _ _ _ _ _ _ _ c.rows.invariant.rows c.in-Some.ensures.steps row c.in_ok-relieve.ensures.all;
+      rows = rows_more _ _ _ (c.in-Some.place.now, c.in-Some.entry.now) _ _ _ _ _ _ _ c.rows.invariant.rows c.in-Some.ensures.steps row c.in_ok-relieve.ensures.all;
       sink = c.in_ok-relieve.ensures.cause.kept ∙ c.rows.invariant.sink;
     }
 
@@ -27,4 +27,4 @@ pub returns-in_err-relieve-clause-front : goal.returns-in_err-relieve-clause-fro
 returns-in_err-relieve-clause-front g c =
     let row = c.in_ok-push_row.ensures ∙ ap (λ (bytes : List ℕ). string_bytes c.rows.text ++ row_of (record { place = c.in-Some.place.now; bytes = bytes })) c.as_slice.ensures in
     let p = err_from_is_err_and c.from_residual-in_err-relieve.result c.from_residual-in_err-relieve.ensures.1 in
-    rw p.1 (rows_stopped _ _ _ (c.in-Some.place.now, c.in-Some.bytes.now) _ _ _ _ _ _ c.rows.invariant.rows c.in-Some.ensures.steps row c.in_err-relieve.ensures.front)
+    rw p.1 (rows_stopped _ _ _ (c.in-Some.place.now, c.in-Some.entry.now) _ _ _ _ _ _ c.rows.invariant.rows c.in-Some.ensures.steps row c.in_err-relieve.ensures.front)

@@ -1,23 +1,47 @@
-use Rattle.std.proofs.Common.{◌≡◌, ◌∙◌, List, Bool, false, cond, Some, None, sym, ap}
-use Rattle.bmc_base.specs.Places.{Place}
-use Rattle.bmc_machine.specs.Histories.{Unplug, Fru, Standing, is_present, without}
-use Rattle.bmc_machine.specs.Runs.{judged, step_outcome}
+use Rattle.std.proofs.Common.{◌≡◌, ◌++◌, ◌∙◌, ℕ, List, Option, None, Some, true, false, sym, ap, subst, string_bytes}
+use Rattle.std.specs.List.{flat_map}
+use Rattle.std.specs.Map.{lookup, remove_entry}
+use Rattle.std.specs.BTreeMap.{is_at as is_key}
+use Rattle.bmc_base.specs.Places.{Place, place_cmp}
+use Rattle.bmc_report.specs.Changes.{change_line}
 use Rattle.bmc_report.specs.declared.refusal.Refusal.TheVariants.{NotPresent}
-use Rattle.bmc_replay.specs.Steps.{Comes, refusal_in, after}
-use Rattle.bmc_replay.proofs.KeptFrus.{without_absent}
+use Rattle.bmc_machine.specs.Histories.{Unplug, is_present}
+use Rattle.bmc_replay.specs.declared.present.Entry.{Entry}
+use Rattle.bmc_replay.specs.Kept.{View, AreKept, frus_of, kept_of, board_at}
+use Rattle.bmc_replay.specs.Steps.{Comes, view_step}
+use Rattle.bmc_replay.proofs.KeptFrus.{remove_none}
+use Rattle.bmc_replay.proofs.States.{view_of, hits_within, own_hits, unplugged_comes, unplugged_kept, not_present}
 use Rattle.bmc_replay.proofs.state.State.unplug.Goals as goal
 
--- nothing is taken out where no FRU is
-not_present : (now new : Standing) (place : Place) → is_present now.frus place ≡ false → new ≡ record now { frus = without place now.frus } → Comes (step_outcome now (Unplug place)) (Some NotPresent) now new
-not_present now new place absent left =
-    let outcome = ap (λ (b : Bool). judged (Unplug place) (cond b None (Some NotPresent))) absent in
-    record {
-      answer = sym (ap refusal_in outcome);
-      stands = left ∙ ap (λ (frus : List Fru). record now { frus = frus }) (without_absent place now.frus absent) ∙ sym (ap (after now) outcome);
-    }
+pub invariant_of-self : goal.invariant_of-self
+invariant_of-self c = rw (c.in_default.ensures.left, remove_none c.args.place c.self.inside.frus.entries (sym c.in_default.ensures.found)) c.self.invariant
 
-pub returns-then-not-unplug : goal.returns-then-not-unplug
-returns-then-not-unplug c =
-    not_present c.args.self.now _ c.args.place
-    (ap (λ (now : Standing). is_present now.frus c.args.place) (sym c.self.view_is) ∙ sym c.if-not-unplug.ensures.found)
-    (ap (λ (frus : List Fru). record { configs = c.self.inside.configs; frus = frus; plugged = c.self.inside.plugged }) c.unplug.ensures.left ∙ ap (λ (now : Standing). record now { frus = without c.args.place now.frus }) c.self.view_is)
+pub returns-in_default : goal.returns-in_default
+returns-in_default c =
+    let comes = not_present c.self.inside.configs c.self.inside.frus.entries c.self.inside.plugged c.self.inside.kept c.args.place (string_bytes c.args.text.now) (sym c.in_default.ensures.found) in
+    subst (λ (view : View). Comes (view_step view (Unplug c.args.place)) (Some NotPresent) view (view_of c.self.inside.configs c.take_out.new.frus.entries c.self.inside.plugged c.self.inside.kept) (string_bytes c.args.text.now) (string_bytes c.args.text.now)) c.self.view_is
+    (rw (c.in_default.ensures.left, remove_none c.args.place c.self.inside.frus.entries (sym c.in_default.ensures.found)) comes)
+
+pub push_boards-requires-clause-within : goal.push_boards-requires-clause-within
+push_boards-requires-clause-within c =
+    let gone = sym (ap (λ (entries : List (Place × Entry)). is_present (frus_of entries) c.args.place) c.in-Some.ensures.left) ∙ c.in-Some.ensures.gone in
+    hits_within c.self.inside.configs (record { place = c.args.place; bytes = c.in-Some.entry.bytes }) c.deref.result.now
+    (c.deref.ensures.value ∙ own_hits c.self.inside.configs c.self.inside.frus.entries c.self.inside.plugged c.self.inside.kept c.args.place c.in-Some.entry c.self.invariant (sym c.in-Some.ensures.found) gone)
+
+pub invariant_of-self-in_err-push_boards : goal.invariant_of-self-in_err-push_boards
+invariant_of-self-in_err-push_boards c =
+    let gone = sym (ap (λ (entries : List (Place × Entry)). is_present (frus_of entries) c.args.place) c.in-Some.ensures.left) ∙ c.in-Some.ensures.gone in
+    rw c.in-Some.ensures.left (unplugged_kept c.self.inside.configs c.self.inside.frus.entries c.self.inside.plugged c.self.inside.kept c.args.place c.in-Some.entry c.self.invariant (sym c.in-Some.ensures.found) gone)
+
+pub invariant_of-self-2 : goal.invariant_of-self-2
+invariant_of-self-2 c =
+    let gone = sym (ap (λ (entries : List (Place × Entry)). is_present (frus_of entries) c.args.place) c.in-Some.ensures.left) ∙ c.in-Some.ensures.gone in
+    rw c.in-Some.ensures.left (unplugged_kept c.self.inside.configs c.self.inside.frus.entries c.self.inside.plugged c.self.inside.kept c.args.place c.in-Some.entry c.self.invariant (sym c.in-Some.ensures.found) gone)
+
+pub returns : goal.returns
+returns c =
+    let gone = sym (ap (λ (entries : List (Place × Entry)). is_present (frus_of entries) c.args.place) c.in-Some.ensures.left) ∙ c.in-Some.ensures.gone in
+    let comes = unplugged_comes c.self.inside.configs c.self.inside.frus.entries c.self.inside.plugged c.self.inside.kept c.args.place c.in-Some.entry c.self.invariant (sym c.in-Some.ensures.found) gone (string_bytes c.args.text.now) (string_bytes c.push_boards.new.text)
+        (c.in_ok-push_boards.ensures ∙ ap (λ (hits : List ℕ). string_bytes c.args.text.now ++ flat_map (λ hit. change_line 0 (board_at true c.self.inside.configs (kept_of c.self.inside.kept) c.args.place hit)) hits) c.deref.ensures.value) in
+    subst (λ (view : View). Comes (view_step view (Unplug c.args.place)) None view (view_of c.self.inside.configs c.take_out.new.frus.entries c.self.inside.plugged c.self.inside.kept) (string_bytes c.args.text.now) (string_bytes c.push_boards.new.text)) c.self.view_is
+    (rw c.in-Some.ensures.left comes)

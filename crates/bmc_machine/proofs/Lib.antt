@@ -1,0 +1,4 @@
+pub mod SameBoards
+pub mod Found
+pub mod Changed
+pub mod Kept
