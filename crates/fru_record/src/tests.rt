@@ -45,87 +45,154 @@ fn assert_record(
     Ok(())
 }
 
-const BOARD_FIELDS: [(&str, &str); 5] = [
-    ("BOARD_MANUFACTURER", "ACM"),
-    ("BOARD_PRODUCT_NAME", "RSR1"),
-    ("BOARD_SERIAL_NUMBER", "S1"),
-    ("BOARD_PART_NUMBER", ""),
-    ("BOARD_FRU_VERSION_ID", ""),
+macro_rules! fields {
+    ($($name:ident = $text:literal),* $(,)?) => {
+        &[$((stringify!($name), $text)),*]
+    };
+}
+
+const BOARD_FIELDS: &[(&str, &str)] = fields![
+    BOARD_MANUFACTURER = "ACM",
+    BOARD_PRODUCT_NAME = "RSR1",
+    BOARD_SERIAL_NUMBER = "S1",
+    BOARD_PART_NUMBER = "",
+    BOARD_FRU_VERSION_ID = "",
 ];
 
+macro_rules! records {
+    ($($bytes:expr => $fields:expr;)*) => {
+        [$(($bytes, $fields)),*]
+    };
+}
+
 // Bytes, and their fields.
-const RECORDS: [(&[u8], &[(&str, &str)]); 9] = [
-    (BOARD, &BOARD_FIELDS),
+const RECORDS: [(&[u8], &[(&str, &str)]); 28] = records! {
+    BOARD => BOARD_FIELDS;
     // no area
-    (b"\x01\x00\x00\x00\x00\x00\x00\xFF", &[]),
+    b"\x01\x00\x00\x00\x00\x00\x00\xFF" => fields![];
+    // a product area without fields behind a board area
+    b"\x01\x00\x00\x01\x04\x00\x00\xFA\x01\x03\x00\x00\x00\x00\xC3ACM\xC4RSR1\xC2S1\xC0\xC0\xC1\x00\x00\xF5\x01\x01\x00\xC1\x00\x00\x00\x3D" =>
+        BOARD_FIELDS;
     // binary, BCD plus and 6-bit ASCII, and a date
-    (
-        b"\x01\x00\x00\x01\x00\x00\x00\xFE\x01\x03\x00\x20\x05\x08\x83)\xDC\xA6C\xAB\xCD\xEF\xC0\xC0\xC0\xC1\x00\x00\x00\x00\x00\xF6",
-        &[
-            ("BOARD_MANUFACTURE_DATE", "1996-12-31 00:00"),
-            ("BOARD_MANUFACTURER", "IPMI"),
-            ("BOARD_PRODUCT_NAME", " -.:,_"),
-            ("BOARD_SERIAL_NUMBER", ""),
-            ("BOARD_PART_NUMBER", ""),
-            ("BOARD_FRU_VERSION_ID", ""),
-        ],
-    ),
-    (
-        WHOLE,
-        &[
-            ("CHASSIS_TYPE", "23"),
-            ("CHASSIS_PART_NUMBER", "P1"),
-            ("CHASSIS_SERIAL_NUMBER", "S2"),
-            ("CHASSIS_INFO_AM1", "X1"),
-            ("BOARD_MANUFACTURE_DATE", "1996-02-15 12:17"),
-            ("BOARD_MANUFACTURER", "ACM"),
-            ("BOARD_PRODUCT_NAME", "RSR1"),
-            ("BOARD_SERIAL_NUMBER", "S1"),
-            ("BOARD_PART_NUMBER", ""),
-            ("BOARD_FRU_VERSION_ID", ""),
-            ("BOARD_INFO_AM1", "Z"),
-            ("PRODUCT_MANUFACTURER", "n\u{E9}"),
-            ("PRODUCT_PRODUCT_NAME", ""),
-            ("PRODUCT_PART_NUMBER", ""),
-            ("PRODUCT_VERSION", ""),
-            ("PRODUCT_SERIAL_NUMBER", ""),
-            ("PRODUCT_ASSET_TAG", "A"),
-            ("PRODUCT_FRU_VERSION_ID", " "),
-        ],
-    ),
+    b"\x01\x00\x00\x01\x00\x00\x00\xFE\x01\x03\x00\x20\x05\x08\x83)\xDC\xA6C\xAB\xCD\xEF\xC0\xC0\xC0\xC1\x00\x00\x00\x00\x00\xF6" => fields![
+        BOARD_MANUFACTURE_DATE = "1996-12-31 00:00",
+        BOARD_MANUFACTURER = "IPMI",
+        BOARD_PRODUCT_NAME = " -.:,_",
+        BOARD_SERIAL_NUMBER = "",
+        BOARD_PART_NUMBER = "",
+        BOARD_FRU_VERSION_ID = "",
+    ];
+    WHOLE => fields![
+        CHASSIS_TYPE = "23",
+        CHASSIS_PART_NUMBER = "P1",
+        CHASSIS_SERIAL_NUMBER = "S2",
+        CHASSIS_INFO_AM1 = "X1",
+        BOARD_MANUFACTURE_DATE = "1996-02-15 12:17",
+        BOARD_MANUFACTURER = "ACM",
+        BOARD_PRODUCT_NAME = "RSR1",
+        BOARD_SERIAL_NUMBER = "S1",
+        BOARD_PART_NUMBER = "",
+        BOARD_FRU_VERSION_ID = "",
+        BOARD_INFO_AM1 = "Z",
+        PRODUCT_MANUFACTURER = "né",
+        PRODUCT_PRODUCT_NAME = "",
+        PRODUCT_PART_NUMBER = "",
+        PRODUCT_VERSION = "",
+        PRODUCT_SERIAL_NUMBER = "",
+        PRODUCT_ASSET_TAG = "A",
+        PRODUCT_FRU_VERSION_ID = " ",
+    ];
+    // each type at the lengths 0, 1 and 2; a text by language of length 1 would be the end mark
+    b"\x01\x00\x00\x01\x00\x00\x00\xFE\x01\x04\x00\x00\x00\x00\x00\x40\x80\xC0\x01A\x41A\x81A\x02AB\x42AB\x82AB\xC2AB\xC1\x00\x00\xA0" => fields![
+        BOARD_MANUFACTURER = "",
+        BOARD_PRODUCT_NAME = "",
+        BOARD_SERIAL_NUMBER = "",
+        BOARD_PART_NUMBER = "",
+        BOARD_FRU_VERSION_ID = "41",
+        BOARD_INFO_AM1 = "41",
+        BOARD_INFO_AM2 = "!",
+        BOARD_INFO_AM3 = "4142",
+        BOARD_INFO_AM4 = "4142",
+        BOARD_INFO_AM5 = "!)",
+        BOARD_INFO_AM6 = "AB",
+    ];
+    // each type at the lengths 62 and 63
+    b"\x01\x00\x00\x01\x00\x00\x00\xFE\x01\x41\x00\x00\x00\x00\
+        \x3EABCDEFGHIJKLMNOPQRSTUVWXYZabcdefghijklmnopqrstuvwxyz0123456789\
+        \x7EABCDEFGHIJKLMNOPQRSTUVWXYZabcdefghijklmnopqrstuvwxyz0123456789\
+        \xBEABCDEFGHIJKLMNOPQRSTUVWXYZabcdefghijklmnopqrstuvwxyz0123456789\
+        \xFEABCDEFGHIJKLMNOPQRSTUVWXYZabcdefghijklmnopqrstuvwxyz0123456789\
+        \x3FABCDEFGHIJKLMNOPQRSTUVWXYZabcdefghijklmnopqrstuvwxyz0123456789-\
+        \x7FABCDEFGHIJKLMNOPQRSTUVWXYZabcdefghijklmnopqrstuvwxyz0123456789-\
+        \xBFABCDEFGHIJKLMNOPQRSTUVWXYZabcdefghijklmnopqrstuvwxyz0123456789-\
+        \xFFABCDEFGHIJKLMNOPQRSTUVWXYZabcdefghijklmnopqrstuvwxyz0123456789-\
+        \xC1\x00\x00\x00\x00\xFD" => fields![
+        BOARD_MANUFACTURER = "4142434445464748494a4b4c4d4e4f505152535455565758595a6162636465666768696a6b6c6d6e6f707172737475767778797a30313233343536373839",
+        BOARD_PRODUCT_NAME = "4142434445464748494 4-4.4:4,4_505152535455565758595 6162636465666768696 6-6.6:6,6_707172737475767778797 30313233343536373839",
+        BOARD_SERIAL_NUMBER = "!)T0$5D1'A42*M$3-YT30%E431556=%69I58B-&9E9V9HEF:KQ6;N]&<Q)W<T5G=WA7>Z!3,R,#-U8S-XD",
+        BOARD_PART_NUMBER = "ABCDEFGHIJKLMNOPQRSTUVWXYZabcdefghijklmnopqrstuvwxyz0123456789",
+        BOARD_FRU_VERSION_ID = "4142434445464748494a4b4c4d4e4f505152535455565758595a6162636465666768696a6b6c6d6e6f707172737475767778797a303132333435363738392d",
+        BOARD_INFO_AM1 = "4142434445464748494 4-4.4:4,4_505152535455565758595 6162636465666768696 6-6.6:6,6_707172737475767778797 303132333435363738392:",
+        BOARD_INFO_AM2 = "!)T0$5D1'A42*M$3-YT30%E431556=%69I58B-&9E9V9HEF:KQ6;N]&<Q)W<T5G=WA7>Z!3,R,#-U8S-XD3+",
+        BOARD_INFO_AM3 = "ABCDEFGHIJKLMNOPQRSTUVWXYZabcdefghijklmnopqrstuvwxyz0123456789-",
+    ];
     // 2-byte Unicode, beside 6-bit ASCII
-    (
-        b"\x01\x00\x00\x01\x00\x00\x00\xFE\x01\x03\x01\x00\x00\x00\xC4A\x00\xAC \xC2BC\x82)\xDC\xC1\x00\x00\x00\x00\x00\x9B",
-        &[
-            ("BOARD_MANUFACTURER", "A\u{20AC}"),
-            ("BOARD_PRODUCT_NAME", "\u{4342}"),
-            ("BOARD_SERIAL_NUMBER", "IP"),
-        ],
-    ),
+    b"\x01\x00\x00\x01\x00\x00\x00\xFE\x01\x03\x01\x00\x00\x00\xC4A\x00\xAC \xC2BC\x82)\xDC\xC1\x00\x00\x00\x00\x00\x9B" =>
+        fields![BOARD_MANUFACTURER = "A€", BOARD_PRODUCT_NAME = "䍂", BOARD_SERIAL_NUMBER = "IP"];
+    // surrogates: a pair, a lone high one, a lone low one, one before a pair; an odd byte
+    b"\x01\x00\x00\x01\x00\x00\x00\xFE\x01\x05\x01\x00\x00\x00\xC4\x3D\xD8\x00\xDE\xC4\x3D\xD8\x41\x00\xC4\x00\xDE\x41\x00\xC6\x3D\xD8\x3D\xD8\x00\xDE\xC3\x41\x00\x3D\xC1\x00\x00\x00\x00\x00\x00\x75" => fields![
+        BOARD_MANUFACTURER = "\u{1F600}",
+        BOARD_PRODUCT_NAME = "\u{FFFD}A",
+        BOARD_SERIAL_NUMBER = "\u{FFFD}A",
+        BOARD_PART_NUMBER = "\u{FFFD}\u{1F600}",
+        BOARD_FRU_VERSION_ID = "A\u{FFFD}",
+    ];
     // English by number 25
-    (
-        b"\x01\x00\x00\x01\x00\x00\x00\xFE\x01\x02\x19\x00\x00\x00\xC4A\xE9\xACB\xC1\x00\x00\x00G",
-        &[("BOARD_MANUFACTURER", "A\u{E9}\u{AC}B")],
-    ),
+    b"\x01\x00\x00\x01\x00\x00\x00\xFE\x01\x02\x19\x00\x00\x00\xC4A\xE9\xACB\xC1\x00\x00\x00G" =>
+        fields![BOARD_MANUFACTURER = "Aé¬B"];
     // each area has its own language
-    (
-        b"\x01\x00\x00\x01\x03\x00\x00\xFB\x01\x02\x00\x00\x00\x00\xC2AB\xC1\x00\x00\x00\x00\x00\xF7\x01\x01\x01\xC2AB\xC1\xF7",
-        &[
-            ("BOARD_MANUFACTURER", "AB"),
-            ("PRODUCT_MANUFACTURER", "\u{4241}"),
-        ],
-    ),
+    b"\x01\x00\x00\x01\x03\x00\x00\xFB\x01\x02\x00\x00\x00\x00\xC2AB\xC1\x00\x00\x00\x00\x00\xF7\x01\x01\x01\xC2AB\xC1\xF7" =>
+        fields![BOARD_MANUFACTURER = "AB", PRODUCT_MANUFACTURER = "䉁"];
+    b"\x01\x00\x00\x01\x03\x00\x00\xFB\x01\x02\x01\x00\x00\x00\xC2AB\xC1\x00\x00\x00\x00\x00\xF6\x01\x01\x19\xC2AB\xC1\xDF" =>
+        fields![BOARD_MANUFACTURER = "䉁", PRODUCT_MANUFACTURER = "AB"];
+    // the chassis area has no language
+    b"\x01\x00\x01\x00\x02\x00\x00\xFC\x01\x01\x01\xC2A\xE9\xC1\x50\x01\x01\xFF\xC2AB\xC1\xF9" =>
+        fields![CHASSIS_TYPE = "1", CHASSIS_PART_NUMBER = "Aé", PRODUCT_MANUFACTURER = "䉁"];
     // an early end mark
-    (
-        b"\x01\x00\x00\x01\x00\x00\x00\xFE\x01\x03\x00\x00\x00\x00\xC3ACM\xC1\xC2S1\xFF\xFF\x00\x00\x00\x00\x00\x00\x00c",
-        &[("BOARD_MANUFACTURER", "ACM")],
-    ),
+    b"\x01\x00\x00\x01\x00\x00\x00\xFE\x01\x03\x00\x00\x00\x00\xC3ACM\xC1\xC2S1\xFF\xFF\x00\x00\x00\x00\x00\x00\x00c" =>
+        fields![BOARD_MANUFACTURER = "ACM"];
+    // end marks before the first field
+    b"\x01\x00\x01\x02\x03\x00\x00\xF9\x01\x01\x03\xC1\x00\x00\x00\x3A\x01\x01\x00\x00\x00\x00\xC1\x3D\x01\x01\x00\xC1\x00\x00\x00\x3D" =>
+        fields![CHASSIS_TYPE = "3"];
     // areas that overlap
-    (
-        b"\x01\x00\x01\x00\x01\x00\x00\xFD\x01\x01\x00\xC1\x00\x00\x00=",
-        &[("CHASSIS_TYPE", "0")],
-    ),
-];
+    b"\x01\x00\x01\x00\x01\x00\x00\xFD\x01\x01\x00\xC1\x00\x00\x00=" => fields![CHASSIS_TYPE = "0"];
+    // one area as board and product
+    b"\x01\x00\x00\x01\x01\x00\x00\xFD\x01\x01\x00\xC2AB\xC1\xF8" =>
+        fields![BOARD_MANUFACTURE_DATE = "2004-04-03 10:10", PRODUCT_MANUFACTURER = "AB"];
+    // a product area inside a field of the board area
+    b"\x01\x00\x00\x01\x02\x00\x00\xFC\x01\x03\x00\x00\x00\x00\x09\x00\x01\x01\x00\xC2AB\xC1\xF8\xC1\x00\x00\x00\x00\x00\x00\x32" =>
+        fields![BOARD_MANUFACTURER = "00010100c24142c1f8", PRODUCT_MANUFACTURER = "AB"];
+    // dates, from none to the last
+    b"\x01\x00\x00\x01\x00\x00\x00\xFE\x01\x01\x00\x00\x00\x00\xC1\x3D" => fields![];
+    b"\x01\x00\x00\x01\x00\x00\x00\xFE\x01\x01\x00\x01\x00\x00\xC1\x3C" =>
+        fields![BOARD_MANUFACTURE_DATE = "1996-01-01 00:01"];
+    b"\x01\x00\x00\x01\x00\x00\x00\xFE\x01\x01\x00\xC0\xA8\x00\xC1\xD5" =>
+        fields![BOARD_MANUFACTURE_DATE = "1996-01-31 00:00"];
+    b"\x01\x00\x00\x01\x00\x00\x00\xFE\x01\x01\x00\xE0\x4B\x01\xC1\x11" =>
+        fields![BOARD_MANUFACTURE_DATE = "1996-02-29 00:00"];
+    b"\x01\x00\x00\x01\x00\x00\x00\xFE\x01\x01\x00\x1F\x1A\x20\xC1\xE4" =>
+        fields![BOARD_MANUFACTURE_DATE = "1999-12-31 23:59"];
+    b"\x01\x00\x00\x01\x00\x00\x00\xFE\x01\x01\x00\x20\x1A\x20\xC1\xE3" =>
+        fields![BOARD_MANUFACTURE_DATE = "2000-01-01 00:00"];
+    b"\x01\x00\x00\x01\x00\x00\x00\xFE\x01\x01\x00\x9F\x6B\x21\xC1\x12" =>
+        fields![BOARD_MANUFACTURE_DATE = "2000-02-29 23:59"];
+    b"\x01\x00\x00\x01\x00\x00\x00\xFE\x01\x01\x00\x40\x1F\x28\xC1\xB6" =>
+        fields![BOARD_MANUFACTURE_DATE = "2000-12-31 00:00"];
+    b"\x01\x00\x00\x01\x00\x00\x00\xFE\x01\x01\x00\x90\x05\xE2\xC1\xC6" =>
+        fields![BOARD_MANUFACTURE_DATE = "2024-02-29 12:00"];
+    b"\x01\x00\x00\x01\x00\x00\x00\xFE\x01\x01\x00\xFF\xFF\xFF\xC1\x40" =>
+        fields![BOARD_MANUFACTURE_DATE = "2027-11-24 20:15"];
+};
 
 #[test]
 fn records(rt: HostRuntime) -> Result<(), Fail> {
@@ -136,8 +203,42 @@ fn records(rt: HostRuntime) -> Result<(), Fail> {
     Ok(())
 }
 
+macro_rules! refusals {
+    ($($bytes:expr => $fault:ident($area:ident);)*) => {
+        [$(($bytes, FruFault::$fault(Area::$area))),*]
+    };
+}
+
+// Bytes, and the first rule that they break.
+const REFUSALS: [(&[u8], FruFault); 12] = refusals! {
+    b"\x01\x00\x00\x01\x00\x00\x00\xFE\x01\x00\x00\x00\x00\x00\xC1\x3E" => AreaLength(Board);
+    b"\x01\x00\x00\x01\x00\x00\x00\xFE\x02\x00\x00\x00\x00\x00\xC1\x3D" => AreaVersion(Board);
+    b"\x01\x00\x01\x00\x00\x00\x00\xFE\x01\x01\x17\xC0\xC0\xC0\xC0\xE7" => NoEnd(Chassis);
+    b"\x01\x00\x01\x00\x00\x00\x00\xFE\x01\x01\x17\xC4\xC0\xC0\xC1\xE2" => FieldOutside(Chassis);
+    // the first broken area is named
+    b"\x01\x00\x01\x02\x00\x00\x00\xFC\x01\x01\x17\xC4\xC0\xC0\xC1\xE2" => FieldOutside(Chassis);
+    b"\x01\x00\x00\x01\x04\x00\x00\xFA\x01\x03\x00\x00\x00\x00\xC3ACM\xC4RSR1\xC2S1\xC0\xC0\xC1\x00\x00\xF5\x01\x01\x00\xC1\x00\x00\x00\x3E" =>
+        AreaChecksum(Product);
+    b"\x01\x00\x00\x01\x02\x00\x00\xFC\x01\x01\x00\x00\x00\x00\xC1\x3D\x02\x01\x00\xC1\x00\x00\x00\x3D" =>
+        AreaVersion(Product);
+    b"\x01\x00\x00\x01\x02\x00\x00\xFC\x01\x01\x00\x00\x00\x00\xC1\x3D" => AreaOutside(Product);
+    b"\x01\x00\x00\x01\x00\x00\x00\xFE\x01\x01\x00\x00\x00\x00\xC2\x3C" => FieldOutside(Board);
+    b"\x01\x00\x00\x00\x01\x00\x00\xFE\x01\x01\x00\x00\x00\x00\x00\xFE" => NoEnd(Product);
+    b"\x01\x00\x02\x01\x00\x00\x00\xFC\x01\x01\x00\x00\x00\x00\xC1\x3D" => AreaOutside(Chassis);
+    // an area that overlaps a sound one
+    b"\x01\x00\x00\x01\x02\x00\x00\xFC\x01\x03\x00\x00\x00\x00\x09\x00\x00\x00\x00\x00\x00\x00\x00\x01\xC1\x00\x00\x00\x00\x00\x00\x31" =>
+        AreaVersion(Product);
+};
+
 #[test]
-fn broken_records(rt: HostRuntime) {
+fn refused(rt: HostRuntime) {
+    for (bytes, fault) in REFUSALS {
+        assert_fault(&rt, rt.alloc(), bytes, fault);
+    }
+}
+
+#[test]
+fn cut_or_changed_anywhere(rt: HostRuntime) {
     for end in 0..BOARD.len() {
         let fault = if end < 8 {
             FruFault::FruShort
@@ -158,47 +259,6 @@ fn broken_records(rt: HostRuntime) {
         bytes[at] = bytes[at].wrapping_add(1);
         assert_fault(&rt, rt.alloc(), &bytes, fault);
     }
-    let rows: [(&[u8], FruFault); 5] = [
-        (
-            b"\x01\x00\x00\x01\x00\x00\x00\xFE\x01\x00\x00\x00\x00\x00\xC1\x3E",
-            FruFault::AreaLength(Area::Board),
-        ),
-        (
-            b"\x01\x00\x00\x01\x00\x00\x00\xFE\x02\x00\x00\x00\x00\x00\xC1\x3D",
-            FruFault::AreaVersion(Area::Board),
-        ),
-        (
-            b"\x01\x00\x01\x00\x00\x00\x00\xFE\x01\x01\x17\xC0\xC0\xC0\xC0\xE7",
-            FruFault::NoEnd(Area::Chassis),
-        ),
-        (
-            b"\x01\x00\x01\x00\x00\x00\x00\xFE\x01\x01\x17\xC4\xC0\xC0\xC1\xE2",
-            FruFault::FieldOutside(Area::Chassis),
-        ),
-        // the first broken area is named
-        (
-            b"\x01\x00\x01\x02\x00\x00\x00\xFC\x01\x01\x17\xC4\xC0\xC0\xC1\xE2",
-            FruFault::FieldOutside(Area::Chassis),
-        ),
-    ];
-    for (bytes, fault) in rows {
-        assert_fault(&rt, rt.alloc(), bytes, fault);
-    }
-}
-
-#[test]
-fn broken_product(rt: HostRuntime) -> Result<(), Fail> {
-    let mut bytes =
-        *b"\x01\x00\x00\x01\x04\x00\x00\xFA\x01\x03\x00\x00\x00\x00\xC3ACM\xC4RSR1\xC2S1\xC0\xC0\xC1\x00\x00\xF5\x01\x01\x00\xC1\x00\x00\x00\x3E";
-    assert_fault(
-        &rt,
-        rt.alloc(),
-        &bytes,
-        FruFault::AreaChecksum(Area::Product),
-    );
-    bytes[39] = 0x3D;
-    assert_record(&rt, rt.alloc(), &bytes, &BOARD_FIELDS)?;
-    Ok(())
 }
 
 #[test]
@@ -206,48 +266,19 @@ fn long_records(rt: HostRuntime) -> Result<(), Fail> {
     let board: &[u8] = BOARD;
     let mut bytes = [0; 4097];
     bytes[..32].copy_from_slice(board);
-    assert_record(&rt, rt.alloc(), &bytes[..4096], &BOARD_FIELDS)?;
+    assert_record(&rt, rt.alloc(), &bytes[..4096], BOARD_FIELDS)?;
     assert_fault(&rt, rt.alloc(), &bytes, FruFault::FruTooLong);
     // the highest offset, with the area up to the last byte
     bytes[3] = 255;
     bytes[7] = 0;
     bytes[2040..2064].copy_from_slice(&board[8..]);
-    assert_record(&rt, rt.alloc(), &bytes[..2064], &BOARD_FIELDS)?;
+    assert_record(&rt, rt.alloc(), &bytes[..2064], BOARD_FIELDS)?;
     assert_fault(
         &rt,
         rt.alloc(),
         &bytes[..2063],
         FruFault::AreaOutside(Area::Board),
     );
-    Ok(())
-}
-
-// A board area without texts: the low, the middle and the high byte of the minutes, and the checksum.
-fn dated(minutes: [u8; 3], closing: u8) -> [u8; 16] {
-    let [low, mid, high] = minutes;
-    [
-        1, 0, 0, 1, 0, 0, 0, 0xFE, 1, 1, 0, low, mid, high, 0xC1, closing,
-    ]
-}
-
-#[test]
-fn dates(rt: HostRuntime) -> Result<(), Fail> {
-    assert_record(&rt, rt.alloc(), &dated([0, 0, 0], 0x3D), &[])?;
-    let rows = [
-        ([0x01, 0x00, 0x00], 0x3C, "1996-01-01 00:01"),
-        ([0xC0, 0xA8, 0x00], 0xD5, "1996-01-31 00:00"),
-        ([0xE0, 0x4B, 0x01], 0x11, "1996-02-29 00:00"),
-        ([0x1F, 0x1A, 0x20], 0xE4, "1999-12-31 23:59"),
-        ([0x20, 0x1A, 0x20], 0xE3, "2000-01-01 00:00"),
-        ([0x9F, 0x6B, 0x21], 0x12, "2000-02-29 23:59"),
-        ([0x40, 0x1F, 0x28], 0xB6, "2000-12-31 00:00"),
-        ([0x90, 0x05, 0xE2], 0xC6, "2024-02-29 12:00"),
-        ([0xFF, 0xFF, 0xFF], 0x40, "2027-11-24 20:15"),
-    ];
-    for (minutes, closing, text) in rows {
-        let bytes = dated(minutes, closing);
-        assert_record(&rt, rt.alloc(), &bytes, &[("BOARD_MANUFACTURE_DATE", text)])?;
-    }
     Ok(())
 }
 
@@ -327,49 +358,27 @@ const LONG: &str = "xxxxxxxxxxxxxxxxxxxxxxxxxxxxxxxxxxxxxxxxxxxxxxxxxxxxxxxxxxxx
 
 const TOO_LONG: &str = "xxxxxxxxxxxxxxxxxxxxxxxxxxxxxxxxxxxxxxxxxxxxxxxxxxxxxxxxxxxxxxxx";
 
+macro_rules! boards {
+    ($($minutes:expr, $named:expr => $wanted:expr;)*) => {
+        [$(($minutes, $named, $wanted)),*]
+    };
+}
+
 #[test]
 fn built_boards(rt: HostRuntime) -> Result<(), Fail> {
     let alloc = rt.alloc();
     let late = 1 << 24;
-    let rows: [(u32, &[&str], Result<&[u8], BuildFault>); 9] = [
-        (0, &["ACM", "RSR1", "S1", "", ""], Ok(BOARD)),
-        (0, &["a", "RSR1", "S1", "", ""], Err(BuildFault::OneByte)),
-        (
-            0,
-            &["ACM", "RSR1", "S1", "", "\u{E9}"],
-            Err(BuildFault::OneByte),
-        ),
-        (
-            0,
-            &["ACM", "\u{100}", "S1", "", ""],
-            Err(BuildFault::TextNotLatin),
-        ),
-        (
-            0,
-            &["ACM", TOO_LONG, "S1", "", ""],
-            Err(BuildFault::TextTooLong),
-        ),
-        (
-            0,
-            &[TOO_LONG, "RSR1", "\u{100}", "", ""],
-            Err(BuildFault::TextNotLatin),
-        ),
-        (
-            0,
-            &["a", "RSR1", TOO_LONG, "", ""],
-            Err(BuildFault::TextTooLong),
-        ),
-        (
-            late,
-            &["\u{100}", "", "", "", ""],
-            Err(BuildFault::DateRange),
-        ),
-        (
-            late,
-            &["ACM", "RSR1", "S1", "", ""],
-            Err(BuildFault::DateRange),
-        ),
-    ];
+    let rows: [(u32, &[&str], Result<&[u8], BuildFault>); 9] = boards! {
+        0, &["ACM", "RSR1", "S1", "", ""] => Ok(BOARD);
+        0, &["a", "RSR1", "S1", "", ""] => Err(BuildFault::OneByte);
+        0, &["ACM", "RSR1", "S1", "", "\u{E9}"] => Err(BuildFault::OneByte);
+        0, &["ACM", "\u{100}", "S1", "", ""] => Err(BuildFault::TextNotLatin);
+        0, &["ACM", TOO_LONG, "S1", "", ""] => Err(BuildFault::TextTooLong);
+        0, &[TOO_LONG, "RSR1", "\u{100}", "", ""] => Err(BuildFault::TextNotLatin);
+        0, &["a", "RSR1", TOO_LONG, "", ""] => Err(BuildFault::TextTooLong);
+        late, &["\u{100}", "", "", "", ""] => Err(BuildFault::DateRange);
+        late, &["ACM", "RSR1", "S1", "", ""] => Err(BuildFault::DateRange);
+    };
     for (minutes, named, wanted) in rows {
         assert_eq!(rt; named.len(), 5);
         let parts = board_of(alloc, minutes, named, FieldTexts::new(alloc)?)?;
