@@ -266,6 +266,7 @@ impl Lines {
     /// The block of `n` bytes that a line asked for, and a newline directly behind it. It reads only while
     /// the block and the byte behind it are not all among what was read, and not again once the source has
     /// given its end. It takes memory for the block before it reads, and is not called again after a fault.
+    /// Behind a block no line is kept.
     pub fn block<S: Source>(
         &mut self,
         alloc: Global,
@@ -273,6 +274,7 @@ impl Lines {
         n: u32,
     ) -> Result<Block, LineFault>
         ensures block { IfOk result (λ block. TakesBlock n block self.old self.new (S.left source.old) (S.left source.new)) }
+        ensures line { OnOk result (self.old.ended ≡ false → self.new.line ≡ []) }
         ensures spends { OnOk result (self.old.read + length self.new.waiting ≤ self.new.read + length self.old.waiting) }
         ensures end { OnOk result ((self.old.ended ≡ true → IsAtEnd (S.left source.old)) → self.new.ended ≡ true → IsAtEnd (S.left source.new)) }
         ensures stops { IfErr result (λ fault. StopsBlock fault n self.old self.new (S.left source.old) (S.left source.new)) }
@@ -281,6 +283,7 @@ impl Lines {
         ensures cause { MatchResult result (λ _. S.faults source.new ≡ S.faults source.old) (λ fault. BlockCause fault self.new (S.faults source.old) (S.faults source.new)) }
         ensures waits { n < length self.old.waiting → self.new.read ≡ self.old.read }
         ensures after_end { self.old.ended ≡ true → self.new.read ≡ self.old.read }
+        ensures still { self.old.ended ≡ true → self.new ≡ self.old }
     {
         let n = n as usize;
         if n < self.waiting().len() {
@@ -300,6 +303,7 @@ impl Lines {
     pub(crate) fn take_block(&mut self, alloc: Global, n: usize) -> Result<Bytes, OutOfMemory>
         requires { n < length self.old.waiting }
         ensures block { IfOk result (λ bytes. whole_block n self.old.waiting ≡ Some (items.Block bytes, self.new.waiting)) }
+        ensures line { OnOk result (self.new.line ≡ []) }
         ensures spends { length self.new.waiting ≤ length self.old.waiting }
         ensures read { self.new.read ≡ self.old.read }
         ensures end { self.new.ended ≡ self.old.ended }
@@ -325,6 +329,7 @@ impl Lines {
         requires going { self.old.ended ≡ false }
         requires most { self.old.read ≤ 2 ^ 40 }
         ensures block { IfOk result (λ block. TakesBlock n block self.old self.new (S.left source.old) (S.left source.new)) }
+        ensures line { OnOk result (self.new.line ≡ []) }
         ensures spends { OnOk result (self.old.read + length self.new.waiting ≤ self.new.read + length self.old.waiting) }
         ensures end { OnOk result (self.new.ended ≡ true → IsAtEnd (S.left source.new)) }
         ensures stops { IfErr result (λ fault. StopsBlock fault n self.old self.new (S.left source.old) (S.left source.new)) }
@@ -355,6 +360,7 @@ impl Lines {
         requires within { count ≤ length self.old.waiting }
         ensures bytes { OnOk result (n ≤ 262144 → bytes.new.items ≡ bytes.old.items ++ take count self.old.waiting) }
         ensures waiting { OnOk result (self.new.waiting ≡ drop count self.old.waiting) }
+        ensures line { OnOk result (self.new.line ≡ []) }
         ensures read { self.new.read ≡ self.old.read }
         ensures end { self.new.ended ≡ self.old.ended }
     {
@@ -368,6 +374,7 @@ impl Lines {
     // Drops a newline at the front of what waits.
     fn drop_newline(&mut self)
         ensures waiting { self.new.waiting ≡ behind_block self.old.waiting }
+        ensures line { self.old.line ≡ [] → self.new.line ≡ [] }
         ensures read { self.new.read ≡ self.old.read }
         ensures end { self.new.ended ≡ self.old.ended }
     {
@@ -438,6 +445,7 @@ impl Lines {
         requires going { self.old.ended ≡ false }
         ensures gathers { Gathers [] self.old self.new (S.left source.old) (S.left source.new) }
         ensures count { IfOk result (λ n. self.new.read ≡ self.old.read + n) }
+        ensures line { OnOk result (self.new.line ≡ []) }
         ensures stays { OnErr result (self.new.read ≡ self.old.read) }
         ensures end { IfOk result (λ n. n ≡ 0 → IsAtEnd (S.left source.new)) }
         ensures under { OnOk result (self.old.read < 2 ^ 40) }
