@@ -47,6 +47,7 @@ fn word(bytes: &[u8]) -> Option<(&[u8], &[u8])>
     }
 }
 
+#[inline]
 #[tactic(auto, unfolding(crate::specs::Commands::place_named))]
 fn read_place(bus: &[u8], address: &[u8]) -> Option<Place>
     ensures { result ≡ place_named bus.now address.now }
@@ -79,6 +80,7 @@ fn read_plug(alloc: Global, rest: &[u8]) -> Result<Command, ScriptFault>
     }
 }
 
+#[inline(always)]
 #[tactic(auto, unfolding(crate::specs::Commands::unplug_of))]
 fn read_unplug(rest: &[u8]) -> Option<Command>
     ensures { result ≡ unplug_of rest.now }

@@ -1,11 +1,12 @@
 -- The block that a line asks for.
-use Rattle.std.proofs.Common.{◌≡◌, ◌≢◌, ℕ, suc, ◌+◌, List, ◌∷◌, ◌++◌, length, take, drop, slice_index, Bool, true, false, cond, arith, ap, sym, ◌∙◌, refl}
+use Rattle.std.proofs.Common.{◌≡◌, ◌≢◌, ℕ, suc, ◌+◌, List, ◌∷◌, ◌++◌, length, take, drop, slice_index, Bool, true, false, cond, arith, ap, sym, ◌∙◌, refl, append-nil, ltb, [], ◌-◌}
 use Rattle.std.specs.Prelude.{Option, Some, None, option_and_then, option_map, position, codes, bytes_eq, ◌==◌}
 use Rattle.std.proofs.lemmas.Bool.{lt-ltb, eqb-true}
 use Rattle.std.proofs.lemmas.List.{take-append-drop}
 use Rattle.std.proofs.lemmas.List.Quantifiers.{position-Some}
 use Rattle.std.proofs.lemmas.Slice.Eq.{bytes_eq-Decides}
 use Rattle.std.proofs.Math.Seq.{drop-cons}
+use Rattle.bmc_text.specs.Items.{Line, LineTooLong, without_return, line_item, asks}
 use Rattle.bmc_text.specs.Words.{split_space, size_of, number, block_size}
 
 abbrev is_space : ℕ → Bool
@@ -41,3 +42,22 @@ none_at line (Some at) e other = none_named (take at line) (drop (at + 1) line) 
 pub asks_for_none : (line : List ℕ) → ((digits : List ℕ) → line ≢ codes "config " ++ digits) → block_size line ≡ None
 unfolding block_size
 asks_for_none line other = none_at line (position is_space line) refl other
+
+kept_part : (t : Bool) (n : ℕ) (raw : List ℕ) → (rest : List ℕ) × (cond t (take n raw) raw ++ rest ≡ raw)
+kept_part true n raw = (drop n raw, take-append-drop n raw)
+kept_part false n raw = ([], append-nil raw)
+
+none_kept : (raw : List ℕ) → slice_index raw 0 ≢ 99 → block_size (without_return raw) ≡ None
+unfolding without_return
+none_kept raw other =
+    let part = kept_part (slice_index raw (length raw - 1) == 13) (length raw - 1) raw in
+    asks_for_none (without_return raw) (λ digits e. other (ap (λ (xs : List ℕ). slice_index xs 0) (sym part.1 ∙ ap (λ (xs : List ℕ). xs ++ part.0) e)))
+
+none_asked : (t : Bool) (line : List ℕ) → block_size line ≡ None → asks (cond t LineTooLong (Line line)) ≡ None
+none_asked true line e = refl
+none_asked false line e = e
+
+-- a line that begins with another byte than c (99) asks for no block
+pub asks_none : (raw : List ℕ) → slice_index raw 0 ≢ 99 → asks (line_item raw) ≡ None
+unfolding line_item
+asks_none raw other = none_asked (ltb 9000 (length raw)) (without_return raw) (none_kept raw other)

@@ -96,6 +96,7 @@ impl Items {
 
     /// The next item among the bytes that were read already, or none where no item is whole in them; then
     /// what waits stays. It takes memory for a block.
+    #[inline(always)]
     pub fn next_buffered(&mut self, alloc: Global) -> Result<Option<NextItem>, OutOfMemory>
         ensures next { IfOk result (λ found. IfSome found (λ next. (left : Option (List ℕ)) → TakesNextItem next self.old self.new left left)) }
         ensures spends { IfOk result (λ found. IfSome found (λ next. SpendsItem next self.old self.new)) }

@@ -117,9 +117,23 @@ fn kept_len(raw: &[u8]) -> usize
     }
 }
 
-// The size of the block that a line asks for, of which these are the bytes before its newline.
-#[tactic(auto, unfolding(crate::specs::Items::line_item))]
+// The size of the block that a line asks for, of which these are the bytes before its newline. Most lines
+// ask for none, and the first byte tells.
+#[inline]
+#[tactic(auto, using(crate::proofs::Asked::asks_none))]
 pub(crate) fn asked_by(raw: &[u8]) -> Option<u32>
+    ensures { result ≡ asks (line_item raw.now) }
+{
+    if raw.first() != Some(&b'c') {
+        return None;
+    }
+    asked_in_words(raw)
+}
+
+// The same, by all bytes of the line.
+#[inline(never)]
+#[tactic(auto, unfolding(crate::specs::Items::line_item))]
+fn asked_in_words(raw: &[u8]) -> Option<u32>
     ensures { result ≡ asks (line_item raw.now) }
 {
     if raw.len() > LONGEST {
@@ -252,6 +266,7 @@ impl Lines {
     /// The block of `n` bytes that a line asked for, and a newline directly behind it. It reads only while
     /// the block and the byte behind it are not all among what was read, and not again once the source has
     /// given its end. It takes memory for the block before it reads, and is not called again after a fault.
+    /// Behind a block no line is kept.
     pub fn block<S: Source>(
         &mut self,
         alloc: Global,
@@ -259,6 +274,7 @@ impl Lines {
         n: u32,
     ) -> Result<Block, LineFault>
         ensures block { IfOk result (λ block. TakesBlock n block self.old self.new (S.left source.old) (S.left source.new)) }
+        ensures line { OnOk result (self.old.ended ≡ false → self.new.line ≡ []) }
         ensures spends { OnOk result (self.old.read + length self.new.waiting ≤ self.new.read + length self.old.waiting) }
         ensures end { OnOk result ((self.old.ended ≡ true → IsAtEnd (S.left source.old)) → self.new.ended ≡ true → IsAtEnd (S.left source.new)) }
         ensures stops { IfErr result (λ fault. StopsBlock fault n self.old self.new (S.left source.old) (S.left source.new)) }
@@ -267,6 +283,7 @@ impl Lines {
         ensures cause { MatchResult result (λ _. S.faults source.new ≡ S.faults source.old) (λ fault. BlockCause fault self.new (S.faults source.old) (S.faults source.new)) }
         ensures waits { n < length self.old.waiting → self.new.read ≡ self.old.read }
         ensures after_end { self.old.ended ≡ true → self.new.read ≡ self.old.read }
+        ensures still { self.old.ended ≡ true → self.new ≡ self.old }
     {
         let n = n as usize;
         if n < self.waiting().len() {
@@ -282,9 +299,11 @@ impl Lines {
 
     /// The block of `n` bytes that a line asked for, and a newline directly behind it, where they are among
     /// what was read.
+    #[inline(never)]
     pub(crate) fn take_block(&mut self, alloc: Global, n: usize) -> Result<Bytes, OutOfMemory>
         requires { n < length self.old.waiting }
         ensures block { IfOk result (λ bytes. whole_block n self.old.waiting ≡ Some (items.Block bytes, self.new.waiting)) }
+        ensures line { OnOk result (self.new.line ≡ []) }
         ensures spends { length self.new.waiting ≤ length self.old.waiting }
         ensures read { self.new.read ≡ self.old.read }
         ensures end { self.new.ended ≡ self.old.ended }
@@ -310,6 +329,7 @@ impl Lines {
         requires going { self.old.ended ≡ false }
         requires most { self.old.read ≤ 2 ^ 40 }
         ensures block { IfOk result (λ block. TakesBlock n block self.old self.new (S.left source.old) (S.left source.new)) }
+        ensures line { OnOk result (self.new.line ≡ []) }
         ensures spends { OnOk result (self.old.read + length self.new.waiting ≤ self.new.read + length self.old.waiting) }
         ensures end { OnOk result (self.new.ended ≡ true → IsAtEnd (S.left source.new)) }
         ensures stops { IfErr result (λ fault. StopsBlock fault n self.old self.new (S.left source.old) (S.left source.new)) }
@@ -340,6 +360,7 @@ impl Lines {
         requires within { count ≤ length self.old.waiting }
         ensures bytes { OnOk result (n ≤ 262144 → bytes.new.items ≡ bytes.old.items ++ take count self.old.waiting) }
         ensures waiting { OnOk result (self.new.waiting ≡ drop count self.old.waiting) }
+        ensures line { OnOk result (self.new.line ≡ []) }
         ensures read { self.new.read ≡ self.old.read }
         ensures end { self.new.ended ≡ self.old.ended }
     {
@@ -353,6 +374,7 @@ impl Lines {
     // Drops a newline at the front of what waits.
     fn drop_newline(&mut self)
         ensures waiting { self.new.waiting ≡ behind_block self.old.waiting }
+        ensures line { self.old.line ≡ [] → self.new.line ≡ [] }
         ensures read { self.new.read ≡ self.old.read }
         ensures end { self.new.ended ≡ self.old.ended }
     {
@@ -423,6 +445,7 @@ impl Lines {
         requires going { self.old.ended ≡ false }
         ensures gathers { Gathers [] self.old self.new (S.left source.old) (S.left source.new) }
         ensures count { IfOk result (λ n. self.new.read ≡ self.old.read + n) }
+        ensures line { OnOk result (self.new.line ≡ []) }
         ensures stays { OnErr result (self.new.read ≡ self.old.read) }
         ensures end { IfOk result (λ n. n ≡ 0 → IsAtEnd (S.left source.new)) }
         ensures under { OnOk result (self.old.read < 2 ^ 40) }
