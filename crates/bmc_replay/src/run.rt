@@ -60,6 +60,7 @@ fn take_line(
 }
 
 // Takes the block of a configuration, and answers why it is refused, if it is.
+#[inline(never)]
 fn take_block(
     alloc: Global,
     state: &mut State,

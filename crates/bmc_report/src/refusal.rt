@@ -42,9 +42,9 @@ impl fmt::Display for AreaName {
 
     fn fmt<W: fmt::Write>(&self, f: &mut fmt::Formatter<W>) -> fmt::Result {
         match self.0 {
-            Area::Chassis => write!(f, "Chassis"),
-            Area::Board => write!(f, "Board"),
-            Area::Product => write!(f, "Product"),
+            Area::Chassis => f.write_str("Chassis"),
+            Area::Board => f.write_str("Board"),
+            Area::Product => f.write_str("Product"),
         }
     }
 }
@@ -59,17 +59,17 @@ impl fmt::Display for Rule {
 
     fn fmt<W: fmt::Write>(&self, f: &mut fmt::Formatter<W>) -> fmt::Result {
         match self.0 {
-            FruFault::FruShort => write!(f, "FruShort"),
-            FruFault::FruTooLong => write!(f, "FruTooLong"),
-            FruFault::HeaderVersion => write!(f, "HeaderVersion"),
-            FruFault::HeaderChecksum => write!(f, "HeaderChecksum"),
+            FruFault::FruShort => f.write_str("FruShort"),
+            FruFault::FruTooLong => f.write_str("FruTooLong"),
+            FruFault::HeaderVersion => f.write_str("HeaderVersion"),
+            FruFault::HeaderChecksum => f.write_str("HeaderChecksum"),
             FruFault::AreaOutside(area) => write!(f, "AreaOutside {}", AreaName(area)),
             FruFault::AreaVersion(area) => write!(f, "AreaVersion {}", AreaName(area)),
             FruFault::AreaLength(area) => write!(f, "AreaLength {}", AreaName(area)),
             FruFault::AreaChecksum(area) => write!(f, "AreaChecksum {}", AreaName(area)),
             FruFault::FieldOutside(area) => write!(f, "FieldOutside {}", AreaName(area)),
             FruFault::NoEnd(area) => write!(f, "NoEnd {}", AreaName(area)),
-            FruFault::OutOfMemory => write!(f, "OutOfMemory"),
+            FruFault::OutOfMemory => f.write_str("OutOfMemory"),
         }
     }
 }
@@ -84,13 +84,13 @@ impl fmt::Display for ConfigRule {
 
     fn fmt<W: fmt::Write>(&self, f: &mut fmt::Formatter<W>) -> fmt::Result {
         match self.0 {
-            ConfigFault::NotJson => write!(f, "NotJson"),
-            ConfigFault::Fraction => write!(f, "Fraction"),
-            ConfigFault::MissingKey => write!(f, "MissingKey"),
-            ConfigFault::WrongKind => write!(f, "WrongKind"),
-            ConfigFault::OutOfRange => write!(f, "OutOfRange"),
-            ConfigFault::ProbeForm => write!(f, "ProbeForm"),
-            ConfigFault::OutOfMemory => write!(f, "OutOfMemory"),
+            ConfigFault::NotJson => f.write_str("NotJson"),
+            ConfigFault::Fraction => f.write_str("Fraction"),
+            ConfigFault::MissingKey => f.write_str("MissingKey"),
+            ConfigFault::WrongKind => f.write_str("WrongKind"),
+            ConfigFault::OutOfRange => f.write_str("OutOfRange"),
+            ConfigFault::ProbeForm => f.write_str("ProbeForm"),
+            ConfigFault::OutOfMemory => f.write_str("OutOfMemory"),
         }
     }
 }
@@ -101,16 +101,16 @@ impl fmt::Display for Refusal {
 
     fn fmt<W: fmt::Write>(&self, f: &mut fmt::Formatter<W>) -> fmt::Result {
         match self {
-            Refusal::UnknownCommand => write!(f, "UnknownCommand"),
-            Refusal::ConfigTooLong => write!(f, "ConfigTooLong"),
-            Refusal::ConfigShort => write!(f, "ConfigShort"),
+            Refusal::UnknownCommand => f.write_str("UnknownCommand"),
+            Refusal::ConfigTooLong => f.write_str("ConfigTooLong"),
+            Refusal::ConfigShort => f.write_str("ConfigShort"),
             Refusal::Config(fault) => write!(f, "{}", ConfigRule(*fault)),
-            Refusal::ConfigAfterPlug => write!(f, "ConfigAfterPlug"),
-            Refusal::DuplicateName => write!(f, "DuplicateName"),
-            Refusal::ConfigLimit => write!(f, "ConfigLimit"),
-            Refusal::Occupied => write!(f, "Occupied"),
+            Refusal::ConfigAfterPlug => f.write_str("ConfigAfterPlug"),
+            Refusal::DuplicateName => f.write_str("DuplicateName"),
+            Refusal::ConfigLimit => f.write_str("ConfigLimit"),
+            Refusal::Occupied => f.write_str("Occupied"),
             Refusal::Fru(fault) => write!(f, "{}", Rule(*fault)),
-            Refusal::NotPresent => write!(f, "NotPresent"),
+            Refusal::NotPresent => f.write_str("NotPresent"),
         }
     }
 }
