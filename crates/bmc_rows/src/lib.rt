@@ -5,7 +5,11 @@
 #[cfg(test)]
 mod blocks;
 #[cfg(test)]
+mod boards;
+#[cfg(test)]
 mod copies;
+#[cfg(test)]
+mod documents;
 #[cfg(test)]
 mod faults;
 #[cfg(test)]
