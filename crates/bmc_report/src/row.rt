@@ -39,7 +39,7 @@ fn push_escaped(out: &mut String, char: char) -> Result<(), OutOfMemory>
 
 // Appends a text between quotes.
 #[tactic(auto, unfolding(crate::specs::Rows::quoted))]
-fn push_quoted(out: &mut String, text: &str) -> Result<(), OutOfMemory>
+pub(crate) fn push_quoted(out: &mut String, text: &str) -> Result<(), OutOfMemory>
     ensures { OnOk result (string_bytes out.new ≡ string_bytes out.old ++ quoted text.now) }
 {
     out.push('"')?;

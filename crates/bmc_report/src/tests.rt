@@ -1,5 +1,5 @@
-use crate::{Refusal, push_fru_row, push_refused_line};
-use bmc_base::Place;
+use crate::{Change, Refusal, push_change, push_fru_row, push_refused_line};
+use bmc_base::{Name, Place};
 use fru_area::{Area, Field, FieldName, FieldText, FruFault};
 use std::fmt::Write;
 use std::test::Fail;
@@ -70,5 +70,53 @@ fn rows_of_frus(rt: HostRuntime) -> Result<(), Fail> {
         out.as_str(),
         "fru 255 0\nfru 255 0 BOARD_PART_NUMBER=\"a\\\"b\\\\c \\x00\\x1f\\x7f\u{80}\u{20ac}\" BOARD_INFO_AM12=\"\"\n"
     );
+    Ok(())
+}
+
+#[test]
+fn lines_of_changes(rt: HostRuntime) -> Result<(), Fail> {
+    let rows = [
+        (
+            true,
+            "R",
+            1,
+            Place::new(1, 80),
+            "gone board \"R\" 1 at 1 80",
+        ),
+        (false, "R", 2, Place::new(0, 0), "new board \"R\" 2 at 0 0"),
+        (false, "Any", 1, None, "new board \"Any\" 1"),
+        (true, "Any", 1, None, "gone board \"Any\" 1"),
+        (
+            false,
+            "~ a b !",
+            u32::MAX,
+            Place::new(255, 127),
+            "new board \"~ a b !\" 4294967295 at 255 127",
+        ),
+        (
+            true,
+            "a\"b\\c \n\u{7f}\u{e9}\u{20ac}",
+            7,
+            None,
+            "gone board \"a\\\"b\\\\c \\x0a\\x7f\u{e9}\u{20ac}\" 7",
+        ),
+        (false, "\u{e9}", 1, None, "new board \"\u{e9}\" 1"),
+    ];
+    for (gone, name, index, place, text) in rows {
+        for tick in ["0", "18446744073709551615"] {
+            let mut out = String::from_str(rt.alloc(), "before")?;
+            let name = Name::new(name)?;
+            let change = Change::Board {
+                gone,
+                name,
+                index,
+                place,
+            };
+            push_change(&mut out, tick.parse::<u64>()?, &change)?;
+            let mut line = String::new(rt.alloc());
+            write!(line, "before{tick} {text}\n")?;
+            assert_eq!(rt; out.as_str(), line.as_str());
+        }
+    }
     Ok(())
 }

@@ -1,11 +1,13 @@
 -- Plain probes: a constant, or a field of the board area that contains a text.
-use Rattle.std.specs.Prelude.{◌≡◌, ◌⊎◌, ℕ, ◌-◌, Bool, true, ◌&&◌, nat_lt, nat_le, if◌then◌else◌, List, [], ◌∷◌, ◌++◌, length, slice_range, codes, bytes_eq, Option, Some, None, option_map}
+use Rattle.std.specs.Prelude.{◌≡◌, ◌⊎◌, ℕ, ◌-◌, Bool, true, false, ◌&&◌, ◌||◌, nat_eq, nat_lt, nat_le, if◌then◌else◌, List, [], ◌∷◌, ◌++◌, length, slice_range, codes, bytes_eq, Option, Some, None, option_map}
 use Rattle.std.specs.Option.{option_or}
-use Rattle.std.specs.List.{list_all}
+use Rattle.std.specs.List.{list_all, starts_with}
 use Rattle.std.specs.Char.{is_ascii_alphanumeric}
 use Rattle.fru_area.specs.Names.{name_text}
 use Rattle.fru_area.specs.declared.name.FieldName.{FieldName}
 use Rattle.fru_area.specs.declared.name.FieldName.TheVariants.{BoardManufacturer, BoardProductName, BoardSerialNumber, BoardPartNumber, BoardFruVersionId}
+use Rattle.fru_area.specs.declared.field.Field.{Field}
+use Rattle.fru_record.specs.Lookups.{text_named}
 use Rattle.cfg_json.specs.declared.probe.PlainProbe.{PlainProbe}
 use Rattle.cfg_json.specs.declared.probe.PlainProbe.TheVariants.{Always, Contains}
 
@@ -51,3 +53,23 @@ IsOneOf name (first ∷ names) = (name ≡ first) ⊎ IsOneOf name names
 abbrev pub Writes : PlainProbe → List ℕ → Type 0
 Writes Always probe = probe ≡ codes "TRUE"
 Writes (Contains name text) probe = IsOneOf name board_names × (is_plain_text text ≡ true) × (probe ≡ probe_text name text)
+
+-- whether a text stands in another: at its front, or in what is behind its first byte
+unfoldable pub stands_in : List ℕ → List ℕ → Bool
+stands_in text [] = starts_with nat_eq [] text
+stands_in text (byte ∷ bytes) = starts_with nat_eq (byte ∷ bytes) text || stands_in text bytes
+
+-- whether a text stands in a field, if the field is there
+abbrev pub field_has : List ℕ → Option (List ℕ) → Bool
+field_has text None = false
+field_has text (Some field) = stands_in text field
+
+-- whether a record matches the pattern of a probe; a constant has none
+abbrev pub matches : PlainProbe → List Field → Bool
+matches Always fields = false
+matches (Contains name text) fields = field_has text (text_named fields (name_text name))
+
+-- the value of a probe, where its pattern matches a record or not
+abbrev pub value : PlainProbe → Bool → Bool
+value Always matched = true
+value (Contains name text) matched = matched

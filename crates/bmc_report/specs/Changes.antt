@@ -1,0 +1,22 @@
+-- What changes, as text.
+use Rattle.std.specs.Prelude.{ℕ, Bool, true, false, List, [], ◌++◌, codes, decimal, Option, Some, None}
+use Rattle.bmc_base.specs.Places.{Place}
+use Rattle.bmc_report.specs.Rows.{quoted}
+use Rattle.bmc_report.specs.declared.change.Change.{Change}
+use Rattle.bmc_report.specs.declared.change.Change.TheVariants.{Board}
+
+-- the place of a board; one without a place has no text there
+abbrev pub at_text : Option Place → List ℕ
+at_text None = []
+at_text (Some place) = codes " at " ++ decimal place.bus ++ codes " " ++ decimal place.address
+
+abbrev pub verb_text : Bool → List ℕ
+verb_text true = codes "gone"
+verb_text false = codes "new"
+
+unfoldable pub change_text : Change → List ℕ
+change_text (Board gone name index place) = verb_text gone ++ codes " board " ++ quoted name ++ codes " " ++ decimal index ++ at_text place
+
+-- what is printed of a change at this tick
+abbrev pub change_line : ℕ → Change → List ℕ
+change_line tick change = decimal tick ++ codes " " ++ change_text change ++ codes "\n"
