@@ -1,5 +1,5 @@
 -- The rows of the list of FRUs.
-use Rattle.std.specs.Prelude.{ℕ, ◌+◌, ◌/◌, ◌%◌, nat_lt, ◌==◌, ◌||◌, if◌then◌else◌, List, [], ◌∷◌, ◌++◌, codes, decimal, chars, encode_utf8}
+use Rattle.std.specs.Prelude.{ℕ, ◌+◌, ◌/◌, ◌%◌, nat_lt, nat_le, ◌==◌, Bool, ◌&&◌, ◌||◌, not, if◌then◌else◌, List, [], ◌∷◌, ◌++◌, codes, decimal, chars, encode_utf8}
 use Rattle.std.specs.List.{flat_map}
 use Rattle.bmc_base.specs.Places.{Place}
 use Rattle.fru_area.specs.Names.{name_text}
@@ -15,6 +15,10 @@ escaped char =
     if char == 34 || char == 92 then 92 ∷ char ∷ []
     else if nat_lt char 32 || char == 127 then codes "\\x" ++ (hex_digit (char / 16) ∷ hex_digit (char % 16) ∷ [])
     else encode_utf8 char
+
+-- a byte that stands for itself between quotes, alone
+abbrev pub is_plain : ℕ → Bool
+is_plain byte = nat_le 32 byte && nat_lt byte 127 && not (byte == 34) && not (byte == 92)
 
 -- a text between quotes
 unfoldable pub quoted : List ℕ → List ℕ

@@ -1,6 +1,6 @@
-ghost use Rattle.std.specs.Prelude.{◌≡◌, ◌<◌, ◌++◌, OnOk, string_bytes};
-ghost use Rattle.std.specs.List.{flat_map};
-ghost use Rattle.bmc_report.specs.Rows.{escaped, quoted, hex_digit, field_row, fru_row};
+ghost use Rattle.std.specs.Prelude.{◌≡◌, ◌<◌, ◌++◌, OnOk, chars, string_bytes};
+ghost use Rattle.std.specs.List.{flat_map, list_all};
+ghost use Rattle.bmc_report.specs.Rows.{is_plain, escaped, quoted, hex_digit, field_row, fru_row};
 
 use bmc_base::{OutOfMemory, Place};
 use fru_area::Field;
@@ -37,15 +37,42 @@ fn push_escaped(out: &mut String, char: char) -> Result<(), OutOfMemory>
     Ok(())
 }
 
+// Whether a byte stands for itself between quotes; one beyond ASCII is part of a character.
+fn is_plain(byte: u8) -> bool
+    ensures { result ≡ is_plain byte }
+{
+    32 <= byte && byte < 127 && byte != 34 && byte != 92
+}
+
+// Whether all its bytes stand for themselves between quotes.
+fn is_plain_text(text: &str) -> bool
+    ensures { result ≡ list_all is_plain text.now }
+{
+    text.bytes().all(|byte| is_plain(byte))
+}
+
+// Appends the characters of a quoted text: a text that needs no escape is copied at once, as names mostly are.
+#[tactic(auto, using(crate::proofs::Plain::plain_escaped))]
+fn push_characters(out: &mut String, text: &str) -> Result<(), OutOfMemory>
+    ensures { OnOk result (string_bytes out.new ≡ string_bytes out.old ++ flat_map escaped (chars text.now)) }
+{
+    if is_plain_text(text) {
+        out.push_str(text)?;
+        return Ok(());
+    }
+    for char in text.chars() {
+        push_escaped(out, char)?;
+    }
+    Ok(())
+}
+
 // Appends a text between quotes.
-#[tactic(auto, unfolding(crate::specs::Rows::quoted))]
+#[tactic(auto, using(std::proofs::Common::append_assoc), unfolding(crate::specs::Rows::quoted))]
 pub(crate) fn push_quoted(out: &mut String, text: &str) -> Result<(), OutOfMemory>
     ensures { OnOk result (string_bytes out.new ≡ string_bytes out.old ++ quoted text.now) }
 {
     out.push('"')?;
-    for char in text.chars() {
-        push_escaped(out, char)?;
-    }
+    push_characters(out, text)?;
     out.push('"')?;
     Ok(())
 }
