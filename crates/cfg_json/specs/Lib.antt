@@ -1,4 +1,5 @@
 pub mod Probes
+pub mod BoardNames
 pub mod Configs
 pub mod Documents
 pub mod Answers

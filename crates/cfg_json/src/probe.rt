@@ -1,10 +1,14 @@
-ghost use Rattle.std.specs.Prelude.{◌≡◌, ℕ, List, IfSome, IfNone, if◌then◌else◌};
+ghost use Rattle.std.specs.Prelude.{◌≡◌, ℕ, List, false, option_map, bytes_eq, IfSome, IfNone, if◌then◌else◌};
 ghost use Rattle.std.specs.List.{list_all};
 ghost use Rattle.std.specs.Char.{is_ascii_alphanumeric};
-ghost use Rattle.cfg_json.specs.Probes.{is_plain_text, probe_text, text_in, probe_in, plain_probe_of};
+ghost use Rattle.fru_area.specs.Names.{name_text};
+ghost use Rattle.fru_record.specs.Lookups.{text_named};
+ghost use Rattle.cfg_json.specs.Probes.{is_plain_text, probe_text, text_in, probe_in, plain_probe_of, stands_in, matches, value};
+ghost use Rattle.cfg_json.specs.BoardNames.{is_board_name};
 
 use bmc_base::Name;
-use fru_area::FieldName;
+use fru_area::{Field, FieldName};
+use fru_record::FruRecord;
 
 /// What finds the boards of a configuration.
 #[derive(Drop)]
@@ -14,6 +18,74 @@ pub enum PlainProbe {
     /// A record whose field of this name contains this text: one of the five named fields of the board
     /// area, and 1 to 64 ASCII letters and digits.
     Contains(FieldName, Name),
+}
+
+impl PlainProbe {
+    /// Whether the record matches its pattern: the first field of its name contains its text. `TRUE` has no
+    /// pattern, and no record matches it.
+    pub fn matches(&self, fru: &FruRecord) -> bool
+        ensures { result ≡ matches self.now fru.now }
+    {
+        match self {
+            PlainProbe::Always => false,
+            PlainProbe::Contains(name, text) => match text_named(*name, fru.fields()) {
+                Some(field) => stands_in(text.as_str(), field),
+                None => false,
+            },
+        }
+    }
+
+    /// Whether it is `TRUE`, whose value is true where no record matches too.
+    pub fn is_constant(&self) -> bool
+        ensures { result ≡ value self.now false }
+    {
+        match self {
+            PlainProbe::Always => true,
+            PlainProbe::Contains(_, _) => false,
+        }
+    }
+}
+
+// The text of the first field of this name.
+#[tactic(auto, unfolding(fru_record::specs::Lookups::text_named))]
+fn text_named(name: FieldName, fields: &[Field]) -> Option<&str>
+    ensures { option_map (λ text. text.now) result ≡ text_named fields.now (name_text name) }
+{
+    let field = fields.iter().find(|field| is_same_name(field.name, name))?;
+    Some(field.text.as_str())
+}
+
+// Whether two names have one text. For the names that probes have no text is built.
+fn is_same_name(name: FieldName, other: FieldName) -> bool
+    ensures { result ≡ bytes_eq (name_text name) (name_text other) }
+{
+    if is_board_name(other) {
+        name == other
+    } else {
+        name.text().as_str() == other.text().as_str()
+    }
+}
+
+// Whether it is one of the named fields of the board area.
+fn is_board_name(name: FieldName) -> bool
+    ensures { result ≡ is_board_name name }
+{
+    matches!(
+        name,
+        FieldName::BoardManufacturer
+            | FieldName::BoardProductName
+            | FieldName::BoardSerialNumber
+            | FieldName::BoardPartNumber
+            | FieldName::BoardFruVersionId
+    )
+}
+
+// Whether a text stands in another.
+#[tactic(auto, using(crate::proofs::Substrings::stands_in_found))]
+fn stands_in(text: &str, whole: &str) -> bool
+    ensures { result ≡ stands_in text.now whole.now }
+{
+    whole.contains(text)
 }
 
 // The named fields of the board area.

@@ -1,6 +1,7 @@
 use crate::{Config, ConfigFault, PlainProbe, Shelf, plain_probes_read_as_written};
 use bmc_base::Name;
-use fru_area::FieldName;
+use fru_area::{Area, FieldName};
+use fru_record::FruRecord;
 use std::alloc::Global;
 use std::process::Abort;
 use std::test::Fail;
@@ -75,6 +76,86 @@ fn field_probes(rt: HostRuntime) -> Result<(), Fail> {
             PlainProbe::Always => assert!(rt; false, "{document}"),
         }
     }
+    Ok(())
+}
+
+// A board with the manufacturer ACM, the product name RSR1, the serial number S1, and two empty fields.
+const BOARD: &[u8] =
+    b"\x01\x00\x00\x01\x00\x00\x00\xFE\x01\x03\x00\x00\x00\x00\xC3ACM\xC4RSR1\xC2S1\xC0\xC0\xC1\x00\x00\xF5";
+
+// The same with the product name AAAB, and a custom field Q7.
+const CUSTOM_BOARD: &[u8] =
+    b"\x01\x00\x00\x01\x00\x00\x00\xFE\x01\x04\x00\x00\x00\x00\xC3ACM\xC4AAAB\xC2S1\xC0\xC0\xC2Q7\xC1\x00\x00\x00\x00\x00\x00\x00\xCD";
+
+// No area at all.
+const EMPTY_RECORD: &[u8] = b"\x01\x00\x00\x00\x00\x00\x00\xFF";
+
+fn assert_matches(
+    rt: &impl Abort,
+    fru: &FruRecord,
+    field: FieldName,
+    rows: &[(&str, bool)],
+) -> Result<(), Fail> {
+    for (text, expected) in rows {
+        let probe = PlainProbe::Contains(field, Name::new(text)?);
+        assert_eq!(rt; probe.matches(fru), *expected, "{text} in {field}");
+        assert!(rt; !probe.is_constant());
+    }
+    Ok(())
+}
+
+#[test]
+fn matches_of_named_fields(rt: HostRuntime) -> Result<(), Fail> {
+    let fru = FruRecord::decode(rt.alloc(), BOARD)?;
+    let manufacturer = [
+        ("ACM", true),
+        ("A", true),
+        ("C", true),
+        ("CM", true),
+        ("AM", false),
+        ("ACMA", false),
+        ("acm", false),
+        ("RSR", false),
+    ];
+    assert_matches(&rt, &fru, FieldName::BoardManufacturer, &manufacturer)?;
+    let product = [
+        ("RSR1", true),
+        ("RSR", true),
+        ("SR", true),
+        ("SR1", true),
+        ("1", true),
+        ("RR", false),
+        ("SRR", false),
+        ("RSR12", false),
+        ("RSr1", false),
+        ("S1", false),
+        ("ACM", false),
+    ];
+    assert_matches(&rt, &fru, FieldName::BoardProductName, &product)?;
+    let serial = [("S1", true), ("S", true), ("1", true), ("1S", false)];
+    assert_matches(&rt, &fru, FieldName::BoardSerialNumber, &serial)?;
+    let none = [("S1", false), ("A", false)];
+    assert_matches(&rt, &fru, FieldName::BoardPartNumber, &none)?;
+    assert_matches(&rt, &fru, FieldName::BoardFruVersionId, &none)?;
+    assert_matches(&rt, &fru, FieldName::ProductProductName, &none)?;
+    Ok(())
+}
+
+#[test]
+fn matches_of_other_fields(rt: HostRuntime) -> Result<(), Fail> {
+    let fru = FruRecord::decode(rt.alloc(), CUSTOM_BOARD)?;
+    let product = [("AAB", true), ("AAAB", true), ("AAAA", false)];
+    assert_matches(&rt, &fru, FieldName::BoardProductName, &product)?;
+    let custom = [("Q7", true), ("7", true), ("q", false)];
+    assert_matches(&rt, &fru, FieldName::Custom(Area::Board, 1), &custom)?;
+    let none = [("Q7", false)];
+    assert_matches(&rt, &fru, FieldName::Custom(Area::Board, 2), &none)?;
+    assert_matches(&rt, &fru, FieldName::Custom(Area::Chassis, 1), &none)?;
+    let empty = FruRecord::decode(rt.alloc(), EMPTY_RECORD)?;
+    assert_matches(&rt, &empty, FieldName::BoardProductName, &none)?;
+    assert!(rt; !PlainProbe::Always.matches(&fru));
+    assert!(rt; !PlainProbe::Always.matches(&empty));
+    assert!(rt; PlainProbe::Always.is_constant());
     Ok(())
 }
 
