@@ -1,5 +1,5 @@
 -- The boards of a configuration, where a FRU is put in or taken away.
-use Rattle.std.proofs.Common.{◌≡◌, ◌⊎◌, inl, inr, ℕ, List, [], ◌∷◌, ◌++◌, Bool, true, false, not, cond, ◌&&◌, ◌||◌, Option, Some, None, filter, map, refl, sym, ap, subst, ◌∙◌, append-nil}
+use Rattle.std.proofs.Common.{◌≡◌, ◌⊎◌, inl, inr, ℕ, List, [], ◌∷◌, ◌++◌, Bool, true, false, not, cond, ◌&&◌, ◌||◌, Option, Some, None, filter, map, refl, sym, ap, ◌∙◌, append-nil}
 use Rattle.std.specs.Option.{option_eq}
 use Rattle.std.specs.List.{list_any, list_all, flat_map}
 use Rattle.std.specs.Ordering.{is_lt, is_eq}
@@ -9,9 +9,8 @@ use Rattle.fru_area.specs.declared.name.FieldName.{FieldName}
 use Rattle.cfg_json.specs.declared.probe.PlainProbe.{PlainProbe}
 use Rattle.cfg_json.specs.declared.probe.PlainProbe.TheVariants.{Always, Contains}
 use Rattle.cfg_json.specs.Probes.{matches, value}
-use Rattle.cfg_json.specs.Configs.{Config}
 use Rattle.bmc_machine.specs.Histories.{Fru, fields_of, is_at, is_present, put, without}
-use Rattle.bmc_machine.specs.Boards.{is_visible, is_hit, places_or_none, boards_of, has_board, except}
+use Rattle.bmc_machine.specs.Boards.{is_visible, places_or_none, has_board, except}
 use Rattle.bmc_machine.proofs.SameBoards.{and_both, and_second as and_last, place_itself, place_same, place_cmp_eq, pass_all, except_none}
 
 -- a FRU is visible and matches a probe

@@ -1,11 +1,8 @@
 -- Boards: what the configurations find among the FRUs that are present, and the index that each board keeps.
-use Rattle.std.specs.Prelude.{ℕ, ◌+◌, ◌==◌, Bool, true, false, not, ◌&&◌, ◌||◌, nat_lt, if◌then◌else◌, List, [], ◌∷◌, ◌++◌, length, filter, map, Option, Some, None, option_map, slice_get}
+use Rattle.std.specs.Prelude.{ℕ, ◌+◌, Bool, true, false, not, ◌&&◌, ◌||◌, nat_lt, if◌then◌else◌, List, [], ◌∷◌, ◌++◌, length, filter, map, Option, Some, None, option_map, slice_get}
 use Rattle.std.specs.Option.{option_eq, unwrap_or}
 use Rattle.std.specs.List.{list_any, flat_map, position_or_len, range_with_len}
 use Rattle.bmc_base.specs.Places.{Place, place_eq}
-use Rattle.fru_area.specs.declared.field.Field.{Field}
-use Rattle.fru_area.specs.declared.fault.FruFault.{FruFault}
-use Rattle.fru_record.specs.Records.{record_of}
 use Rattle.cfg_json.specs.Configs.{Config}
 use Rattle.cfg_json.specs.Probes.{matches, value}
 use Rattle.bmc_report.specs.declared.change.Change.{Change}

@@ -1,5 +1,5 @@
 -- The boards at the place of a FRU, by the numbers of their configurations.
-use Rattle.std.proofs.Common.{◌≡◌, ℕ, zero, suc, ◌+◌, ◌<◌, ◌≤◌, List, [], ◌∷◌, ◌++◌, Bool, true, false, not, cond, ◌&&◌, ◌||◌, Option, Some, None, Result, Ok, Err, filter, map, length, refl, sym, ap, ◌∙◌, arith, append-nil, slice_get, option_map}
+use Rattle.std.proofs.Common.{◌≡◌, ℕ, zero, suc, ◌+◌, ◌<◌, ◌≤◌, List, [], ◌∷◌, ◌++◌, Bool, true, false, not, cond, ◌&&◌, ◌||◌, Option, Some, None, Result, Err, filter, map, length, refl, sym, ap, ◌∙◌, arith, append-nil, slice_get, option_map}
 use Rattle.std.specs.Prelude.{◌==◌}
 use Rattle.std.specs.Option.{option_eq, unwrap_or}
 use Rattle.std.specs.List.{list_any, flat_map, position_or_len, range_with_len}

@@ -1,5 +1,5 @@
 -- Lists of boards that are kept, and lines that are gathered, one after another.
-use Rattle.std.proofs.Common.{◌≡◌, ◌≢◌, ℕ, zero, suc, ◌+◌, ◌<◌, ◌≤◌, List, [], ◌∷◌, ◌++◌, Bool, true, false, not, cond, ◌||◌, Option, Some, None, Result, Ok, Err, OnOk, OnErr, IfOk, length, map, take, get_or, position, refl, sym, ap, ◌∙◌, arith, append_assoc, append-nil, add-one, length-append, slice_get, option_map}
+use Rattle.std.proofs.Common.{◌≡◌, ◌≢◌, ℕ, ◌+◌, ◌<◌, ◌≤◌, List, [], ◌∷◌, ◌++◌, Bool, true, false, cond, ◌||◌, Option, Some, None, Result, Ok, Err, OnOk, OnErr, IfOk, length, map, take, get_or, position, refl, sym, ap, ◌∙◌, arith, slice_get, option_map}
 use Rattle.std.specs.Prelude.{◌==◌, nat_lt, slice_set, slice_index_or}
 use Rattle.std.specs.Option.{option_eq, unwrap_or}
 use Rattle.std.specs.List.{list_any, flat_map, position_or_len}

@@ -43,7 +43,6 @@ frus-insert place kept (entry ∷ entries) free = of (place_cmp place entry.0) f
     of Equal f e = absurd (cc)
     of Greater f e = ap (λ (frus : List Fru). fru_of entry ∷ frus) (e f)
 
-
 -- what holds of a FRU at a place, where it is the only one there
 abbrev pub gone_of : Option Entry → Place → (Fru → Bool) → List (Option Place)
 gone_of None place test = []

@@ -1,7 +1,7 @@
 -- What comes of each step, and that all stays kept.
-use Rattle.std.proofs.Common.{◌≡◌, ◌≢◌, ℕ, zero, suc, ◌+◌, ◌<◌, arith, length-append, List, [], ◌∷◌, ◌++◌, Bool, true, false, not, cond, ◌&&◌, ◌||◌, Option, Some, None, Result, Ok, Err, filter, map, length, get_or, refl, sym, ap, subst, ◌∙◌, append-nil}
+use Rattle.std.proofs.Common.{◌≡◌, ℕ, zero, suc, ◌+◌, ◌<◌, arith, length-append, List, [], ◌∷◌, ◌++◌, Bool, true, false, cond, ◌||◌, Option, Some, None, Result, Ok, Err, length, refl, sym, ap, subst, ◌∙◌, append-nil}
 use Rattle.std.specs.Prelude.{◌==◌, is_some, nat_le}
-use Rattle.std.specs.List.{list_any, list_all, flat_map, range_with_len, All}
+use Rattle.std.specs.List.{list_all, flat_map, range_with_len, All}
 use Rattle.std.proofs.lemmas.List.Elements.{All-filter}
 use Rattle.std.proofs.lemmas.List.FromFn.{length-range_with_len, get_or-range_with_len}
 use Rattle.fru_area.specs.Answers.{checked}
@@ -15,24 +15,22 @@ use Rattle.fru_record.specs.Records.{record_of}
 use Rattle.cfg_json.specs.Configs.{Config}
 use Rattle.cfg_json.specs.Shelves.{number_of}
 use Rattle.bmc_report.specs.Changes.{change_line}
-use Rattle.bmc_report.specs.declared.change.Change.{Change}
 use Rattle.bmc_report.specs.declared.change.Change.TheVariants.{Board}
 use Rattle.cfg_json.specs.Probes.{value}
 use Rattle.std.proofs.lemmas.Bool.Decides.{nat_tests}
 use Rattle.bmc_report.specs.declared.refusal.Refusal.{Refusal}
-use Rattle.bmc_report.specs.declared.refusal.Refusal.TheVariants.{Occupied, NotPresent, ConfigAfterPlug, DuplicateName, ConfigLimit}
-use Rattle.bmc_machine.specs.Histories.{Step, Configure, Plug, Unplug, Fru, Standing, is_present, put, without, broken_rule, refusal_of}
+use Rattle.bmc_report.specs.declared.refusal.Refusal.TheVariants.{Occupied, NotPresent, DuplicateName, ConfigLimit}
+use Rattle.bmc_machine.specs.Histories.{Step, Configure, Plug, Unplug, Fru, is_present, put, without, broken_rule, refusal_of}
 use Rattle.bmc_machine.specs.Boards.{boards, is_hit_of, has_board}
-use Rattle.bmc_machine.specs.Runs.{Outcome, judged, Accepted}
+use Rattle.bmc_machine.specs.Runs.{judged}
 use Rattle.bmc_machine.proofs.Changed.{standing_of}
-use Rattle.bmc_machine.proofs.Found.{gone_one}
 use Rattle.bmc_machine.proofs.SameBoards.{all_pass, pass_all, except_none, kept_all}
 use Rattle.bmc_replay.specs.declared.present.Entry.{Entry}
 use Rattle.bmc_replay.specs.Kept.{View, AreKept, IsMoved, fru_of, frus_of, hits_of, kept_of, kept_after, kept_with, board_at, first_kept, first_text, view_changes}
 use Rattle.bmc_replay.specs.Steps.{Comes, view_step}
-use Rattle.bmc_replay.proofs.KeptFrus.{is_some-lookup, frus-insert, frus-remove, gone_of, gone_found, HaveHits, hits-insert, hits-remove, hits-found}
+use Rattle.bmc_replay.proofs.KeptFrus.{is_some-lookup, frus-insert, frus-remove, gone_of, gone_found, hits-insert, hits-remove, hits-found}
 use Rattle.bmc_replay.proofs.Hits.{flat_map_map}
-use Rattle.bmc_replay.proofs.ViewChanges.{plug_kept, plug_changes, unplug_kept, unplug_changes, first_change, configure_kept, configure_changes}
+use Rattle.bmc_replay.proofs.ViewChanges.{plug_kept, plug_changes, unplug_kept, unplug_changes, configure_kept, configure_changes}
 
 -- what is seen of a state
 abbrev pub view_of : List Config → List (Place × Entry) → Bool → List (List (Option Place)) → View
@@ -61,9 +59,9 @@ module _ (configs : List Config) (entries : List (Place × Entry)) (was : Bool) 
       (ap (λ (b : Bool). cond b (Some Occupied) (broken_rule (record_of kept.bytes))) free ∙ whole)
       (record { now = ap (standing_of configs true) put_in; kept = plugged_after })
       (printed ∙ ap (λ (t : List ℕ). text ++ t) (
-        ap (flat_map (λ hit. change_line 0 (board_at false configs (kept_of lists) place hit))) hits
-        ∙ sym (flat_map_map (change_line 0) (board_at false configs (kept_of lists) place) (hits_of configs (fru_of (place, kept))))
-        ∙ ap (flat_map (change_line 0)) (sym (plug_changes configs was true (fru_of (place, kept)) (frus_of entries) (kept_of lists) free state.boards))))
+      ap (flat_map (λ hit. change_line 0 (board_at false configs (kept_of lists) place hit))) hits
+      ∙ sym (flat_map_map (change_line 0) (board_at false configs (kept_of lists) place) (hits_of configs (fru_of (place, kept))))
+      ∙ ap (flat_map (change_line 0)) (sym (plug_changes configs was true (fru_of (place, kept)) (frus_of entries) (kept_of lists) free state.boards))))
 
   pub plugged_kept : length lists' ≡ length lists → AreKept configs (insert_entry place_cmp entries place kept) true lists'
   plugged_kept many = record {
@@ -96,9 +94,9 @@ module _ (configs : List Config) (entries : List (Place × Entry)) (was : Bool) 
       (ap (λ (b : Bool). cond b None (Some NotPresent)) was_present)
       (record { now = ap (standing_of configs was) taken_out; kept = unplugged_after })
       (printed ∙ ap (λ (t : List ℕ). text ++ t) (
-        ap (flat_map (λ hit. change_line 0 (board_at true configs (kept_of lists) place hit))) own_hits
-        ∙ sym (flat_map_map (change_line 0) (board_at true configs (kept_of lists) place) (hits_of configs (fru_of (place, kept))))
-        ∙ ap (flat_map (change_line 0)) (sym (unplug_changes configs was place (fru_of (place, kept)) (frus_of entries) (kept_of lists) state.boards (λ test. gone_found place test entries gone ∙ ap (λ (o : Option Entry). gone_of o place test) found)))))
+      ap (flat_map (λ hit. change_line 0 (board_at true configs (kept_of lists) place hit))) own_hits
+      ∙ sym (flat_map_map (change_line 0) (board_at true configs (kept_of lists) place) (hits_of configs (fru_of (place, kept))))
+      ∙ ap (flat_map (change_line 0)) (sym (unplug_changes configs was place (fru_of (place, kept)) (frus_of entries) (kept_of lists) state.boards (λ test. gone_found place test entries gone ∙ ap (λ (o : Option Entry). gone_of o place test) found)))))
 
   still_plugged : (b : Bool) → (b || (length entries == 0)) ≡ true → (b || (length (remove_entry (is_key (place_cmp place)) entries) == 0)) ≡ true
   still_plugged true h = refl

@@ -1,22 +1,21 @@
 -- The changes of a step, by what is kept.
-use Rattle.std.proofs.Common.{◌≡◌, ℕ, zero, suc, ◌+◌, ◌<◌, arith, add-one, add-zero, length-append, List, [], ◌∷◌, ◌++◌, Bool, true, false, not, cond, ◌&&◌, ◌||◌, Option, Some, None, filter, map, length, refl, sym, ap, ◌∙◌, append-nil, option_map, slice_get}
+use Rattle.std.proofs.Common.{◌≡◌, ℕ, zero, suc, ◌+◌, ◌<◌, arith, add-one, add-zero, length-append, List, [], ◌∷◌, ◌++◌, Bool, true, false, not, cond, Option, Some, None, map, length, refl, sym, ap, ◌∙◌, append-nil, option_map, slice_get}
 use Rattle.std.specs.Prelude.{◌==◌}
 use Rattle.std.specs.Option.{unwrap_or}
-use Rattle.std.specs.List.{list_any, list_all, flat_map, range_with_len}
+use Rattle.std.specs.List.{list_all, flat_map, range_with_len}
 use Rattle.std.proofs.lemmas.Bool.{eq-eqb, eqb-true}
 use Rattle.std.proofs.lemmas.Bool.Decides.{nat_tests}
 use Rattle.bmc_base.specs.Places.{Place}
 use Rattle.cfg_json.specs.Configs.{Config}
 use Rattle.cfg_json.specs.Probes.{value}
-use Rattle.bmc_report.specs.Changes.{change_line}
 use Rattle.bmc_report.specs.declared.change.Change.{Change}
 use Rattle.bmc_report.specs.declared.change.Change.TheVariants.{Board}
 use Rattle.bmc_machine.specs.Histories.{Fru, Standing, is_present, put, without}
 use Rattle.bmc_machine.specs.Boards.{boards, is_hit_of, has_board, except, index_in, name_of, boards_left, changes_between}
 use Rattle.bmc_machine.proofs.SameBoards.{all_pass, pass_all, except_none}
-use Rattle.bmc_machine.proofs.Found.{place_of_fru, one, gone_one}
+use Rattle.bmc_machine.proofs.Found.{gone_one}
 use Rattle.bmc_machine.proofs.Changed.{standing_of, get_more, more_boards, no_boards_yet, plug_new, plug_stays, none_there, unplug_stood, unplug_gone}
-use Rattle.bmc_replay.specs.Kept.{hits_of, kept_after, kept_with, with_board, board_at, first_kept, first_text}
+use Rattle.bmc_replay.specs.Kept.{hits_of, kept_after, kept_with, with_board, board_at, first_kept}
 use Rattle.bmc_replay.proofs.Hits.{flat_map_hits, flat_map_none, any_hits, index_with, with_board_is}
 
 -- all boards of a list stand in it
@@ -52,7 +51,7 @@ plug_changes configs was is fru frus kept absent all =
     new number =
         ap (map (λ place. Board false (name_of configs number) (index_in (kept_after kept (standing_of configs is (put fru frus)) number) place) place))
         (plug_new configs was is fru frus (has_board (boards (standing_of configs was frus) number)) number (all_there (boards (standing_of configs was frus) number))
-         ∙ ap (λ (b : Bool). cond (is_hit_of configs fru number) (cond (not b) (Some fru.place ∷ []) []) []) (none_there configs was frus fru.place number absent))
+        ∙ ap (λ (b : Bool). cond (is_hit_of configs fru number) (cond (not b) (Some fru.place ∷ []) []) []) (none_there configs was frus fru.place number absent))
         ∙ of (is_hit_of configs fru number) refl
       where
         of : (b : Bool) → is_hit_of configs fru number ≡ b → map (λ place. Board false (name_of configs number) (index_in (kept_after kept (standing_of configs is (put fru frus)) number) place) place) (cond b (Some fru.place ∷ []) []) ≡ cond b (board_at false configs kept fru.place number ∷ []) []
@@ -102,8 +101,8 @@ only_last f from zero none = append-nil (f from) ∙ ap f (sym (add-zero from))
 only_last f from (suc count) none =
     rw add-one
     (ap (λ (l : List Change). l ++ flat_map f (range_with_len (from + 1) (suc count))) (none from (omega arith))
-     ∙ ap (λ n. flat_map f (range_with_len (from + 1) n)) (let e : suc count ≡ count + 1 = omega arith in e)
-     ∙ only_last f (from + 1) count (λ n h. none n (omega (arith, h))) ∙ ap f (omega arith))
+    ∙ ap (λ n. flat_map f (range_with_len (from + 1) n)) (let e : suc count ≡ count + 1 = omega arith in e)
+    ∙ only_last f (from + 1) count (λ n h. none n (omega (arith, h))) ∙ ap f (omega arith))
 
 -- the change of a configuration that is always found
 abbrev pub first_change : Config → List Change
@@ -129,7 +128,7 @@ none_comes : (configs : List Config) (config : Config) (plugged : Bool) (kept : 
 none_comes configs config plugged kept n h =
     ap (map (λ place. Board false (name_of (configs ++ config ∷ []) n) (index_in (kept_after kept (behind configs config plugged) n) place) place))
     (ap (except (has_board (boards (before configs plugged) n))) (more_boards configs config plugged n ∙ ap (λ (b : Bool). cond b (first_kept config) (boards (before configs plugged) n)) h)
-     ∙ except_none (has_board (boards (before configs plugged) n)) (boards (before configs plugged) n) (all_there (boards (before configs plugged) n)))
+    ∙ except_none (has_board (boards (before configs plugged) n)) (boards (before configs plugged) n) (all_there (boards (before configs plugged) n)))
 
 -- and its own has the first index
 first_comes : (always : Bool) (name : List ℕ) → map (λ place. Board false name (index_in ([] ++ except (has_board []) (cond always (None ∷ []) [])) place) place) (except (has_board []) (cond always (None ∷ []) [])) ≡ cond always (Board false name 1 None ∷ []) []

@@ -5,7 +5,7 @@ use Rattle.bmc_text.specs.Items.{Item}
 use Rattle.bmc_report.specs.Refusals.{refused_line}
 use Rattle.bmc_report.specs.declared.refusal.Refusal.{Refusal}
 use Rattle.bmc_report.specs.Changes.{change_line}
-use Rattle.bmc_machine.specs.Histories.{Step, Standing}
+use Rattle.bmc_machine.specs.Histories.{Step}
 use Rattle.bmc_machine.specs.Runs.{Outcome, Nothing, Accepted, Refused, step_outcome, item_outcome, outcome_text, is_refused}
 use Rattle.bmc_replay.specs.Kept.{View, IsMoved, view_changes}
 use Rattle.bmc_replay.specs.declared.run.Run.{Run}

@@ -45,11 +45,7 @@ pub fn find_hits(
 }
 
 // The numbers of the configurations whose pattern a record matches.
-fn find_matches(
-    alloc: Global,
-    configs: &Shelf,
-    fru: &FruRecord,
-) -> Result<Vec<usize>, OutOfMemory>
+fn find_matches(alloc: Global, configs: &Shelf, fru: &FruRecord) -> Result<Vec<usize>, OutOfMemory>
     ensures { IfOk result (λ hits. hits.items ≡ filter (λ number. unwrap_or (option_map (λ config. matches config.probe fru.now) (slice_get configs.now number)) false) (range_with_len 0 (length configs.now))) }
 {
     let hits = (0..configs.len())

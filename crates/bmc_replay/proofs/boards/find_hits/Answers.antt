@@ -1,4 +1,4 @@
-use Rattle.std.proofs.Common.{◌≡◌, ◌∙◌, sym, ap, false, arith}
+use Rattle.std.proofs.Common.{◌≡◌, ◌∙◌, sym, false, arith}
 use Rattle.std.specs.Prelude.{nat_lt}
 use Rattle.std.proofs.lemmas.Bool.Decides.{nat_tests}
 use Rattle.bmc_replay.proofs.Hits.{hidden_hits, broken_hits, broken_by}

@@ -1,5 +1,5 @@
-use Rattle.std.proofs.Common.{◌<◌, ◌∙◌, ap, arith, length, slice_index_or, length-set}
-use Rattle.bmc_replay.proofs.Keeping.{kept_more, kept_stays}
+use Rattle.std.proofs.Common.{◌∙◌, ap, arith, length, length-set}
+use Rattle.bmc_replay.proofs.Keeping.{kept_more}
 use Rattle.bmc_replay.proofs.boards.keep_boards.Goals as goal
 
 pub keep-requires : goal.keep-requires

@@ -1,9 +1,9 @@
-use Rattle.std.proofs.Common.{◌≡◌, ◌++◌, ◌∷◌, ◌∙◌, [], ℕ, List, Bool, Option, None, false, arith, sym, ap, subst, length, string_bytes}
+use Rattle.std.proofs.Common.{◌≡◌, ◌∙◌, Bool, None, false, arith, sym, ap, subst, length, string_bytes}
 use Rattle.std.specs.Prelude.{nat_le, is_some}
 use Rattle.std.proofs.lemmas.Bool.Decides.{nat_tests}
 use Rattle.cfg_json.specs.Shelves.{number_of}
 use Rattle.bmc_machine.specs.Histories.{Configure}
-use Rattle.bmc_replay.specs.Kept.{View, AreKept, first_kept}
+use Rattle.bmc_replay.specs.Kept.{View, AreKept}
 use Rattle.bmc_replay.specs.Steps.{Comes, view_step}
 use Rattle.bmc_replay.proofs.States.{view_of, not_some, configured_comes, configured_kept}
 use Rattle.bmc_replay.proofs.state.State.configure.Goals as goal

@@ -1,12 +1,9 @@
-use Rattle.std.proofs.Common.{◌≡◌, ◌++◌, ◌∙◌, ℕ, List, Option, None, false, true, arith, sym, ap, subst, string_bytes}
+use Rattle.std.proofs.Common.{◌≡◌, ◌++◌, ◌∙◌, ℕ, List, None, false, true, arith, sym, ap, subst, string_bytes}
 use Rattle.std.specs.List.{flat_map}
-use Rattle.bmc_base.specs.Places.{Place, place_cmp}
-use Rattle.std.specs.BTreeMap.{insert_entry}
 use Rattle.bmc_report.specs.Changes.{change_line}
 use Rattle.fru_record.specs.Records.{record_of}
 use Rattle.bmc_machine.specs.Histories.{Plug, broken_rule}
-use Rattle.bmc_replay.specs.declared.present.Entry.{Entry}
-use Rattle.bmc_replay.specs.Kept.{View, AreKept, hits_of, kept_of, kept_with, board_at}
+use Rattle.bmc_replay.specs.Kept.{View, hits_of, kept_of, kept_with, board_at}
 use Rattle.bmc_replay.specs.Steps.{Comes, view_step}
 use Rattle.bmc_replay.proofs.States.{view_of, hits_within, more_kept, checked_whole, plugged_comes, plugged_kept}
 use Rattle.bmc_replay.proofs.state.State.plug.Goals as goal
@@ -31,15 +28,15 @@ invariant_of-self-2 c =
     let hits : c.in_ok-hits.hits.items ≡ hits_of c.self.inside.configs (record { place = c.args.place; bytes = c.args.bytes }) = c.in_ok-hits.ensures ∙ ap (λ (bytes : List ℕ). hits_of c.self.inside.configs (record { place = c.args.place; bytes = bytes })) c.as_slice-2.ensures in
     rw c.in_ok-put_in.ensures.ok
     (plugged_kept c.self.inside.configs c.self.inside.frus.entries c.self.inside.plugged c.self.inside.kept c.keep_boards.new.kept c.args.place (record { bytes = c.args.bytes; hits = c.in_ok-hits.hits }) c.self.invariant (sym c.if-has.ensures) hits
-     (λ number. c.in_ok-keep_boards.ensures.kept number ∙ ap (λ (hits : List ℕ). kept_with hits c.args.place (kept_of c.self.inside.kept) number) c.deref-2.ensures.value) c.in_ok-keep_boards.ensures.many)
+    (λ number. c.in_ok-keep_boards.ensures.kept number ∙ ap (λ (hits : List ℕ). kept_with hits c.args.place (kept_of c.self.inside.kept) number) c.deref-2.ensures.value) c.in_ok-keep_boards.ensures.many)
 
 pub returns : goal.returns
 returns c =
     let hits : c.in_ok-hits.hits.items ≡ hits_of c.self.inside.configs (record { place = c.args.place; bytes = c.args.bytes }) = c.in_ok-hits.ensures ∙ ap (λ (bytes : List ℕ). hits_of c.self.inside.configs (record { place = c.args.place; bytes = bytes })) c.as_slice-2.ensures in
     let whole : broken_rule (record_of c.args.bytes) ≡ None = ap (λ (bytes : List ℕ). broken_rule (record_of bytes)) (sym c.as_slice.ensures) ∙ checked_whole _ _ c.in_default.ensures in
     let comes = plugged_comes c.self.inside.configs c.self.inside.frus.entries c.self.inside.plugged c.self.inside.kept c.keep_boards.new.kept c.args.place (record { bytes = c.args.bytes; hits = c.in_ok-hits.hits }) c.self.invariant (sym c.if-has.ensures) hits
-        (λ number. c.in_ok-keep_boards.ensures.kept number ∙ ap (λ (hits : List ℕ). kept_with hits c.args.place (kept_of c.self.inside.kept) number) c.deref-2.ensures.value)
-        (string_bytes c.args.text.now) (string_bytes c.push_boards.new.text) whole
-        (c.in_ok-push_boards.ensures ∙ ap (λ (hits : List ℕ). string_bytes c.args.text.now ++ flat_map (λ hit. change_line 0 (board_at false c.self.inside.configs (kept_of c.self.inside.kept) c.args.place hit)) hits) c.deref.ensures.value) in
+    (λ number. c.in_ok-keep_boards.ensures.kept number ∙ ap (λ (hits : List ℕ). kept_with hits c.args.place (kept_of c.self.inside.kept) number) c.deref-2.ensures.value)
+    (string_bytes c.args.text.now) (string_bytes c.push_boards.new.text) whole
+    (c.in_ok-push_boards.ensures ∙ ap (λ (hits : List ℕ). string_bytes c.args.text.now ++ flat_map (λ hit. change_line 0 (board_at false c.self.inside.configs (kept_of c.self.inside.kept) c.args.place hit)) hits) c.deref.ensures.value) in
     subst (λ (view : View). Comes (view_step view (Plug c.args.place c.args.bytes)) None view (view_of c.self.inside.configs c.put_in.new.frus.entries true c.keep_boards.new.kept) (string_bytes c.args.text.now) (string_bytes c.push_boards.new.text)) c.self.view_is
     (rw c.in_ok-put_in.ensures.ok comes)

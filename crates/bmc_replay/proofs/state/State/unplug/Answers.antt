@@ -1,13 +1,11 @@
-use Rattle.std.proofs.Common.{◌≡◌, ◌++◌, ◌∙◌, ℕ, List, Option, None, Some, true, false, sym, ap, subst, string_bytes}
+use Rattle.std.proofs.Common.{◌++◌, ◌∙◌, ℕ, List, None, Some, true, sym, ap, subst, string_bytes}
 use Rattle.std.specs.List.{flat_map}
-use Rattle.std.specs.Map.{lookup, remove_entry}
-use Rattle.std.specs.BTreeMap.{is_at as is_key}
-use Rattle.bmc_base.specs.Places.{Place, place_cmp}
+use Rattle.bmc_base.specs.Places.{Place}
 use Rattle.bmc_report.specs.Changes.{change_line}
 use Rattle.bmc_report.specs.declared.refusal.Refusal.TheVariants.{NotPresent}
 use Rattle.bmc_machine.specs.Histories.{Unplug, is_present}
 use Rattle.bmc_replay.specs.declared.present.Entry.{Entry}
-use Rattle.bmc_replay.specs.Kept.{View, AreKept, frus_of, kept_of, board_at}
+use Rattle.bmc_replay.specs.Kept.{View, frus_of, kept_of, board_at}
 use Rattle.bmc_replay.specs.Steps.{Comes, view_step}
 use Rattle.bmc_replay.proofs.KeptFrus.{remove_none}
 use Rattle.bmc_replay.proofs.States.{view_of, hits_within, own_hits, unplugged_comes, unplugged_kept, not_present}
@@ -42,6 +40,6 @@ pub returns : goal.returns
 returns c =
     let gone = sym (ap (λ (entries : List (Place × Entry)). is_present (frus_of entries) c.args.place) c.in-Some.ensures.left) ∙ c.in-Some.ensures.gone in
     let comes = unplugged_comes c.self.inside.configs c.self.inside.frus.entries c.self.inside.plugged c.self.inside.kept c.args.place c.in-Some.entry c.self.invariant (sym c.in-Some.ensures.found) gone (string_bytes c.args.text.now) (string_bytes c.push_boards.new.text)
-        (c.in_ok-push_boards.ensures ∙ ap (λ (hits : List ℕ). string_bytes c.args.text.now ++ flat_map (λ hit. change_line 0 (board_at true c.self.inside.configs (kept_of c.self.inside.kept) c.args.place hit)) hits) c.deref.ensures.value) in
+    (c.in_ok-push_boards.ensures ∙ ap (λ (hits : List ℕ). string_bytes c.args.text.now ++ flat_map (λ hit. change_line 0 (board_at true c.self.inside.configs (kept_of c.self.inside.kept) c.args.place hit)) hits) c.deref.ensures.value) in
     subst (λ (view : View). Comes (view_step view (Unplug c.args.place)) None view (view_of c.self.inside.configs c.take_out.new.frus.entries c.self.inside.plugged c.self.inside.kept) (string_bytes c.args.text.now) (string_bytes c.push_boards.new.text)) c.self.view_is
     (rw c.in-Some.ensures.left comes)
