@@ -1,7 +1,9 @@
 use crate::{Change, Refusal, push_change, push_fru_row, push_refused_line};
 use bmc_base::{Name, Place};
 use fru_area::{Area, Field, FieldName, FieldText, FruFault};
+use std::alloc::Global;
 use std::fmt::Write;
+use std::process::Abort;
 use std::test::Fail;
 
 #[test]
@@ -73,6 +75,18 @@ fn rows_of_frus(rt: HostRuntime) -> Result<(), Fail> {
     Ok(())
 }
 
+// A change is printed as this text at each tick.
+fn assert_printed(rt: &impl Abort, alloc: Global, change: &Change, text: &str) -> Result<(), Fail> {
+    for tick in ["0", "18446744073709551615"] {
+        let mut out = String::from_str(alloc, "before")?;
+        push_change(&mut out, tick.parse::<u64>()?, change)?;
+        let mut line = String::new(alloc);
+        write!(line, "before{tick} {text}\n")?;
+        assert_eq!(rt; out.as_str(), line.as_str());
+    }
+    Ok(())
+}
+
 #[test]
 fn lines_of_changes(rt: HostRuntime) -> Result<(), Fail> {
     let rows = [
@@ -103,20 +117,13 @@ fn lines_of_changes(rt: HostRuntime) -> Result<(), Fail> {
         (false, "\u{e9}", 1, None, "new board \"\u{e9}\" 1"),
     ];
     for (gone, name, index, place, text) in rows {
-        for tick in ["0", "18446744073709551615"] {
-            let mut out = String::from_str(rt.alloc(), "before")?;
-            let name = Name::new(name)?;
-            let change = Change::Board {
-                gone,
-                name,
-                index,
-                place,
-            };
-            push_change(&mut out, tick.parse::<u64>()?, &change)?;
-            let mut line = String::new(rt.alloc());
-            write!(line, "before{tick} {text}\n")?;
-            assert_eq!(rt; out.as_str(), line.as_str());
-        }
+        let change = Change::Board {
+            gone,
+            name: Name::new(name)?,
+            index,
+            place,
+        };
+        assert_printed(&rt, rt.alloc(), &change, text)?;
     }
     Ok(())
 }

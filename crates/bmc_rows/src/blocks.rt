@@ -276,50 +276,52 @@ fn spaced(alloc: Global, size: usize, given: usize) -> Result<String, OutOfMemor
     Ok(script)
 }
 
+// The size that is asked for, that of the block, what comes behind it, whether the run ends with Done, and
+// what is printed.
+const LONG: [(usize, usize, &str, bool, &str); 8] = [
+    (262_144, 262_144, "", true, "0 new board \"A\" 1\n"),
+    (262_144, 262_144, "\n", true, "0 new board \"A\" 1\n"),
+    (
+        262_144,
+        262_144,
+        "\njump",
+        false,
+        "0 new board \"A\" 1\nline 2 refused UnknownCommand\n",
+    ),
+    (
+        262_144,
+        262_144,
+        "\r\njump",
+        false,
+        "0 new board \"A\" 1\nline 3 refused UnknownCommand\n",
+    ),
+    (262_144, 262_143, "", false, "line 1 refused ConfigShort\n"),
+    (
+        262_145,
+        262_145,
+        "\njump",
+        false,
+        "line 1 refused ConfigTooLong\nline 2 refused UnknownCommand\n",
+    ),
+    (
+        262_145,
+        262_145,
+        "jump",
+        false,
+        "line 1 refused ConfigTooLong\nline 2 refused UnknownCommand\n",
+    ),
+    (
+        262_145,
+        262_144,
+        "",
+        false,
+        "line 1 refused ConfigTooLong\n",
+    ),
+];
+
 #[test]
 fn long_blocks(rt: HostRuntime) -> Result<(), Fail> {
-    // the size that is asked for, that of the block, what comes behind it, and what is printed
-    let rows = [
-        (262_144, 262_144, "", true, "0 new board \"A\" 1\n"),
-        (262_144, 262_144, "\n", true, "0 new board \"A\" 1\n"),
-        (
-            262_144,
-            262_144,
-            "\njump",
-            false,
-            "0 new board \"A\" 1\nline 2 refused UnknownCommand\n",
-        ),
-        (
-            262_144,
-            262_144,
-            "\r\njump",
-            false,
-            "0 new board \"A\" 1\nline 3 refused UnknownCommand\n",
-        ),
-        (262_144, 262_143, "", false, "line 1 refused ConfigShort\n"),
-        (
-            262_145,
-            262_145,
-            "\njump",
-            false,
-            "line 1 refused ConfigTooLong\nline 2 refused UnknownCommand\n",
-        ),
-        (
-            262_145,
-            262_145,
-            "jump",
-            false,
-            "line 1 refused ConfigTooLong\nline 2 refused UnknownCommand\n",
-        ),
-        (
-            262_145,
-            262_144,
-            "",
-            false,
-            "line 1 refused ConfigTooLong\n",
-        ),
-    ];
-    for (size, given, rest, is_done, text) in rows {
+    for (size, given, rest, is_done, text) in LONG {
         let mut script = spaced(rt.alloc(), size, given)?;
         script.push_str(rest)?;
         all_pieces(&rt, rt.alloc(), script.as_str(), is_done, text)?;

@@ -52,60 +52,64 @@ fn accepted_lines(rt: HostRuntime) -> Result<(), Fail> {
     all_give(&rt, rt.alloc(), &plugged, Status::Done, "fru 1 80$\n")
 }
 
+// Lines that take away what is not there.
+const ABSENT_FRUS: [&str; 7] = [
+    "unplug 1 80",
+    "unplug 1 80\n",
+    "unplug 1 80\r\n",
+    "unplug 1 080\n",
+    "unplug 000000001 000000080\n",
+    "unplug 0 0\n",
+    "unplug 255 127\n",
+];
+
+// Lines that are no command in its form.
+const UNKNOWN_LINES: [&str; 39] = [
+    "unplug 1 80\r\r\n",
+    "unplug 0000000001 80\n",
+    "unplug 1 0000000080\n",
+    "unplug 4294967297 80\n",
+    "unplug 256 80\n",
+    "unplug 1 128\n",
+    "unplug  1 80\n",
+    "unplug 1  80\n",
+    " unplug 1 80\n",
+    "unplug 1 80 \n",
+    "unplug 1 80 00\n",
+    "unplug\t1 80\n",
+    "unplug 1\t80\n",
+    "unplug +1 80\n",
+    "unplug 1: 80\n",
+    "unplug 1 /0\n",
+    "unplug  80\n",
+    "unplug 1 \n",
+    "unplug 1\n",
+    "unplug\n",
+    "UNPLUG 1 80\n",
+    "plug 1 80 $0\n",
+    "plug 1 80 $0G\n",
+    "plug 1 80 $ \n",
+    "plug 1 80  $\n",
+    "plug  1 80 $\n",
+    " plug 1 80 $\n",
+    "plug 1 80 0x$\n",
+    "plug 1 80 \u{e9}\n",
+    "plug 1 80 \n",
+    "plug 1 80\n",
+    "plug 1 $\n",
+    "plug\n",
+    "PLUG 1 80 $\n",
+    "jump\n",
+    " # comment\n",
+    "   \n",
+    "\r\r\n",
+    "\0\n",
+];
+
 #[test]
 fn refused_lines(rt: HostRuntime) -> Result<(), Fail> {
-    let absent = [
-        "unplug 1 80",
-        "unplug 1 80\n",
-        "unplug 1 80\r\n",
-        "unplug 1 080\n",
-        "unplug 000000001 000000080\n",
-        "unplug 0 0\n",
-        "unplug 255 127\n",
-    ];
-    all_give(&rt, rt.alloc(), &absent, Status::Refused, ABSENT)?;
-    let unknown = [
-        "unplug 1 80\r\r\n",
-        "unplug 0000000001 80\n",
-        "unplug 1 0000000080\n",
-        "unplug 4294967297 80\n",
-        "unplug 256 80\n",
-        "unplug 1 128\n",
-        "unplug  1 80\n",
-        "unplug 1  80\n",
-        " unplug 1 80\n",
-        "unplug 1 80 \n",
-        "unplug 1 80 00\n",
-        "unplug\t1 80\n",
-        "unplug 1\t80\n",
-        "unplug +1 80\n",
-        "unplug 1: 80\n",
-        "unplug 1 /0\n",
-        "unplug  80\n",
-        "unplug 1 \n",
-        "unplug 1\n",
-        "unplug\n",
-        "UNPLUG 1 80\n",
-        "plug 1 80 $0\n",
-        "plug 1 80 $0G\n",
-        "plug 1 80 $ \n",
-        "plug 1 80  $\n",
-        "plug  1 80 $\n",
-        " plug 1 80 $\n",
-        "plug 1 80 0x$\n",
-        "plug 1 80 \u{e9}\n",
-        "plug 1 80 \n",
-        "plug 1 80\n",
-        "plug 1 $\n",
-        "plug\n",
-        "PLUG 1 80 $\n",
-        "jump\n",
-        " # comment\n",
-        "   \n",
-        "\r\r\n",
-        "\0\n",
-    ];
-    all_give(&rt, rt.alloc(), &unknown, Status::Refused, UNKNOWN)
+    all_give(&rt, rt.alloc(), &ABSENT_FRUS, Status::Refused, ABSENT)?;
+    all_give(&rt, rt.alloc(), &UNKNOWN_LINES, Status::Refused, UNKNOWN)
 }
 
 #[test]

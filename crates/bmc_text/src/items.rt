@@ -212,43 +212,45 @@ mod tests {
         Ok(text)
     }
 
+    // A script, and all that comes of it.
+    const CASES: [(&str, &str); 32] = [
+        ("", "$$"),
+        ("a\nconfig 5\nabcde\nb\n", "a|[abcde]b|$$"),
+        ("config 5\nabcdeb\n", "[abcde]b|$$"),
+        ("config 5\nabcde\r\nb\n", "[abcde]|b|$$"),
+        ("config 5\nabcde", "[abcde]$$"),
+        ("config 5\nabcde\n", "[abcde]$$"),
+        ("config 5\nabcde\n\nb", "[abcde]|b|$$"),
+        ("config 0\n\nb", "[]b|$$"),
+        ("config 0\nb\n", "[]b|$$"),
+        ("config 0\n", "[]$$"),
+        ("config 0", "[]$$"),
+        ("config 5\nabcd", "~$$"),
+        ("config 5\n", "~$$"),
+        ("config 5", "~$$"),
+        ("config 5\r\nabcde\r", "[abcde]|$$"),
+        ("config 000000005\nabcde\n", "[abcde]$$"),
+        ("config 5\nab\ncd\nb", "[ab\ncd]b|$$"),
+        ("config 9\nconfig 1\n\nb", "[config 1\n]b|$$"),
+        ("config 1\na\nconfig 1\nb\n", "[a][b]$$"),
+        ("config 262145\nabc", "^$$"),
+        ("config 999999999\nabc\n", "^$$"),
+        ("config 262145", "^$$"),
+        ("config\na", "config|a|$$"),
+        ("config x\na", "config x|a|$$"),
+        ("config 5 5\na", "config 5 5|a|$$"),
+        ("config 0000000005\na", "config 0000000005|a|$$"),
+        ("config  5\na", "config  5|a|$$"),
+        ("config 5 \na", "config 5 |a|$$"),
+        ("config +5\na", "config +5|a|$$"),
+        ("config5\na", "config5|a|$$"),
+        ("Config 5\na", "Config 5|a|$$"),
+        (" config 5\na", " config 5|a|$$"),
+    ];
+
     #[test]
     fn takes_lines_and_blocks(rt: HostRuntime) -> Result<(), Fail> {
-        let cases = [
-            ("", "$$"),
-            ("a\nconfig 5\nabcde\nb\n", "a|[abcde]b|$$"),
-            ("config 5\nabcdeb\n", "[abcde]b|$$"),
-            ("config 5\nabcde\r\nb\n", "[abcde]|b|$$"),
-            ("config 5\nabcde", "[abcde]$$"),
-            ("config 5\nabcde\n", "[abcde]$$"),
-            ("config 5\nabcde\n\nb", "[abcde]|b|$$"),
-            ("config 0\n\nb", "[]b|$$"),
-            ("config 0\nb\n", "[]b|$$"),
-            ("config 0\n", "[]$$"),
-            ("config 0", "[]$$"),
-            ("config 5\nabcd", "~$$"),
-            ("config 5\n", "~$$"),
-            ("config 5", "~$$"),
-            ("config 5\r\nabcde\r", "[abcde]|$$"),
-            ("config 000000005\nabcde\n", "[abcde]$$"),
-            ("config 5\nab\ncd\nb", "[ab\ncd]b|$$"),
-            ("config 9\nconfig 1\n\nb", "[config 1\n]b|$$"),
-            ("config 1\na\nconfig 1\nb\n", "[a][b]$$"),
-            ("config 262145\nabc", "^$$"),
-            ("config 999999999\nabc\n", "^$$"),
-            ("config 262145", "^$$"),
-            ("config\na", "config|a|$$"),
-            ("config x\na", "config x|a|$$"),
-            ("config 5 5\na", "config 5 5|a|$$"),
-            ("config 0000000005\na", "config 0000000005|a|$$"),
-            ("config  5\na", "config  5|a|$$"),
-            ("config 5 \na", "config 5 |a|$$"),
-            ("config +5\na", "config +5|a|$$"),
-            ("config5\na", "config5|a|$$"),
-            ("Config 5\na", "Config 5|a|$$"),
-            (" config 5\na", " config 5|a|$$"),
-        ];
-        for (script, want) in cases {
+        for (script, want) in CASES {
             for size in 1..=32 {
                 for buffered in [false, true] {
                     let mut source = Pieces::new(script.as_bytes(), size, u64::MAX);
