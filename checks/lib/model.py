@@ -46,7 +46,7 @@ class Members(list):
 
 class Machine:
     """What stands: the FRUs that are present by place, the name of each configuration with what its probe looks
-    for, and whether a FRU was plugged. And for each configuration the places of all boards it ever had."""
+    for, and whether a FRU was plugged. And for each configuration the indexes of all boards it ever had, by place."""
 
     def __init__(self):
         self.present, self.configs, self.plugged = {}, [], False
@@ -146,7 +146,7 @@ def fields_of(record):
         for number, (kind, data) in enumerate(fields_from(found[begin:-1], area)):
             name = names[number] if number < len(names) else f"INFO_AM{number - len(names) + 1}"
             named.append((f"{front}_{name}", text_of(kind, data, language)))
-    return named
+    return dict(named)
 
 
 def quoted(text):
@@ -157,7 +157,7 @@ def quoted(text):
 
 def row(place, fields):
     """The line of a FRU in the final list."""
-    return " ".join([f"fru {place[0]} {place[1]}"] + [f"{name}={quoted(text)}" for name, text in fields])
+    return " ".join([f"fru {place[0]} {place[1]}"] + [f"{name}={quoted(text)}" for name, text in fields.items()])
 
 
 def place_of(bus, address):
@@ -253,7 +253,7 @@ def config(size, block, machine):
     obey("DuplicateName", found[0] not in [name for name, _, _ in machine.configs])
     obey("ConfigLimit", len(machine.configs) < MOST_CONFIGS)
     machine.configs.append(found)
-    machine.had.append([])
+    machine.had.append({})
 
 
 def plug(place, record, machine):
@@ -278,29 +278,27 @@ def line_alone(line, machine):
 def boards_of(machine):
     """The boards that stand: each by the number of its configuration and its place, which is None where it has none.
     They are in the order of configurations, and for one of them in that of places."""
-    if not machine.configs:
-        return []
-    places = sorted(it for it in machine.present if it[0] < VISIBLE)
-    texts, boards = [(it, dict(machine.present[it])) for it in places], []
+    present = machine.present
+    places, boards = sorted(it for it in present if it[0] < VISIBLE), []
     for number, (_, field, text) in enumerate(machine.configs):
-        found = [place for place, fields in texts if text in fields.get(field, "")] if field else [None]
+        found = [it for it in places if text in present[it].get(field, "")] if field else [None]
         boards += [(number, place) for place in found]
     return boards
 
 
 def board_line(change, board, machine):
-    """The line of a board that is new or gone. Its index is its number among all that its configuration had."""
+    """The line of a board that is new or gone."""
     number, place = board
     where = f" at {place[0]} {place[1]}" if place else ""
-    return f"0 {change} board {quoted(machine.configs[number][0])} {machine.had[number].index(place) + 1}{where}"
+    return f"0 {change} board {quoted(machine.configs[number][0])} {machine.had[number][place]}{where}"
 
 
 def changed(before, machine):
     """The lines of the boards that stood before and are gone, and then of those that are new."""
     after = boards_of(machine)
     for number, place in after:
-        if place not in machine.had[number]:
-            machine.had[number].append(place)
+        # The index of a board is its number among all that its configuration ever had.
+        machine.had[number].setdefault(place, len(machine.had[number]) + 1)
     lines = []
     for change, here, there in (("gone", before, set(after)), ("new", after, set(before))):
         lines += [board_line(change, it, machine) for it in here if it not in there]
@@ -352,8 +350,9 @@ def replay(script):
         if refusal:
             printed.append(f"line {number} refused {refusal}")
             status = 1
-        lines, boards = changed(boards, machine)
-        printed += lines
+        elif machine.configs:
+            lines, boards = changed(boards, machine)
+            printed += lines
     present = machine.present
     printed += [row(place, present[place]) for place in sorted(present)]
     return "".join(it + "\n" for it in printed).encode(), status
