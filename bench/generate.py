@@ -10,7 +10,7 @@
   present   COUNT FRUs are plugged first (at most 32,768); then one after another of them is unplugged
             and plugged again, in an order that jumps about
   boards    256 configurations; then FRUs come and go at 2,048 places, with COUNT of them present (at most
-            1,024). In turn one configuration finds the FRU, sixteen do, and none
+            1,024). In turn one configuration finds the FRU, eight do, and none
   idle      COUNT configurations (at most 256), none of which finds the FRU that is plugged and unplugged
   under     16 configurations, four of which find each FRU; else as present, with at most 2,048 FRUs
 
@@ -85,21 +85,21 @@ def finders(found):
 
 
 def board_record(number):
-    """A record that one configuration of the workload boards finds, or sixteen, or none."""
-    one = ["Norrland", f"Model{number % 240:03}", *TEXTS[2:]]
-    texts = (one, ["Nord0 Nord1 Nord2 Nord3"] * 4, TEXTS)[number % 3]
+    """A record that one configuration of the workload boards finds, or eight, or none."""
+    one = ["Norrland", f"Model{number % 248:03}", *TEXTS[2:]]
+    texts = (one, ["Nord0, Nord1"] * 4, TEXTS)[number % 3]
     return record(board=board_area(texts)).hex().upper()
 
 
 def boards(lines, present):
     fields = ["MANUFACTURER", "PRODUCT_NAME", "SERIAL_NUMBER", "PART_NUMBER"]
-    found = [("PRODUCT_NAME", f"Model{at:03}") for at in range(240)]
-    yield from finders(found + [(fields[at % 4], f"Nord{at // 4}") for at in range(16)])
-    records = [board_record(number) for number in range(720)]
+    found = [("PRODUCT_NAME", f"Model{at:03}") for at in range(248)]
+    yield from finders(found + [(fields[at % 4], f"Nord{at // 4}") for at in range(8)])
+    records = [board_record(number) for number in range(744)]
     for at in range(present + lines // 2):
         if at >= present:
             yield f"unplug {place((at - present) * STEP % VISIBLE)}\n"
-        yield f"plug {place(at * STEP % VISIBLE)} {records[at % 720]}\n"
+        yield f"plug {place(at * STEP % VISIBLE)} {records[at % 744]}\n"
 
 
 def idle(lines, count):
