@@ -1,49 +1,66 @@
 #!/usr/bin/env python3
-"""Prints a script of a workload: bench/generate.py WORKLOAD LINES [PRESENT]
+"""Prints a script of a workload: bench/generate.py WORKLOAD LINES [COUNT]
 
   plugs     a FRU is plugged and unplugged, again and again
   refused   lines that are refused, each with a printed line
   comments  lines that do nothing
   long      comments of 9,000 bytes, the longest that a line may be
   toolong   lines of 20,000 bytes, which are refused and dropped
-  present   PRESENT FRUs are plugged first (at most 32,768); then one after another of them is unplugged
+  records   records of 2,048 bytes with three full areas are plugged, and unplugged again
+  present   COUNT FRUs are plugged first (at most 32,768); then one after another of them is unplugged
             and plugged again, in an order that jumps about
+  boards    256 configurations; then FRUs come and go at 2,048 places, with COUNT of them present (at most
+            1,024). In turn one configuration finds the FRU, eight do, and none
+  idle      COUNT configurations (at most 256), none of which finds the FRU that is plugged and unplugged
+  under     16 configurations, four of which find each FRU; else as present, with at most 2,048 FRUs
 
-LINES counts the lines, without the first PRESENT ones. The same words give the same script."""
+COUNT is 256 if left out. LINES counts the lines without the configurations and the first FRUs. The same words
+give the same script."""
 
 import os
 import sys
 
 sys.dont_write_bytecode = True
 sys.path.insert(0, os.path.dirname(os.path.abspath(__file__)) + "/../examples")
-from record import board_area, record
+from record import board_area, chassis_area, product_area, record
 
-WORKLOADS = ("plugs", "refused", "comments", "long", "toolong", "present")
+# Each workload, and the most that COUNT can be.
+WORKLOADS = {"present": 32_768, "boards": 1024, "idle": 256, "under": 2048}
+WORKLOADS |= dict.fromkeys(("plugs", "refused", "comments", "long", "toolong", "records"), 256)
 TEXTS = ["Norrland Systems AB", "Riser, 2 x16", "NSR2404200117", "310-00511-01", "FRU 2.1"]
 RECORD = record(board=board_area(TEXTS)).hex().upper()
 # A step that shares no factor with a power of 2, so that the places jump about and each gets its turn.
 STEP = 12289
+# So many places are on the buses that have boards.
+VISIBLE = 2048
 
 
-def plugs(lines, present):
+def plugs(lines, count):
     for at in range(lines):
         yield "unplug 1 80\n" if at % 2 else f"plug 1 80 {RECORD}\n"
 
 
-def refused(lines, present):
+def refused(lines, count):
     yield from ["unplug 1 80\n"] * lines
 
 
-def comments(lines, present):
+def comments(lines, count):
     yield from ["# the riser is warm\n"] * lines
 
 
-def long(lines, present):
+def long(lines, count):
     yield from ["#" * 9000 + "\n"] * lines
 
 
-def toolong(lines, present):
+def toolong(lines, count):
     yield from ["#" * 20_000 + "\n"] * lines
+
+
+def records(lines, count):
+    full = ["x" * 63] * 10
+    big = record(chassis_area(23, full), board_area(full, minutes=1), product_area(full)).ljust(2048, b"\0").hex()
+    for at in range(lines):
+        yield "unplug 1 80\n" if at % 2 else f"plug 1 80 {big}\n"
 
 
 def place(number):
@@ -59,19 +76,56 @@ def present(lines, present):
         yield f"plug {where} {RECORD}\n"
 
 
-def script(workload, lines, frus=256):
+def finders(found):
+    """Configurations that look for these fields and texts."""
+    for number, (field, text) in enumerate(found):
+        probe = f"xyz.openbmc_project.FruDevice({{'BOARD_{field}': '{text}'}})"
+        block = f'{{"Name":"Board {number}","Probe":"{probe}"}}'
+        yield f"config {len(block)}\n{block}\n"
+
+
+def board_record(number):
+    """A record that one configuration of the workload boards finds, or eight, or none."""
+    one = ["Norrland", f"Model{number % 248:03}", *TEXTS[2:]]
+    texts = (one, ["Nord0, Nord1"] * 4, TEXTS)[number % 3]
+    return record(board=board_area(texts)).hex().upper()
+
+
+def boards(lines, present):
+    fields = ["MANUFACTURER", "PRODUCT_NAME", "SERIAL_NUMBER", "PART_NUMBER"]
+    found = [("PRODUCT_NAME", f"Model{at:03}") for at in range(248)]
+    yield from finders(found + [(fields[at % 4], f"Nord{at // 4}") for at in range(8)])
+    records = [board_record(number) for number in range(744)]
+    for at in range(present + lines // 2):
+        if at >= present:
+            yield f"unplug {place((at - present) * STEP % VISIBLE)}\n"
+        yield f"plug {place(at * STEP % VISIBLE)} {records[at % 744]}\n"
+
+
+def idle(lines, count):
+    yield from finders([("SERIAL_NUMBER", f"Nothing{at}") for at in range(count)])
+    yield from plugs(lines, count)
+
+
+def under(lines, frus):
+    found = [("MANUFACTURER", "Norrland"), ("PRODUCT_NAME", "Riser"), ("SERIAL_NUMBER", "NSR"), ("PART_NUMBER", "511")]
+    yield from finders(found + [("SERIAL_NUMBER", f"Nothing{at}") for at in range(12)])
+    yield from present(lines, frus)
+
+
+def script(workload, lines, count=256):
     """The lines of a workload's script."""
-    return globals()[workload](lines, frus)
+    return globals()[workload](lines, count)
 
 
 def main():
     said = sys.argv[1:]
     if len(said) not in (2, 3) or said[0] not in WORKLOADS or not all(it.isdecimal() for it in said[1:]):
         sys.exit(__doc__)
-    frus = int(said[2]) if len(said) == 3 else 256
-    if not 1 <= frus <= 32_768:
-        sys.exit("generate.py: from 1 to 32,768 FRUs can be present")
-    sys.stdout.writelines(script(said[0], int(said[1]), frus))
+    count, most = int(said[2]) if len(said) == 3 else 256, WORKLOADS[said[0]]
+    if not 1 <= count <= most:
+        sys.exit(f"generate.py: for {said[0]} COUNT is from 1 to {most:,}")
+    sys.stdout.writelines(script(said[0], int(said[1]), count))
 
 
 if __name__ == "__main__":

@@ -25,13 +25,13 @@ def built():
     return BUILT
 
 
-def made(workload, lines, frus=256):
+def made(workload, lines, count=256):
     """The path of a workload's script, which is made where it is not there yet."""
     os.makedirs(DATA, exist_ok=True)
-    path = f"{DATA}/{workload}-{lines}-{frus}"
+    path = f"{DATA}/{workload}-{lines}-{count}"
     if not os.path.exists(path):
         with open(f"{path}.new", "w") as it:
-            it.writelines(script(workload, lines, frus))
+            it.writelines(script(workload, lines, count))
         os.rename(f"{path}.new", path)
     return path
 

@@ -25,13 +25,15 @@ AREAS = [
     ("Product", 4, 3, "PRODUCT", PRODUCT_NAMES),
 ]
 # A plain probe, and a string of a JSON text, whose closing quote may be missing.
-PROBE = rf"xyz\.openbmc_project\.FruDevice\(\{{'BOARD_(?:{'|'.join(BOARD_NAMES)})': '[0-9A-Za-z]{{1,64}}'\}}\)"
+PROBE = rf"xyz\.openbmc_project\.FruDevice\(\{{'(BOARD_(?:{'|'.join(BOARD_NAMES)}))': '([0-9A-Za-z]{{1,64}})'\}}\)"
 PLAIN_PROBE = re.compile(f"TRUE|{PROBE}")
 STRING = re.compile(r'"(?:[^"\\]|\\.)*"?', re.S)
 SURROGATE = re.compile("[\ud800-\udfff]")
 END = 0xC1
 ENGLISH = (0, 25)
 BCD_PLUS = "0123456789 -.:,_"
+# Boards are found on buses below this one.
+VISIBLE = 16
 
 
 class Broken(Exception):
@@ -43,11 +45,12 @@ class Members(list):
 
 
 class Machine:
-    """What stands: the FRUs that are present by place, the names of the configurations, and whether a FRU
-    was plugged."""
+    """What stands: the FRUs that are present by place, the name of each configuration with what its probe looks
+    for, and whether a FRU was plugged. And for each configuration the indexes of all boards it ever had, by place."""
 
     def __init__(self):
-        self.present, self.names, self.plugged = {}, [], False
+        self.present, self.configs, self.plugged = {}, [], False
+        self.had = []
 
 
 def obey(rule, kept):
@@ -143,7 +146,7 @@ def fields_of(record):
         for number, (kind, data) in enumerate(fields_from(found[begin:-1], area)):
             name = names[number] if number < len(names) else f"INFO_AM{number - len(names) + 1}"
             named.append((f"{front}_{name}", text_of(kind, data, language)))
-    return named
+    return dict(named)
 
 
 def quoted(text):
@@ -154,7 +157,7 @@ def quoted(text):
 
 def row(place, fields):
     """The line of a FRU in the final list."""
-    return " ".join([f"fru {place[0]} {place[1]}"] + [f"{name}={quoted(text)}" for name, text in fields])
+    return " ".join([f"fru {place[0]} {place[1]}"] + [f"{name}={quoted(text)}" for name, text in fields.items()])
 
 
 def place_of(bus, address):
@@ -219,8 +222,9 @@ def document_of(block):
     return last_ones(document)
 
 
-def name_of(block):
-    """The name of a configuration. Raises Broken with the first rule that it breaks by itself."""
+def config_of(block):
+    """The name of a configuration, and the field and the text that its probe looks for, which are None where it is
+    always found. Raises Broken with the first rule that it breaks by itself."""
     try:
         document = document_of(block)
     except ValueError:
@@ -234,20 +238,22 @@ def name_of(block):
     obey("MissingKey", "Probe" in document)
     probe = document["Probe"]
     obey("WrongKind", isinstance(probe, (str, list)))
-    obey("ProbeForm", isinstance(probe, str) and PLAIN_PROBE.fullmatch(probe))
+    found = isinstance(probe, str) and PLAIN_PROBE.fullmatch(probe)
+    obey("ProbeForm", found)
     obey("ProbeForm", "Exposes" not in document)
-    return name
+    return name, *found.groups()
 
 
 def config(size, block, machine):
     """Keeps the configuration of a block that should have this size."""
     obey("ConfigTooLong", size <= LONGEST_BLOCK)
     obey("ConfigShort", len(block) == size)
-    name = name_of(block)
+    found = config_of(block)
     obey("ConfigAfterPlug", not machine.plugged)
-    obey("DuplicateName", name not in machine.names)
-    obey("ConfigLimit", len(machine.names) < MOST_CONFIGS)
-    machine.names.append(name)
+    obey("DuplicateName", found[0] not in [name for name, _, _ in machine.configs])
+    obey("ConfigLimit", len(machine.configs) < MOST_CONFIGS)
+    machine.configs.append(found)
+    machine.had.append({})
 
 
 def plug(place, record, machine):
@@ -267,6 +273,36 @@ def line_alone(line, machine):
         plug(place, bytes.fromhex(plugged[3].decode()), machine)
     else:
         obey("NotPresent", machine.present.pop(place, None) is not None)
+
+
+def boards_of(machine):
+    """The boards that stand: each by the number of its configuration and its place, which is None where it has none.
+    They are in the order of configurations, and for one of them in that of places."""
+    present = machine.present
+    places, boards = sorted(it for it in present if it[0] < VISIBLE), []
+    for number, (_, field, text) in enumerate(machine.configs):
+        found = [it for it in places if text in present[it].get(field, "")] if field else [None]
+        boards += [(number, place) for place in found]
+    return boards
+
+
+def board_line(change, board, machine):
+    """The line of a board that is new or gone."""
+    number, place = board
+    where = f" at {place[0]} {place[1]}" if place else ""
+    return f"0 {change} board {quoted(machine.configs[number][0])} {machine.had[number][place]}{where}"
+
+
+def changed(before, machine):
+    """The lines of the boards that stood before and are gone, and then of those that are new."""
+    after = boards_of(machine)
+    for number, place in after:
+        # The index of a board is its number among all that its configuration ever had.
+        machine.had[number].setdefault(place, len(machine.had[number]) + 1)
+    lines = []
+    for change, here, there in (("gone", before, set(after)), ("new", after, set(before))):
+        lines += [board_line(change, it, machine) for it in here if it not in there]
+    return lines, after
 
 
 def without_return(line):
@@ -308,12 +344,15 @@ def items_of(script):
 
 def replay(script):
     """What is printed for a script, and the status."""
-    machine, printed = Machine(), []
+    machine, printed, status, boards = Machine(), [], 0, []
     for number, (line, size, block) in enumerate(items_of(script), 1):
         refusal = refusal_of(line, size, block, machine)
         if refusal:
             printed.append(f"line {number} refused {refusal}")
-    status = 1 if printed else 0
+            status = 1
+        elif machine.configs:
+            lines, boards = changed(boards, machine)
+            printed += lines
     present = machine.present
     printed += [row(place, present[place]) for place in sorted(present)]
     return "".join(it + "\n" for it in printed).encode(), status
