@@ -3,12 +3,14 @@
 #![tactic(auto)]
 
 mod bytes;
+mod law;
 mod memory;
 mod name;
 mod place;
 mod text;
 
 pub use bytes::Bytes;
+pub use law::places_in_order;
 pub use memory::OutOfMemory;
 pub use name::{Name, NameFault};
 pub use place::Place;
