@@ -4,7 +4,8 @@ ghost use Rattle.bmc_text.specs.Items.{asks, whole_items};
 ghost use Rattle.bmc_text.specs.Reading.{item_of_block, line_got};
 ghost use Rattle.bmc_text.specs.Taking.{ItemFeed, item_next, TakesNextItem, SpendsItem, StopsItem, ItemCause};
 
-use crate::lines::{Block, Got, LineFault, Lines, asked_by};
+use crate::buffer::asked_by;
+use crate::lines::{Block, Got, LineFault, Lines};
 use crate::words::block_size;
 use bmc_base::{Bytes, OutOfMemory};
 use bmc_io::Source;

@@ -2,6 +2,7 @@
 //! bytes, and bytes in hexadecimal. The commands of lines stand on it.
 #![tactic(auto)]
 
+mod buffer;
 mod hexadecimal;
 mod items;
 mod law;

@@ -1,6 +1,6 @@
 use Rattle.std.proofs.lemmas.List.{take_rest}
 use Rattle.bmc_text.proofs.Newlines.{newline-behind, no_newline-behind}
-use Rattle.bmc_text.proofs.lines.newline_behind.Goals as goal
+use Rattle.bmc_text.proofs.buffer.newline_behind.Goals as goal
 
 pub returns : goal.returns
 returns c = newline-behind c.args.bytes.now _ c.args.from c.in_ok-behind.behind (take_rest c.args.bytes.now c.args.from) c.requires.within c.requires.none c.in_ok-behind.ensures
