@@ -1,6 +1,6 @@
 #!/usr/bin/env python3
-"""The machine once more, written from docs/FORMATS.md alone: model.py < SCRIPT prints what bmcreplay
-has to print, and ends with its status. The checks compare the program with it."""
+"""The machine once more, written from docs/FORMATS.md and docs/RECORDS.md alone: model.py < SCRIPT prints
+what bmcreplay has to print, and ends with its status. The checks compare the program with it."""
 
 import datetime
 import json
