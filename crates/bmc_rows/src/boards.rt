@@ -72,10 +72,10 @@ fn boards_come_and_go(rt: HostRuntime) -> Result<(), Fail> {
     Ok(())
 }
 
-// So many configurations that all find the same FRU.
-fn alike(alloc: Global, count: usize) -> Result<String, OutOfMemory> {
+// Configurations with the names from 1000 on and before `end`, which all find the same FRU.
+fn alike(alloc: Global, end: usize) -> Result<String, OutOfMemory> {
     let mut script = String::new(alloc);
-    for number in 1000..1000 + count {
+    for number in 1000..end {
         write!(
             script,
             "config 86\n{{\"Name\":\"{number}\",\"Probe\":\"xyz.openbmc_project.FruDevice({{'BOARD_PRODUCT_NAME': 'RSR'}})\"}}\n"
@@ -86,7 +86,7 @@ fn alike(alloc: Global, count: usize) -> Result<String, OutOfMemory> {
 
 #[test]
 fn many_boards_of_one_fru(rt: HostRuntime) -> Result<(), Fail> {
-    let mut script = alike(rt.alloc(), 256)?;
+    let mut script = alike(rt.alloc(), 1256)?;
     let lines = filled(rt.alloc(), "plug 1 80 $\nunplug 1 80\nplug 1 80 $\n", R1)?;
     script.push_str(lines.as_str())?;
     let mut text = String::new(rt.alloc());
