@@ -1,13 +1,12 @@
 ghost use Rattle.std.specs.Prelude.{◌≡◌, ◌++◌, Some, OnOk, string_bytes};
-ghost use Rattle.bmc_report.specs.Refusals.{area_text, rule_text, config_rule_text, refusal_text, refused_line};
+ghost use Rattle.bmc_report.specs.Refusals.{area_text, refusal_text, refused_line};
 
 use bmc_base::OutOfMemory;
-use cfg_json::ConfigFault;
-use fru_area::{Area, FruFault};
+use fru_area::Area;
 use std::fmt;
 use std::fmt::Write;
 
-/// Why a line is refused. Its `Display` is the name that is printed.
+/// Why a line is refused. Its `Display` is the name that is printed, with the area where one broke its rule.
 #[derive(Clone, Copy, Debug, PartialEq, Eq)]
 pub enum Refusal {
     /// The line is no command in its form.
@@ -16,9 +15,19 @@ pub enum Refusal {
     ConfigTooLong,
     /// The script ends within the block of a configuration.
     ConfigShort,
-    /// The block is no configuration: the first rule that it breaks. For want of memory no line is refused.
-    Config(ConfigFault),
-    /// A FRU was plugged before.
+    /// The document is no JSON, or more than 127 of its values are nested.
+    NotJson,
+    /// A number of the document is no whole number of 64 bits.
+    Fraction,
+    /// The document lacks a required member.
+    MissingKey,
+    /// The document, or a member of it, has another JSON kind than its form.
+    WrongKind,
+    /// A text of the document is shorter or longer than its form.
+    OutOfRange,
+    /// The probe of the document is no pattern in its form.
+    ProbeForm,
+    /// A FRU was plugged before the configuration.
     ConfigAfterPlug,
     /// An earlier configuration has the name.
     DuplicateName,
@@ -26,8 +35,26 @@ pub enum Refusal {
     ConfigLimit,
     /// A FRU is at the place already.
     Occupied,
-    /// The bytes are no FRU record: the first rule that they break. For want of memory no line is refused.
-    Fru(FruFault),
+    /// The record has fewer than 8 bytes, so no common header.
+    FruShort,
+    /// The record has more than 4,096 bytes.
+    FruTooLong,
+    /// The format version of the common header is not 1.
+    HeaderVersion,
+    /// The bytes of the common header do not sum to 0.
+    HeaderChecksum,
+    /// The area reaches beyond the record.
+    AreaOutside(Area),
+    /// The format version of the area is not 1.
+    AreaVersion(Area),
+    /// The area states a length of 0.
+    AreaLength(Area),
+    /// The bytes of the area do not sum to 0.
+    AreaChecksum(Area),
+    /// A field reaches the checksum of the area or goes beyond it.
+    FieldOutside(Area),
+    /// No end mark stands before the checksum of the area.
+    NoEnd(Area),
     /// No FRU is at the place.
     NotPresent,
 }
@@ -49,52 +76,6 @@ impl fmt::Display for AreaName {
     }
 }
 
-// The name of a rule that a record breaks, with its area if it is a rule on areas.
-#[derive(Clone, Copy)]
-struct Rule(FruFault);
-
-#[tactic(auto, unfolding(crate::specs::Refusals::rule_text))]
-impl fmt::Display for Rule {
-    ghost output = { λ rule. Some (rule_text rule.0) };
-
-    fn fmt<W: fmt::Write>(&self, f: &mut fmt::Formatter<W>) -> fmt::Result {
-        match self.0 {
-            FruFault::FruShort => f.write_str("FruShort"),
-            FruFault::FruTooLong => f.write_str("FruTooLong"),
-            FruFault::HeaderVersion => f.write_str("HeaderVersion"),
-            FruFault::HeaderChecksum => f.write_str("HeaderChecksum"),
-            FruFault::AreaOutside(area) => write!(f, "AreaOutside {}", AreaName(area)),
-            FruFault::AreaVersion(area) => write!(f, "AreaVersion {}", AreaName(area)),
-            FruFault::AreaLength(area) => write!(f, "AreaLength {}", AreaName(area)),
-            FruFault::AreaChecksum(area) => write!(f, "AreaChecksum {}", AreaName(area)),
-            FruFault::FieldOutside(area) => write!(f, "FieldOutside {}", AreaName(area)),
-            FruFault::NoEnd(area) => write!(f, "NoEnd {}", AreaName(area)),
-            FruFault::OutOfMemory => f.write_str("OutOfMemory"),
-        }
-    }
-}
-
-// The name of a rule that a document breaks.
-#[derive(Clone, Copy)]
-struct ConfigRule(ConfigFault);
-
-#[tactic(auto, unfolding(crate::specs::Refusals::config_rule_text))]
-impl fmt::Display for ConfigRule {
-    ghost output = { λ rule. Some (config_rule_text rule.0) };
-
-    fn fmt<W: fmt::Write>(&self, f: &mut fmt::Formatter<W>) -> fmt::Result {
-        match self.0 {
-            ConfigFault::NotJson => f.write_str("NotJson"),
-            ConfigFault::Fraction => f.write_str("Fraction"),
-            ConfigFault::MissingKey => f.write_str("MissingKey"),
-            ConfigFault::WrongKind => f.write_str("WrongKind"),
-            ConfigFault::OutOfRange => f.write_str("OutOfRange"),
-            ConfigFault::ProbeForm => f.write_str("ProbeForm"),
-            ConfigFault::OutOfMemory => f.write_str("OutOfMemory"),
-        }
-    }
-}
-
 #[tactic(auto, unfolding(crate::specs::Refusals::refusal_text))]
 impl fmt::Display for Refusal {
     ghost output = { λ refusal. Some (refusal_text refusal) };
@@ -104,12 +85,26 @@ impl fmt::Display for Refusal {
             Refusal::UnknownCommand => f.write_str("UnknownCommand"),
             Refusal::ConfigTooLong => f.write_str("ConfigTooLong"),
             Refusal::ConfigShort => f.write_str("ConfigShort"),
-            Refusal::Config(fault) => write!(f, "{}", ConfigRule(*fault)),
+            Refusal::NotJson => f.write_str("NotJson"),
+            Refusal::Fraction => f.write_str("Fraction"),
+            Refusal::MissingKey => f.write_str("MissingKey"),
+            Refusal::WrongKind => f.write_str("WrongKind"),
+            Refusal::OutOfRange => f.write_str("OutOfRange"),
+            Refusal::ProbeForm => f.write_str("ProbeForm"),
             Refusal::ConfigAfterPlug => f.write_str("ConfigAfterPlug"),
             Refusal::DuplicateName => f.write_str("DuplicateName"),
             Refusal::ConfigLimit => f.write_str("ConfigLimit"),
             Refusal::Occupied => f.write_str("Occupied"),
-            Refusal::Fru(fault) => write!(f, "{}", Rule(*fault)),
+            Refusal::FruShort => f.write_str("FruShort"),
+            Refusal::FruTooLong => f.write_str("FruTooLong"),
+            Refusal::HeaderVersion => f.write_str("HeaderVersion"),
+            Refusal::HeaderChecksum => f.write_str("HeaderChecksum"),
+            Refusal::AreaOutside(area) => write!(f, "AreaOutside {}", AreaName(*area)),
+            Refusal::AreaVersion(area) => write!(f, "AreaVersion {}", AreaName(*area)),
+            Refusal::AreaLength(area) => write!(f, "AreaLength {}", AreaName(*area)),
+            Refusal::AreaChecksum(area) => write!(f, "AreaChecksum {}", AreaName(*area)),
+            Refusal::FieldOutside(area) => write!(f, "FieldOutside {}", AreaName(*area)),
+            Refusal::NoEnd(area) => write!(f, "NoEnd {}", AreaName(*area)),
             Refusal::NotPresent => f.write_str("NotPresent"),
         }
     }

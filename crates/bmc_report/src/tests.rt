@@ -1,6 +1,6 @@
 use crate::{Change, Refusal, push_change, push_fru_row, push_refused_line};
 use bmc_base::{Name, Place};
-use fru_area::{Area, Field, FieldName, FieldText, FruFault};
+use fru_area::{Area, Field, FieldName, FieldText};
 use std::alloc::Global;
 use std::fmt::Write;
 use std::process::Abort;
@@ -8,36 +8,31 @@ use std::test::Fail;
 
 #[test]
 fn lines_of_refusals(rt: HostRuntime) -> Result<(), Fail> {
-    let (chassis, board, product) = (Area::Chassis, Area::Board, Area::Product);
     let rows = [
         (Refusal::UnknownCommand, "UnknownCommand"),
+        (Refusal::ConfigTooLong, "ConfigTooLong"),
+        (Refusal::ConfigShort, "ConfigShort"),
+        (Refusal::NotJson, "NotJson"),
+        (Refusal::Fraction, "Fraction"),
+        (Refusal::MissingKey, "MissingKey"),
+        (Refusal::WrongKind, "WrongKind"),
+        (Refusal::OutOfRange, "OutOfRange"),
+        (Refusal::ProbeForm, "ProbeForm"),
+        (Refusal::ConfigAfterPlug, "ConfigAfterPlug"),
+        (Refusal::DuplicateName, "DuplicateName"),
+        (Refusal::ConfigLimit, "ConfigLimit"),
         (Refusal::Occupied, "Occupied"),
+        (Refusal::FruShort, "FruShort"),
+        (Refusal::FruTooLong, "FruTooLong"),
+        (Refusal::HeaderVersion, "HeaderVersion"),
+        (Refusal::HeaderChecksum, "HeaderChecksum"),
+        (Refusal::AreaOutside(Area::Chassis), "AreaOutside Chassis"),
+        (Refusal::AreaVersion(Area::Board), "AreaVersion Board"),
+        (Refusal::AreaLength(Area::Product), "AreaLength Product"),
+        (Refusal::AreaChecksum(Area::Chassis), "AreaChecksum Chassis"),
+        (Refusal::FieldOutside(Area::Board), "FieldOutside Board"),
+        (Refusal::NoEnd(Area::Product), "NoEnd Product"),
         (Refusal::NotPresent, "NotPresent"),
-        (Refusal::Fru(FruFault::FruShort), "FruShort"),
-        (Refusal::Fru(FruFault::FruTooLong), "FruTooLong"),
-        (Refusal::Fru(FruFault::HeaderVersion), "HeaderVersion"),
-        (Refusal::Fru(FruFault::HeaderChecksum), "HeaderChecksum"),
-        (
-            Refusal::Fru(FruFault::AreaOutside(chassis)),
-            "AreaOutside Chassis",
-        ),
-        (
-            Refusal::Fru(FruFault::AreaVersion(board)),
-            "AreaVersion Board",
-        ),
-        (
-            Refusal::Fru(FruFault::AreaLength(product)),
-            "AreaLength Product",
-        ),
-        (
-            Refusal::Fru(FruFault::AreaChecksum(board)),
-            "AreaChecksum Board",
-        ),
-        (
-            Refusal::Fru(FruFault::FieldOutside(chassis)),
-            "FieldOutside Chassis",
-        ),
-        (Refusal::Fru(FruFault::NoEnd(product)), "NoEnd Product"),
     ];
     for (refusal, name) in rows {
         for number in ["1", "30", "18446744073709551615"] {
