@@ -9,8 +9,9 @@ use Rattle.std.proofs.lemmas.Option.{slice_get_past}
 use Rattle.bmc_base.specs.Places.{Place}
 use Rattle.cfg_json.specs.Configs.{Config}
 use Rattle.cfg_json.specs.Probes.{value}
-use Rattle.bmc_machine.specs.Histories.{Fru, Standing, is_at, is_present, put, without}
-use Rattle.bmc_machine.specs.Boards.{is_hit, boards_of, boards, is_hit_of, has_board, except}
+use Rattle.bmc_machine.specs.Standings.{Fru, Standing, is_at, is_present, put, without}
+use Rattle.bmc_machine.specs.Boards.{is_hit, boards_of, boards, is_hit_of, has_board}
+use Rattle.bmc_machine.specs.Indexes.{except}
 use Rattle.bmc_machine.proofs.Found.{place_of_fru, one, gone_one, put_any, some_any, grown_by, absent_by, put_by, taken_by}
 
 -- what stands, with these FRUs

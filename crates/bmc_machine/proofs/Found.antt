@@ -9,9 +9,10 @@ use Rattle.fru_area.specs.declared.name.FieldName.{FieldName}
 use Rattle.cfg_json.specs.declared.probe.PlainProbe.{PlainProbe}
 use Rattle.cfg_json.specs.declared.probe.PlainProbe.TheVariants.{Always, Contains}
 use Rattle.cfg_json.specs.Probes.{matches, value}
-use Rattle.bmc_machine.specs.Histories.{Fru, fields_of, is_at, is_present, put, without}
-use Rattle.bmc_machine.specs.Boards.{is_visible, places_or_none, has_board, except}
-use Rattle.bmc_machine.proofs.SameBoards.{and_both, and_second as and_last, place_itself, place_same, place_cmp_eq, pass_all, except_none}
+use Rattle.bmc_machine.specs.Standings.{Fru, fields_of, is_at, is_present, put, without}
+use Rattle.bmc_machine.specs.Boards.{is_visible, places_or_none, has_board}
+use Rattle.bmc_machine.specs.Indexes.{except}
+use Rattle.bmc_machine.proofs.BoardLemmas.{and_both, and_second as and_last, place_itself, place_same, place_cmp_eq, pass_all, except_none}
 
 -- a FRU is visible and matches a probe
 abbrev pub hits : PlainProbe → Fru → Bool

@@ -1,4 +1,4 @@
-pub mod SameBoards
+pub mod BoardLemmas
+pub mod IndexLemmas
 pub mod Found
 pub mod Changed
-pub mod Kept

@@ -1,3 +1,8 @@
-pub mod Histories
+pub mod Standings
 pub mod Boards
-pub mod Runs
+pub mod Histories
+pub mod Indexes
+pub mod Refusals
+pub mod Changes
+pub mod Answers
+pub mod Examples

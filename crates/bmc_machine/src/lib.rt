@@ -1,9 +1,8 @@
-//! The machine that a run of a script is proved to be: histories, what is present, what is refused and
-//! what is printed, as definitions and laws without code. The contract of the run cites them.
+//! The machine that a run of a script is proved to be, as definitions and laws without code.
 #![tactic(auto)]
 
-mod law;
-mod worked;
+mod examples;
+mod indexes;
 
-pub use law::indexes_are_kept;
-pub use worked::{worked_boards, worked_scripts};
+pub use examples::{scripts_with_boards, scripts_with_frus};
+pub use indexes::indexes_are_kept;

@@ -1,13 +1,15 @@
 -- The boards that a configuration ever had, and their indexes.
-use Rattle.std.proofs.Common.{◌≡◌, ℕ, ◌+◌, List, [], ◌∷◌, ◌++◌, Bool, true, false, not, cond, ◌&&◌, ◌||◌, Option, refl, sym, ap, ◌∙◌, arith}
+use Rattle.std.proofs.Common.{◌≡◌, ℕ, ◌+◌, List, [], ◌∷◌, ◌++◌, Bool, true, false, not, cond, ◌&&◌, ◌||◌, Option, refl, sym, ap, ◌∙◌, arith, append-nil}
 use Rattle.std.specs.Option.{option_eq}
-use Rattle.std.specs.List.{list_any, position_or_len}
+use Rattle.std.specs.List.{list_all, list_any, position_or_len}
 use Rattle.std.proofs.lemmas.List.Folds.{list_any-append}
 use Rattle.std.proofs.lemmas.Map.Views.{any-filter_same}
 use Rattle.bmc_base.specs.Places.{Place, place_eq}
+use Rattle.bmc_machine.specs.Standings.{Standing}
+use Rattle.bmc_machine.specs.Boards.{boards, has_board}
 use Rattle.bmc_machine.specs.Histories.{Step, standing}
-use Rattle.bmc_machine.specs.Boards.{boards, has_board, had_board, except, kept, index_in}
-use Rattle.bmc_machine.proofs.SameBoards.{board_same}
+use Rattle.bmc_machine.specs.Indexes.{had_board, except, kept, index_in}
+use Rattle.bmc_machine.proofs.BoardLemmas.{board_same, kept_all, except_none}
 
 -- among boards except those that stand elsewhere, a board is one that does not
 any_except : (stands : Option Place → Bool) (boards : List (Option Place)) (x : Option Place) → has_board (except stands boards) x ≡ (not (stands x) && has_board boards x)
@@ -79,3 +81,19 @@ pub same_index : (past : List Step) (number : ℕ) (x y : Option Place) → had_
 same_index past number x y h k e =
     let position : position_or_len (option_eq place_eq x) (kept past number) ≡ position_or_len (option_eq place_eq y) (kept past number) = omega (arith, e) in
     same_position (kept past number) x y (kept_had past number x ∙ h) (kept_had past number y ∙ k) position
+
+-- all boards of the moment after a history are kept
+pub kept_now : (past : List Step) (number : ℕ) → list_all (has_board (kept past number)) (boards (standing past) number) ≡ true
+unfolding standing boards
+kept_now [] number = refl
+kept_now (step ∷ past) number =
+    ap (λ (there : List (Option Place)). list_all (has_board there) (boards (standing (step ∷ past)) number)) (kept_next step past number)
+    ∙ kept_all (kept past number) (boards (standing (step ∷ past)) number)
+
+-- a step that leaves the moment as it is leaves all that is kept
+pub kept_idle : (step : Step) (past : List Step) (number : ℕ) → standing (step ∷ past) ≡ standing past → kept (step ∷ past) number ≡ kept past number
+kept_idle step past number same =
+    kept_next step past number
+    ∙ ap (λ (now : Standing). kept past number ++ except (has_board (kept past number)) (boards now number)) same
+    ∙ ap (λ (new : List (Option Place)). kept past number ++ new) (except_none (has_board (kept past number)) (boards (standing past) number) (kept_now past number))
+    ∙ append-nil (kept past number)

@@ -12,14 +12,16 @@ use Rattle.fru_area.specs.Walks.{first_field, walk, raw_fields}
 use Rattle.fru_area.specs.Texts.{text_of}
 use Rattle.fru_area.specs.Names.{name_text}
 use Rattle.fru_area.specs.Areas.{area_fields}
-use Rattle.bmc_report.specs.Refusals.{area_text, rule_text, refusal_text}
+use Rattle.bmc_report.specs.Refusals.{area_text, refusal_text}
 use Rattle.bmc_report.specs.Rows.{quoted, field_row, fru_row}
 use Rattle.fru_record.specs.Records.{fields_of_area, fields_at, fields_under, record_of}
 use Rattle.bmc_machine.specs.Histories.{standing}
-use Rattle.bmc_machine.specs.Boards.{changes_between}
-use Rattle.bmc_machine.specs.Runs.{outcomes, texts, final_list, out_from}
-use Rattle.bmc_machine.proofs.worked.worked_scripts.Goals as goal
+use Rattle.bmc_machine.specs.Boards.{boards}
+use Rattle.bmc_machine.specs.Indexes.{kept}
+use Rattle.bmc_machine.specs.Changes.{changes_between}
+use Rattle.bmc_machine.specs.Answers.{answers, final_list}
+use Rattle.bmc_machine.proofs.examples.scripts_with_frus.Goals as goal
 
 pub returns : goal.returns
-unfolding encode chars digits hex_on_literals without_return line_item whole_block whole_item cut_most cut block_size hex_decoded number place_named plug_of unplug_of words_of command_of header area_at first_field walk raw_fields text_of name_text area_fields area_text rule_text refusal_text quoted field_row fru_row fields_of_area fields_at fields_under record_of changes_between standing outcomes texts final_list out_from
-returns c = record { plugged = refl; chassis = refl; damaged = refl; empty = refl; twice = refl; refused = refl }
+unfolding encode chars digits hex_on_literals without_return line_item whole_block whole_item cut_most cut block_size hex_decoded number place_named plug_of unplug_of words_of command_of header area_at first_field walk raw_fields text_of name_text area_fields area_text refusal_text quoted field_row fru_row fields_of_area fields_at fields_under record_of boards kept changes_between standing answers final_list
+returns c = record { empty = refl; listed = refl; by_place = refl; damaged = refl; twice = refl; silent = refl; refused = refl; }

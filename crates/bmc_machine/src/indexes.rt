@@ -1,7 +1,8 @@
 ghost use Rattle.std.specs.Prelude.{◌≡◌, ◌++◌, ◌∷◌, true, ℕ, List, Option};
 ghost use Rattle.bmc_base.specs.Places.{Place};
 ghost use Rattle.bmc_machine.specs.Histories.{Step, standing};
-ghost use Rattle.bmc_machine.specs.Boards.{boards, has_board, had_board, except, kept, index_in};
+ghost use Rattle.bmc_machine.specs.Boards.{boards, has_board};
+ghost use Rattle.bmc_machine.specs.Indexes.{had_board, except, kept, index_in};
 
 /// A board keeps its index for good, and no other board of its configuration is ever given it. The boards
 /// that are kept are those that ever stood, and a step adds those that are not among them yet.

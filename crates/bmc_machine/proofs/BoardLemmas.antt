@@ -7,7 +7,8 @@ use Rattle.std.specs.Ordering.{is_eq, nat_cmp}
 use Rattle.std.proofs.lemmas.Bool.{eq-eqb, eqb-true, or_cases, or_left, or_right}
 use Rattle.std.proofs.lemmas.List.Folds.{list_any-append}
 use Rattle.bmc_base.specs.Places.{Place, place_cmp, place_eq}
-use Rattle.bmc_machine.specs.Boards.{has_board, except}
+use Rattle.bmc_machine.specs.Boards.{has_board}
+use Rattle.bmc_machine.specs.Indexes.{except}
 
 pub and_both : (a b : Bool) → a ≡ true → b ≡ true → (a && b) ≡ true
 and_both true b h k = k

@@ -1,0 +1,110 @@
+-- The machine: it takes the items of a script in turn, and what it prints follows from what is present then.
+use Rattle.std.specs.Prelude.{ℕ, ◌+◌, Bool, true, false, ◌||◌, List, [], ◌∷◌, ◌++◌, Option, Some, None, Result, Ok, Err}
+use Rattle.std.specs.List.{flat_map}
+use Rattle.bmc_text.specs.Items.{Item, Line, LineTooLong, Block, BlockTooLong, BlockShort, items_of, whole_items}
+use Rattle.bmc_script.specs.Commands.{command_of}
+use Rattle.bmc_script.specs.declared.command.Command.{Command}
+use Rattle.bmc_script.specs.declared.command.Command.TheVariants as commands
+use Rattle.bmc_script.specs.declared.command.ScriptFault.{ScriptFault}
+use Rattle.bmc_report.specs.Refusals.{refused_line}
+use Rattle.bmc_report.specs.Rows.{fru_row}
+use Rattle.bmc_report.specs.Changes.{change_line}
+use Rattle.bmc_report.specs.declared.refusal.Refusal.{Refusal}
+use Rattle.bmc_report.specs.declared.refusal.Refusal.TheVariants.{UnknownCommand, ConfigTooLong, ConfigShort}
+use Rattle.cfg_json.specs.Configs.{Config}
+use Rattle.cfg_json.specs.Documents.{config_read}
+use Rattle.cfg_json.specs.declared.config.ConfigFault.{ConfigFault}
+use Rattle.bmc_machine.specs.Standings.{Fru, fields_of}
+use Rattle.bmc_machine.specs.Histories.{Step, Configure, Plug, RefusedPlug, Unplug, standing, tick_of}
+use Rattle.bmc_machine.specs.Refusals.{config_refusal, refusal_of}
+use Rattle.bmc_machine.specs.Changes.{changes}
+
+-- what comes of items after a history: the history then, what is printed of them, and whether one of them was refused
+pub record Answer : Type 0 where
+  pub past : List Step
+  pub text : List ℕ
+  pub refused : Bool
+
+-- nothing happens
+abbrev pub silent : List Step → Answer
+silent past = record { past = past; text = []; refused = false }
+
+-- a step is accepted: it joins the history, and its changes are printed
+abbrev pub accepting : List Step → Step → Answer
+accepting past step = record { past = step ∷ past; text = flat_map (change_line (tick_of (step ∷ past))) (changes past step); refused = false }
+
+-- an item is refused, and the line of its refusal is printed
+abbrev pub refusing : (Refusal → List ℕ) → List Step → Refusal → Answer
+refusing line past refusal = record { past = past; text = line refusal; refused = true }
+
+-- the history after a step that was refused: a plug joins it
+abbrev pub past_refused : List Step → Step → Refusal → List Step
+past_refused past (Plug place bytes) refusal = RefusedPlug place bytes refusal ∷ past
+past_refused past (Configure config) refusal = past
+past_refused past (RefusedPlug place bytes reason) refusal = past
+past_refused past (Unplug place) refusal = past
+
+abbrev pub answer_by : Option Refusal → (Refusal → List ℕ) → List Step → Step → Answer
+answer_by None line past step = accepting past step
+answer_by (Some refusal) line past step = refusing line (past_refused past step refusal) refusal
+
+-- what comes of a step
+abbrev pub answer_step : (Refusal → List ℕ) → List Step → Step → Answer
+answer_step line past step = answer_by (refusal_of (standing past) step) line past step
+
+abbrev pub answer_command : (Refusal → List ℕ) → List Step → Result Command ScriptFault → Answer
+answer_command line past (Ok commands.Nothing) = silent past
+answer_command line past (Ok (commands.Plug place bytes)) = answer_step line past (Plug place bytes)
+answer_command line past (Ok (commands.Unplug place)) = answer_step line past (Unplug place)
+answer_command line past (Err fault) = refusing line past UnknownCommand
+
+abbrev pub answer_broken : Option Refusal → (Refusal → List ℕ) → List Step → Answer
+answer_broken None line past = silent past
+answer_broken (Some refusal) line past = refusing line past refusal
+
+-- what comes of a configuration that was read of its block
+abbrev pub answer_config : (Refusal → List ℕ) → List Step → Result Config ConfigFault → Answer
+answer_config line past (Ok config) = answer_step line past (Configure config)
+answer_config line past (Err rule) = answer_broken (config_refusal rule) line past
+
+-- what comes of an item, of which this is the line of a refusal
+abbrev pub answer : (Refusal → List ℕ) → List Step → Item → Answer
+answer line past (Line bytes) = answer_command line past (command_of bytes)
+answer line past LineTooLong = refusing line past UnknownCommand
+answer line past (Block bytes) = answer_config line past (config_read bytes)
+answer line past BlockTooLong = refusing line past ConfigTooLong
+answer line past BlockShort = refusing line past ConfigShort
+
+-- one answer, and then that of the items that follow
+abbrev pub and_then : Answer → Answer → Answer
+and_then first later = record { past = later.past; text = first.text ++ later.text; refused = first.refused || later.refused }
+
+-- what comes of items from this number and this history on, one after another
+unfoldable pub answers : ℕ → List Step → List Item → Answer
+answers number past [] = silent past
+answers number past (item ∷ items) =
+    let first = answer (refused_line number) past item in
+    and_then first (answers (number + 1) first.past items)
+
+-- what comes of a script, and of the items that are whole in the bytes that were taken of one; items are numbered from 1
+abbrev pub answer_of : List ℕ → Answer
+answer_of script = answers 1 [] (items_of script)
+
+abbrev pub whole_answer_of : List ℕ → Answer
+whole_answer_of bytes = answers 1 [] (whole_items bytes)
+
+-- the row of a FRU that is present, read from its bytes
+abbrev pub row_of : Fru → List ℕ
+row_of fru = fru_row fru.place (fields_of fru)
+
+-- the final list
+unfoldable pub final_list : List Fru → List ℕ
+final_list frus = flat_map row_of frus
+
+-- all that is printed of an answer to a whole script: its text, and then the final list
+abbrev pub with_list : Answer → List ℕ
+with_list answer = answer.text ++ final_list (standing answer.past).frus
+
+-- what is printed for a script
+abbrev pub out : List ℕ → List ℕ
+out script = with_list (answer_of script)

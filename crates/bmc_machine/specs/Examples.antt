@@ -1,0 +1,66 @@
+-- Scripts with known answers, built of named parts.
+use Rattle.std.specs.Prelude.{ℕ, List, ◌∷◌, ◌++◌, codes, [], decimal}
+
+-- a record with a board area: maker, product, serial number, and two empty fields
+abbrev pub riser : List ℕ
+riser = codes "01000001000000FE010300000000C341434DC452535231C25331C0C0C10000F5"
+
+abbrev pub riser_fields : List ℕ
+riser_fields = codes " BOARD_MANUFACTURER=\"ACM\" BOARD_PRODUCT_NAME=\"RSR1\" BOARD_SERIAL_NUMBER=\"S1\" BOARD_PART_NUMBER=\"\" BOARD_FRU_VERSION_ID=\"\""
+
+-- a record with a chassis area and a custom field
+abbrev pub chassis : List ℕ
+chassis = codes "01000100000000FE010217C25031C25332C25831C1000050"
+
+abbrev pub chassis_fields : List ℕ
+chassis_fields = codes " CHASSIS_TYPE=\"23\" CHASSIS_PART_NUMBER=\"P1\" CHASSIS_SERIAL_NUMBER=\"S2\" CHASSIS_INFO_AM1=\"X1\""
+
+-- the riser with a product area whose sum is wrong
+abbrev pub damaged : List ℕ
+damaged = codes "01000001040000FA010300000000C341434DC452535231C25331C0C0C10000F5010100C10000003E"
+
+-- a configuration that is always found, and one that finds a riser
+abbrev pub always_found : List ℕ
+always_found = codes "{\"Name\":\"A\",\"Probe\":\"TRUE\"}"
+
+abbrev pub finds_riser : List ℕ
+finds_riser = codes "{\"Name\":\"R\",\"Probe\":\"xyz.openbmc_project.FruDevice({'BOARD_PRODUCT_NAME': 'RSR'})\"}"
+
+abbrev pub newline : List ℕ
+newline = codes "\n"
+
+-- the lines of a script
+abbrev pub plug : List ℕ → List ℕ → List ℕ
+plug place record_digits = codes "plug " ++ place ++ codes " " ++ record_digits ++ newline
+
+abbrev pub unplug : List ℕ → List ℕ
+unplug place = codes "unplug " ++ place ++ newline
+
+abbrev pub config : List ℕ → List ℕ → List ℕ
+config size document = codes "config " ++ size ++ newline ++ document ++ newline
+
+-- the lines that are printed
+abbrev pub fru : List ℕ → List ℕ → List ℕ
+fru place fields = codes "fru " ++ place ++ fields ++ newline
+
+abbrev pub refused : List ℕ → List ℕ → List ℕ
+refused number reason = codes "line " ++ number ++ codes " refused " ++ reason ++ newline
+
+abbrev pub new_riser : List ℕ → List ℕ → List ℕ
+new_riser index place = codes "0 new board \"R\" " ++ index ++ codes " at " ++ place ++ newline
+
+abbrev pub gone_riser : List ℕ → List ℕ → List ℕ
+gone_riser index place = codes "0 gone board \"R\" " ++ index ++ codes " at " ++ place ++ newline
+
+abbrev pub bus_1_80 : List ℕ
+bus_1_80 = codes "1 80"
+
+abbrev pub bus_1_81 : List ℕ
+bus_1_81 = codes "1 81"
+
+abbrev pub bus_1_79 : List ℕ
+bus_1_79 = codes "1 79"
+
+-- a bus that is not visible
+abbrev pub bus_20_80 : List ℕ
+bus_20_80 = codes "20 80"

@@ -1,0 +1,70 @@
+-- Why an item is refused.
+use Rattle.std.specs.Prelude.{ℕ, ◌≡◌, ⊤, nat_le, is_some, if◌then◌else◌, List, [], ◌∷◌, length, Option, Some, None, Result, Ok, Err}
+use Rattle.bmc_base.specs.Places.{Place}
+use Rattle.fru_area.specs.declared.field.Field.{Field}
+use Rattle.fru_area.specs.declared.fault.FruFault.{FruFault}
+use Rattle.fru_area.specs.declared.fault.FruFault.TheVariants as rules
+use Rattle.fru_record.specs.Records.{record_of}
+use Rattle.cfg_json.specs.Shelves.{number_of}
+use Rattle.cfg_json.specs.declared.config.ConfigFault.{ConfigFault}
+use Rattle.cfg_json.specs.declared.config.ConfigFault.TheVariants as faults
+use Rattle.bmc_report.specs.declared.refusal.Refusal.{Refusal}
+use Rattle.bmc_report.specs.declared.refusal.Refusal.TheVariants.{NotJson, Fraction, MissingKey, WrongKind, OutOfRange, ProbeForm, ConfigAfterPlug, DuplicateName, ConfigLimit, Occupied, FruShort, FruTooLong, HeaderVersion, HeaderChecksum, AreaOutside, AreaVersion, AreaLength, AreaChecksum, FieldOutside, NoEnd, NotPresent}
+use Rattle.bmc_machine.specs.Standings.{Standing, is_present}
+use Rattle.bmc_machine.specs.Histories.{Step, Configure, Plug, RefusedPlug, Unplug, standing}
+
+-- how many configurations there are at most
+abbrev pub config_limit : ℕ
+config_limit = 256
+
+-- the refusal by a rule that bytes break to be a record; want of memory is no rule
+abbrev pub record_refusal : FruFault → Option Refusal
+record_refusal rules.FruShort = Some FruShort
+record_refusal rules.FruTooLong = Some FruTooLong
+record_refusal rules.HeaderVersion = Some HeaderVersion
+record_refusal rules.HeaderChecksum = Some HeaderChecksum
+record_refusal (rules.AreaOutside area) = Some (AreaOutside area)
+record_refusal (rules.AreaVersion area) = Some (AreaVersion area)
+record_refusal (rules.AreaLength area) = Some (AreaLength area)
+record_refusal (rules.AreaChecksum area) = Some (AreaChecksum area)
+record_refusal (rules.FieldOutside area) = Some (FieldOutside area)
+record_refusal (rules.NoEnd area) = Some (NoEnd area)
+record_refusal rules.OutOfMemory = None
+
+-- the refusal by a rule that a document breaks; want of memory is no rule
+abbrev pub config_refusal : ConfigFault → Option Refusal
+config_refusal faults.NotJson = Some NotJson
+config_refusal faults.Fraction = Some Fraction
+config_refusal faults.MissingKey = Some MissingKey
+config_refusal faults.WrongKind = Some WrongKind
+config_refusal faults.OutOfRange = Some OutOfRange
+config_refusal faults.ProbeForm = Some ProbeForm
+config_refusal faults.OutOfMemory = None
+
+-- the refusal of bytes, by the first rule that they break
+abbrev pub broken_rule : Result (List Field) FruFault → Option Refusal
+broken_rule (Ok fields) = None
+broken_rule (Err rule) = record_refusal rule
+
+-- why a step is refused where this stands, or none
+abbrev pub refusal_of : Standing → Step → Option Refusal
+refusal_of now (Configure config) =
+    if now.plugged then Some ConfigAfterPlug
+    else if is_some (number_of now.configs config.name) then Some DuplicateName
+    else if nat_le config_limit (length now.configs) then Some ConfigLimit
+    else None
+refusal_of now (Plug place bytes) = if is_present now.frus place then Some Occupied else broken_rule (record_of bytes)
+refusal_of now (RefusedPlug place bytes refusal) = None
+refusal_of now (Unplug place) = if is_present now.frus place then None else Some NotPresent
+
+-- a step may follow a history: it is not refused there, or it says for which reason a plug is
+abbrev pub IsLegalStep : List Step → Step → Type 0
+IsLegalStep past (Configure config) = refusal_of (standing past) (Configure config) ≡ None
+IsLegalStep past (Plug place bytes) = refusal_of (standing past) (Plug place bytes) ≡ None
+IsLegalStep past (RefusedPlug place bytes refusal) = refusal_of (standing past) (Plug place bytes) ≡ Some refusal
+IsLegalStep past (Unplug place) = refusal_of (standing past) (Unplug place) ≡ None
+
+-- each step of a history may follow those before it
+unfoldable pub IsLegal : List Step → Type 0
+IsLegal [] = ⊤
+IsLegal (step ∷ past) = IsLegal past × IsLegalStep past step
