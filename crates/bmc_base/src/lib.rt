@@ -3,6 +3,7 @@
 #![tactic(auto)]
 
 mod bytes;
+mod calls;
 mod law;
 mod memory;
 mod name;
@@ -10,6 +11,7 @@ mod place;
 mod text;
 
 pub use bytes::Bytes;
+pub use calls::Calls;
 pub use law::places_in_order;
 pub use memory::OutOfMemory;
 pub use name::{Name, NameFault};
