@@ -1,307 +1,409 @@
--- A run of the machine over a source and a sink, so far.
-use Rattle.std.proofs.Common.{◌≡◌, ◌<◌, ◌≤◌, ◌+◌, ◌^◌, ℕ, List, [], ◌++◌, length, Bool, true, false, ◌||◌, Option, Some, None, Ok, Err, refl, ap, sym, ◌∙◌, subst, arith, append_assoc, append-nil, length-append, string_bytes}
-use Rattle.std.specs.Prelude.{⊤}
-use Rattle.std.specs.Io.KnownBytes.{Appends, Consumes, IsAtEnd}
-use Rattle.std.proofs.KnownBytes.{Appends-nil, Appends-trans, Consumes-nil, Consumes-trans}
-use Rattle.bmc_io.specs.Sinks.{AppendsFront}
-use Rattle.bmc_io.proofs.Fronts.{front_after, front_so_far, front_all}
+-- A run of the machine over the outside, so far.
+use Rattle.std.proofs.Common.{◌≡◌, ◌<◌, ◌≤◌, ◌+◌, ℕ, List, [], ◌∷◌, ◌++◌, length, Bool, true, false, ◌||◌, Option, Some, None, Ok, Err, refl, ap, sym, ◌∙◌, subst, arith, append_assoc, append-nil, length-append, string_bytes}
+use Rattle.std.specs.Prelude.{⊤, ◌^◌}
+use Rattle.std.specs.Io.KnownBytes.{Consumes, IsAtEnd}
+use Rattle.std.proofs.KnownBytes.{Consumes-nil, Consumes-trans}
+use Rattle.bmc_base.specs.Calls.{Calls}
+use Rattle.bmc_io.specs.Told.{Told, added}
+use Rattle.bmc_io.specs.Sources.{Input}
+use Rattle.bmc_io.specs.Sinks.{Output, AppendsFront}
+use Rattle.bmc_io.proofs.ToldLemmas.{added_none, added_more}
+use Rattle.bmc_io.proofs.Fronts.{front_none, front_after, front_so_far, front_all}
 use Rattle.bmc_text.specs.Items.{Item, items_of}
-use Rattle.bmc_text.specs.Taking.{ItemFeed, item_next, TakesNextItem, TakesItem, SpendsItem}
+use Rattle.bmc_text.specs.Taking.{ItemFeed, item_next, TakesNextItem, TakesItem as IsTaken, SpendsItem}
 use Rattle.bmc_text.specs.declared.items.NextItem.{NextItem}
 use Rattle.bmc_text.specs.declared.items.NextItem.TheVariants.{Line, LineTooLong, Block, BlockTooLong, BlockShort, End}
-use Rattle.bmc_machine.specs.Histories.{Step, Standing, standing}
-use Rattle.bmc_machine.specs.Runs.{Outcome, outcome, outcome_text, joined, is_refused, out, out_from, refuses, final_list}
+use Rattle.bmc_report.specs.Refusals.{refused_line}
+use Rattle.bmc_machine.specs.Standings.{Standing}
+use Rattle.bmc_machine.specs.Histories.{Step, standing}
+use Rattle.bmc_machine.specs.Answers.{Answer, silent, answer, answers, and_then, answer_of, out, with_list, final_list}
 use Rattle.bmc_replay.specs.declared.run.Run.{Run}
 use Rattle.bmc_replay.specs.declared.stop.Stop.{Stop}
 use Rattle.bmc_replay.specs.declared.stop.Stop.TheVariants as stops
-use Rattle.bmc_replay.specs.Steps.{Leaves, IsNew, TakesNext, view_item}
 use Rattle.bmc_replay.specs.Kept.{View}
+use Rattle.bmc_replay.specs.Runs.{Stands, Follows, TakesItem, TakesNext, IsNew}
 use Rattle.bmc_replay.specs.Gathering.{Gathers}
-use Rattle.bmc_replay.specs.Advances.{GetsNothing, StopsAt}
-use Rattle.bmc_replay.specs.Statuses.{Replays, Reaches, Takes, WritesWhole, status_of}
-use Rattle.bmc_replay.proofs.Machine.{SoFar, AllTaken, so_far_none, so_far_more, so_far_last, so_far_end, so_far_whole, Stands, stands_none, stands_after, same_outcome}
+use Rattle.bmc_replay.specs.Outside.{Outside, outside}
+use Rattle.bmc_replay.specs.Stops.{GetsNothing, StopsShort, StopsAt}
+use Rattle.bmc_replay.specs.Statuses.{Replays, WritesTold, Reaches, Takes, WritesWhole, WriteCause, status_of}
+use Rattle.bmc_replay.proofs.SoFar.{SoFar, with_item, so_far_none, so_far_more, so_far_last, so_far_end, so_far_whole, number_after, answer_after}
+use Rattle.bmc_replay.proofs.StandsLemmas.{stands_none}
 
 -- this much text was printed: part of it is written, and the rest is gathered
-pub record Printed (old now : Option (List ℕ)) (text total : List ℕ) : Type 0 where
+pub record Printed (old now : Told) (text total : List ℕ) : Type 0 where
   pub written : List ℕ
-  pub appended : Appends old now written
+  pub told : now ≡ added old written
   pub parts : written ++ text ≡ total
 
--- The bytes of the source that were read have taken the machine this far, and what it printed is written or gathered.
-pub record Along (left left_now old now : Option (List ℕ)) (lines : ItemFeed) (run : Run) : Type 0 where
-  pub taken : List ℕ
-  pub total : List ℕ
-  pub past : List Step
-  pub consumed : Consumes left left_now taken
-  pub read : length taken ≡ lines.read
-  pub printed : Printed old now (string_bytes run.text) total
-  pub stands : Stands run.state past
-  pub machine : SoFar taken lines.waiting total past run.number run.refused
-
--- The source was read to its end, and the final list is left to print.
-pub record Ended (left left_now old now : Option (List ℕ)) (lines : ItemFeed) (run : Run) : Type 0 where
-  pub taken : List ℕ
-  pub total : List ℕ
-  pub past : List Step
-  pub consumed : Consumes left left_now taken
-  pub read : length taken ≡ lines.read
-  pub printed : Printed old now (string_bytes run.text) total
-  pub stands : Stands run.state past
-  pub machine : AllTaken taken total past run.refused
-
-pub printed_none : (a : Option (List ℕ)) (text : List ℕ) → text ≡ [] → Printed a a text []
-printed_none a text e = record { written = []; appended = Appends-nil a; parts = e }
+pub printed_none : (told : Told) (text : List ℕ) → text ≡ [] → Printed told told text []
+printed_none told text empty = record { written = []; told = sym (added_none told); parts = empty }
 
 -- text is written
-pub printed_moved : (a b c : Option (List ℕ)) (text kept total : List ℕ) → Printed a b text total → Gathers b c text kept [] → Printed a c kept total
-printed_moved a b c text kept total p g = record {
-  written = p.written ++ g.written;
-  appended = Appends-trans a b c p.written g.written p.appended g.appended;
-  parts = append_assoc p.written g.written kept ∙ ap (λ (l : List ℕ). p.written ++ l) (g.parts ∙ append-nil text) ∙ p.parts;
+pub printed_moved : (old now new : Told) (text text_now total : List ℕ) → Printed old now text total → Gathers now new text text_now [] → Printed old new text_now total
+printed_moved old now new text text_now total printed gathers = record {
+  written = printed.written ++ gathers.written;
+  told = gathers.told ∙ ap (λ (told : Told). added told gathers.written) printed.told ∙ added_more old printed.written gathers.written;
+  parts =
+      append_assoc printed.written gathers.written text_now
+      ∙ ap (λ (rest : List ℕ). printed.written ++ rest) (gathers.parts ∙ append-nil text) ∙ printed.parts;
 }
 
 -- text is gathered
-pub printed_more : (a b : Option (List ℕ)) (text kept total more : List ℕ) → Printed a b text total → kept ≡ text ++ more → Printed a b kept (total ++ more)
-printed_more a b text kept total more p e = record {
-  written = p.written;
-  appended = p.appended;
-  parts = ap (λ (l : List ℕ). p.written ++ l) e ∙ sym (append_assoc p.written text more) ∙ ap (λ (l : List ℕ). l ++ more) p.parts;
+pub printed_more : (old now : Told) (text text_now total more : List ℕ) → Printed old now text total → text_now ≡ text ++ more → Printed old now text_now (total ++ more)
+printed_more old now text text_now total more printed grown = record {
+  written = printed.written;
+  told = printed.told;
+  parts =
+      ap (λ (rest : List ℕ). printed.written ++ rest) grown ∙ sym (append_assoc printed.written text more)
+      ∙ ap (λ (front : List ℕ). front ++ more) printed.parts;
 }
 
+-- How far the machine has come: with what waits and follows, or at the end of the script.
+abbrev pub HasCome : Bool → List ℕ → List ℕ → ℕ → Answer → Type 0
+HasCome false taken waiting number so_far = SoFar taken waiting number so_far
+HasCome true taken waiting number so_far = answer_of taken ≡ so_far
+
+-- The bytes of the source that were read have taken the machine this far, and what it printed is written or gathered.
+pub record Along (ended : Bool) (before now : Outside) (feed : ItemFeed) (run : Run) : Type 0 where
+  pub taken : List ℕ
+  pub so_far : Answer
+  pub consumed : Consumes before.input.left now.input.left taken
+  pub read : length taken ≡ feed.read
+  pub printed : Printed before.output.taken now.output.taken (string_bytes run.text) so_far.text
+  pub stands : Stands run.state so_far.past
+  pub refused : run.refused ≡ so_far.refused
+  pub machine : HasCome ended taken feed.waiting run.number so_far
+
 -- it begins
-pub along_none : (left taken : Option (List ℕ)) (lines : ItemFeed) (run : Run) → lines ≡ record { line = []; block = []; waiting = []; read = 0; ended = false } → IsNew run → Along left left taken taken lines run
-along_none left taken lines run e new = record {
+pub along_none : (before : Outside) (feed : ItemFeed) (run : Run) → feed ≡ record { line = []; block = []; waiting = []; read = 0; ended = false } → IsNew run
+    → Along false before before feed run
+along_none before feed run none new = record {
   taken = [];
-  total = [];
-  past = [];
-  consumed = Consumes-nil left;
-  read = sym (ap (λ (l : ItemFeed). l.read) e);
-  printed = printed_none taken (string_bytes run.text) new.text;
-  stands = subst (λ (view : View). Stands view []) (sym new.stands) stands_none;
-  machine = rw (ap (λ (l : ItemFeed). l.waiting) e, new.number, new.refused) so_far_none;
+  so_far = silent [];
+  consumed = Consumes-nil before.input.left;
+  read = sym (ap (λ (feed : ItemFeed). feed.read) none);
+  printed = printed_none before.output.taken (string_bytes run.text) new.text;
+  stands = subst (λ (view : View). Stands view []) (sym new.state) stands_none;
+  refused = new.refused;
+  machine = rw (ap (λ (feed : ItemFeed). feed.waiting) none, new.number) so_far_none;
 }
 
 -- a front of what is printed for the script, where it is told
-abbrev pub IsFront : Option (List ℕ) → Option (List ℕ) → Option (List ℕ) → Type 0
+abbrev pub IsFront : Option (List ℕ) → Told → Told → Type 0
 IsFront None old new = ⊤
 IsFront (Some script) old new = AppendsFront old new (out script)
 
 -- a run that stops has written a front
-pub stopped : (e : Stop) (script old new : Option (List ℕ)) → IsFront script old new → Replays (status_of (Err e)) script old new
-stopped e None old new h = tt
-stopped stops.OutOfMemory (Some script) old new h = h
-stopped stops.ReadFault (Some script) old new h = h
-stopped stops.WriteFault (Some script) old new h = h
-stopped stops.TooLong (Some script) old new h = h
+pub stopped : (stop : Stop) (script : Option (List ℕ)) (old new : Told) → IsFront script old new → WritesTold (status_of (Err stop)) script old new
+stopped stop None old new front = tt
+stopped stops.OutOfMemory (Some script) old new front = front
+stopped stops.ReadFault (Some script) old new front = front
+stopped stops.WriteFault (Some script) old new front = front
+stopped stops.TooLong (Some script) old new front = front
 
 -- nothing is written yet
-pub none_written : (script taken : Option (List ℕ)) → IsFront script taken taken
-none_written None taken = tt
-none_written (Some script) taken = front_so_far taken taken [] (out script) (out script) (Appends-nil taken) refl
+pub none_written : (script : Option (List ℕ)) (told : Told) → IsFront script told told
+none_written None told = tt
+none_written (Some script) told = front_so_far told told [] (out script) (out script) (sym (added_none told)) refl
+
+-- nothing is taken yet
+pub none_taken : (before : Outside) → Takes before before (λ count. count ≤ (2 ^ 40))
+none_taken before = record { bytes = []; consumed = Consumes-nil before.input.left; count = omega arith }
+
+-- a run stops before anything was read or written
+pub stops_unread : (old new : ItemFeed) (before : Outside) (text : List ℕ) → new.read ≡ old.read → StopsShort old new before before text
+stops_unread old new before text same = record {
+  piece = [];
+  consumed = Consumes-nil before.input.left;
+  read = omega (arith, same);
+  writing = front_none before.output.taken text;
+}
 
 -- what is printed of the bytes that were taken is the front of what is printed of the script
 abbrev pub Begins : Option (List ℕ) → List ℕ → Type 0
 Begins None total = ⊤
 Begins (Some script) total = (rest : List ℕ) × (out script ≡ total ++ rest)
 
-pub along_begins : (left left_now : Option (List ℕ)) (taken waiting total : List ℕ) (past : List Step) (number : ℕ) (refused : Bool) → Consumes left left_now taken → SoFar taken waiting total past number refused → Begins left total
-along_begins None left_now taken waiting total past number refused c m = tt
-along_begins (Some script) None taken waiting total past number refused c m = absurd c
-along_begins (Some script) (Some rest) taken waiting total past number refused c m = (out_from number past (items_of (waiting ++ rest)), ap out c ∙ m.all rest)
+-- all that is printed after an answer
+printed_after : (so_far later : Answer) → with_list (and_then so_far later) ≡ so_far.text ++ (later.text ++ final_list (standing later.past).frus)
+printed_after so_far later = append_assoc so_far.text later.text (final_list (standing later.past).frus)
 
-pub ended_begins : (left left_now : Option (List ℕ)) (taken total : List ℕ) (past : List Step) (refused : Bool) → Consumes left left_now taken → IsAtEnd left_now → AllTaken taken total past refused → Begins left (total ++ final_list (standing past).frus)
-ended_begins None left_now taken total past refused c e m = tt
-ended_begins (Some script) None taken total past refused c e m = absurd c
-ended_begins (Some script) (Some rest) taken total past refused c e m =
-    let whole : script ≡ taken = c ∙ ap (λ (l : List ℕ). taken ++ l) e ∙ append-nil taken in
-    ([], ap out whole ∙ m.all ∙ sym (append-nil (total ++ final_list (standing past).frus)))
+so_far_begins : (left left_now : Option (List ℕ)) (taken waiting : List ℕ) (number : ℕ) (so_far : Answer)
+    → Consumes left left_now taken → SoFar taken waiting number so_far → Begins left so_far.text
+so_far_begins None left_now taken waiting number so_far consumed machine = tt
+so_far_begins (Some script) None taken waiting number so_far consumed machine = absurd consumed
+so_far_begins (Some script) (Some rest) taken waiting number so_far consumed machine =
+    let later : Answer = answers number so_far.past (items_of (waiting ++ rest)) in
+    (later.text ++ final_list (standing later.past).frus, ap out consumed ∙ ap with_list (machine.all rest) ∙ printed_after so_far later)
+
+-- the script was what was taken, where the source was read to its end
+taken_all : (script taken rest : List ℕ) → script ≡ taken ++ rest → rest ≡ [] → script ≡ taken
+taken_all script taken rest consumed at_end = consumed ∙ ap (λ (rest : List ℕ). taken ++ rest) at_end ∙ append-nil taken
+
+ended_begins : (left left_now : Option (List ℕ)) (taken : List ℕ) (so_far : Answer)
+    → Consumes left left_now taken → IsAtEnd left_now → answer_of taken ≡ so_far → Begins left (with_list so_far)
+ended_begins None left_now taken so_far consumed at_end machine = tt
+ended_begins (Some script) None taken so_far consumed at_end machine = absurd consumed
+ended_begins (Some script) (Some rest) taken so_far consumed at_end machine =
+    ([], ap out (taken_all script taken rest consumed at_end) ∙ ap with_list machine ∙ sym (append-nil (with_list so_far)))
+
+drop_more : (script : Option (List ℕ)) (total more : List ℕ) → Begins script (total ++ more) → Begins script total
+drop_more None total more begins = tt
+drop_more (Some script) total more begins = (more ++ begins.0, begins.1 ∙ append_assoc total more begins.0)
+
+pub along_begins : (ended : Bool) (before now : Outside) (feed : ItemFeed) (run : Run) (along : Along ended before now feed run)
+    → (ended ≡ true → IsAtEnd now.input.left) → Begins before.input.left along.so_far.text
+along_begins false before now feed run along at_end =
+    so_far_begins before.input.left now.input.left along.taken feed.waiting run.number along.so_far along.consumed along.machine
+along_begins true before now feed run along at_end =
+    drop_more before.input.left along.so_far.text (final_list (standing along.so_far.past).frus)
+    (ended_begins before.input.left now.input.left along.taken along.so_far along.consumed (at_end refl) along.machine)
 
 -- what was written of it is a front
-pub begins_front : (script a b : Option (List ℕ)) (text total : List ℕ) → Begins script total → Printed a b text total → IsFront script a b
-begins_front None a b text total h p = tt
-begins_front (Some script) a b text total h p =
-    front_so_far a b p.written (text ++ h.0) (out script) p.appended (h.1 ∙ ap (λ (l : List ℕ). l ++ h.0) (sym p.parts) ∙ append_assoc p.written text h.0)
+begins_front : (script : Option (List ℕ)) (old now : Told) (text total : List ℕ) → Begins script total → Printed old now text total → IsFront script old now
+begins_front None old now text total begins printed = tt
+begins_front (Some script) old now text total begins printed =
+    front_so_far old now printed.written (text ++ begins.0) (out script) printed.told
+    (begins.1 ∙ ap (λ (front : List ℕ). front ++ begins.0) (sym printed.parts) ∙ append_assoc printed.written text begins.0)
 
 -- and so it is where a write of what was gathered, and of more, stops
-pub begins_stopped : (script a b c : Option (List ℕ)) (text more total : List ℕ) → Begins script (total ++ more) → Printed a b text total → AppendsFront b c (text ++ more) → IsFront script a c
-begins_stopped None a b c text more total h p f = tt
-begins_stopped (Some script) a b c text more total h p f =
-    front_after a b c p.written (text ++ more) (out script) h.0 p.appended f
-    (h.1 ∙ ap (λ (l : List ℕ). (l ++ more) ++ h.0) (sym p.parts) ∙ ap (λ (l : List ℕ). l ++ h.0) (append_assoc p.written text more) ∙ append_assoc p.written (text ++ more) h.0)
+begins_stopped : (script : Option (List ℕ)) (old now new : Told) (text more total : List ℕ)
+    → Begins script (total ++ more) → Printed old now text total → AppendsFront now new (text ++ more) → IsFront script old new
+begins_stopped None old now new text more total begins printed front = tt
+begins_stopped (Some script) old now new text more total begins printed front =
+    front_after old now new printed.written (text ++ more) (out script) begins.0 printed.told front
+    (begins.1 ∙ ap (λ (whole : List ℕ). (whole ++ more) ++ begins.0) (sym printed.parts)
+    ∙ ap (λ (whole : List ℕ). whole ++ begins.0) (append_assoc printed.written text more) ∙ append_assoc printed.written (text ++ more) begins.0)
 
-pub begins_cut : (script a b c : Option (List ℕ)) (text total : List ℕ) → Begins script total → Printed a b text total → AppendsFront b c text → IsFront script a c
-begins_cut script a b c text total h p f =
-    begins_stopped script a b c text [] total (subst (Begins script) (sym (append-nil total)) h) p (subst (AppendsFront b c) (sym (append-nil text)) f)
+begins_cut : (script : Option (List ℕ)) (old now new : Told) (text total : List ℕ)
+    → Begins script total → Printed old now text total → AppendsFront now new text → IsFront script old new
+begins_cut script old now new text total begins printed front =
+    begins_stopped script old now new text [] total (subst (Begins script) (sym (append-nil total)) begins) printed
+    (subst (AppendsFront now new) (sym (append-nil text)) front)
+
+-- a run stops where a write of what was gathered stops
+pub along_cut : (ended : Bool) (before now new : Outside) (feed : ItemFeed) (run : Run) (along : Along ended before now feed run)
+    → (ended ≡ true → IsAtEnd now.input.left) → AppendsFront now.output.taken new.output.taken (string_bytes run.text)
+    → IsFront before.input.left before.output.taken new.output.taken
+along_cut ended before now new feed run along at_end front =
+    begins_cut before.input.left before.output.taken now.output.taken new.output.taken (string_bytes run.text) along.so_far.text
+    (along_begins ended before now feed run along at_end) along.printed front
+
+-- it stops where an item was got and not taken
+pub along_front : (before now new : Outside) (feed : ItemFeed) (run : Run) (text : List ℕ) (along : Along false before now feed run)
+    → Gathers now.output.taken new.output.taken (string_bytes run.text) text [] → IsFront before.input.left before.output.taken new.output.taken
+along_front before now new feed run text along gathers =
+    begins_front before.input.left before.output.taken new.output.taken text along.so_far.text
+    (along_begins false before now feed run along (λ no. absurd (cc)))
+    (printed_moved before.output.taken now.output.taken new.output.taken (string_bytes run.text) text along.so_far.text along.printed gathers)
+
+-- so many bytes were taken by then, whatever is written after it
+pub along_count : (ended : Bool) (before : Outside) (input : Input) (output output_now : Output) (feed : ItemFeed) (run : Run) (IsCount : ℕ → Type 0)
+    → Along ended before (outside input output) feed run → IsCount feed.read → Takes before (outside input output_now) IsCount
+along_count ended before input output output_now feed run IsCount along count = record {
+  bytes = along.taken;
+  consumed = along.consumed;
+  count = subst IsCount (sym along.read) count;
+}
+
+-- and a piece more
+pub along_piece : (before now new : Outside) (feed feed_now : ItemFeed) (run : Run) (piece : List ℕ) (IsCount : ℕ → Type 0)
+    → Along false before now feed run → Consumes now.input.left new.input.left piece → feed_now.read ≡ feed.read + length piece → IsCount feed_now.read
+    → Takes before new IsCount
+along_piece before now new feed feed_now run piece IsCount along consumed read count = record {
+  bytes = along.taken ++ piece;
+  consumed = Consumes-trans before.input.left now.input.left new.input.left along.taken piece along.consumed consumed;
+  count = subst IsCount (read ∙ ap (λ n. n + length piece) (sym along.read) ∙ sym (length-append along.taken piece)) count;
+}
 
 -- all that was printed is written, and it is what is printed of the items that are whole in the bytes taken
-stops_whole : (left left_now left_new old now new : Option (List ℕ)) (lines lines' : ItemFeed) (run : Run) (IsCount : ℕ → Type 0) → Along left left_now old now lines run → GetsNothing lines lines' left_now left_new now new (string_bytes run.text) IsCount → WritesWhole left left_new old new IsCount
-stops_whole left left_now left_new old now new lines lines' run IsCount a s = record {
-  bytes = a.taken ++ s.reading.piece;
-  consumed = Consumes-trans left left_now left_new a.taken s.reading.piece a.consumed s.reading.consumed;
-  count = subst IsCount (s.reading.read ∙ ap (λ n. n + length s.reading.piece) (sym a.read) ∙ sym (length-append a.taken s.reading.piece)) s.count;
-  text = subst (Appends old new) (a.printed.parts ∙ sym (so_far_whole a.taken lines.waiting s.reading.piece a.total a.past run.number run.refused a.machine s.reading.none)) (Appends-trans old now new a.printed.written (string_bytes run.text) a.printed.appended s.writing);
-}
+along_whole : (before now new : Outside) (feed feed_now : ItemFeed) (run : Run) (IsCount : ℕ → Type 0)
+    → Along false before now feed run → GetsNothing feed feed_now now new (string_bytes run.text) IsCount → WritesWhole before new IsCount
+unfolding along_piece
+along_whole before now new feed feed_now run IsCount along gets =
+    let counted = along_piece before now new feed feed_now run gets.reading.piece IsCount along gets.reading.consumed gets.reading.read gets.count in
+    record {
+      bytes = counted.bytes;
+      consumed = counted.consumed;
+      count = counted.count;
+      text =
+          gets.writing ∙ ap (λ (told : Told). added told (string_bytes run.text)) along.printed.told
+          ∙ added_more before.output.taken along.printed.written (string_bytes run.text)
+          ∙ ap (added before.output.taken) (along.printed.parts
+          ∙ sym (ap (λ (answer : Answer). answer.text) (so_far_whole along.taken feed.waiting gets.reading.piece run.number along.so_far along.machine gets.reading.none)));
+    }
 
 -- the run stops where an item is wanted
-pub along_stops : (e : Stop) (left left_now left_new old now new : Option (List ℕ)) (lines lines' : ItemFeed) (run : Run) → Along left left_now old now lines run → StopsAt e lines lines' left_now left_new now new (string_bytes run.text) → Replays (status_of (Err e)) left old new × Reaches (status_of (Err e)) left left_new old new
-along_stops stops.OutOfMemory left left_now left_new old now new lines lines' run a s = (
-  stopped stops.OutOfMemory left old new (begins_cut left old now new (string_bytes run.text) a.total (along_begins left left_now a.taken lines.waiting a.total a.past run.number run.refused a.consumed a.machine) a.printed s),
-  tt,
-)
-along_stops stops.WriteFault left left_now left_new old now new lines lines' run a s = (
-  stopped stops.WriteFault left old new (begins_cut left old now new (string_bytes run.text) a.total (along_begins left left_now a.taken lines.waiting a.total a.past run.number run.refused a.consumed a.machine) a.printed s),
-  tt,
-)
-along_stops stops.ReadFault left left_now left_new old now new lines lines' run a s = (
-  stopped stops.ReadFault left old new (begins_cut left old now new (string_bytes run.text) a.total (along_begins left left_now a.taken lines.waiting a.total a.past run.number run.refused a.consumed a.machine) a.printed (front_all now new (string_bytes run.text) s.writing)),
-  stops_whole left left_now left_new old now new lines lines' run (λ count. count < 2 ^ 40) a s,
-)
-along_stops stops.TooLong left left_now left_new old now new lines lines' run a s = (
-  stopped stops.TooLong left old new (begins_cut left old now new (string_bytes run.text) a.total (along_begins left left_now a.taken lines.waiting a.total a.past run.number run.refused a.consumed a.machine) a.printed (front_all now new (string_bytes run.text) s.writing)),
-  stops_whole left left_now left_new old now new lines lines' run (λ count. count ≡ 2 ^ 40) a s,
-)
+pub along_stops : (stop : Stop) (before now new : Outside) (feed feed_now : ItemFeed) (run : Run) → feed_now.read ≤ (2 ^ 40)
+    → Along false before now feed run → StopsAt stop feed feed_now now new (string_bytes run.text)
+    → Replays (status_of (Err stop)) before new × Reaches (status_of (Err stop)) before new
+along_stops stops.OutOfMemory before now new feed feed_now run limit along how =
+    (stopped stops.OutOfMemory before.input.left before.output.taken new.output.taken (along_cut false before now new feed run along (λ no. absurd (cc)) how.writing),
+    along_piece before now new feed feed_now run how.piece (λ count. count ≤ (2 ^ 40)) along how.consumed how.read limit)
+along_stops stops.WriteFault before now new feed feed_now run limit along how =
+    (stopped stops.WriteFault before.input.left before.output.taken new.output.taken (along_cut false before now new feed run along (λ no. absurd (cc)) how.writing),
+    along_piece before now new feed feed_now run how.piece (λ count. count ≤ (2 ^ 40)) along how.consumed how.read limit)
+along_stops stops.ReadFault before now new feed feed_now run limit along how =
+    (stopped stops.ReadFault before.input.left before.output.taken new.output.taken
+    (along_cut false before now new feed run along (λ no. absurd (cc)) (front_all now.output.taken new.output.taken (string_bytes run.text) how.writing)),
+    along_whole before now new feed feed_now run (λ count. count < (2 ^ 40)) along how)
+along_stops stops.TooLong before now new feed feed_now run limit along how =
+    (stopped stops.TooLong before.input.left before.output.taken new.output.taken
+    (along_cut false before now new feed run along (λ no. absurd (cc)) (front_all now.output.taken new.output.taken (string_bytes run.text) how.writing)),
+    along_whole before now new feed feed_now run (λ count. count ≡ (2 ^ 40)) along how)
 
--- The item that was got is taken: the run goes on, or the source was read to its end.
-abbrev pub AlongOr : Bool → Option (List ℕ) → Option (List ℕ) → Option (List ℕ) → Option (List ℕ) → ItemFeed → Run → Type 0
-AlongOr false left left_now old now lines run = Along left left_now old now lines run
-AlongOr true left left_now old now lines run = Ended left left_now old now lines run
+-- the machine takes what came
+has_come : (item : Option Item) (ended : Bool) (taken waiting piece rest : List ℕ) (number : ℕ) (so_far : Answer)
+    → SoFar taken waiting number so_far → IsTaken item ended (waiting ++ piece) rest
+    → HasCome ended (taken ++ piece) rest (number_after number item) (answer_after so_far number item)
+has_come None false taken waiting piece rest number so_far machine none = absurd (let no = none.end in cc)
+has_come None true taken waiting piece rest number so_far machine none = so_far_end taken waiting piece rest number so_far true machine none
+has_come (Some item) true taken waiting piece rest number so_far machine last = so_far_last taken waiting piece rest number so_far item machine last
+has_come (Some item) false taken waiting piece rest number so_far machine begins = so_far_more taken waiting piece rest number so_far item machine begins
 
-took_length : (taken piece : List ℕ) (read now : ℕ) → length taken ≡ read → now ≡ read + length piece → length (taken ++ piece) ≡ now
-took_length taken piece read now e f = omega (arith, e, f, length-append taken piece)
+-- what a run does with what came
+record HasTaken (item : Option Item) (so_far : Answer) (moved run_now : Run) : Type 0 where
+  stands : Stands run_now.state (answer_after so_far moved.number item).past
+  printed : (old now : Told) → Printed old now (string_bytes moved.text) so_far.text → Printed old now (string_bytes run_now.text) (answer_after so_far moved.number item).text
+  refused : run_now.refused ≡ (answer_after so_far moved.number item).refused
+  number : run_now.number ≡ number_after moved.number item
 
-pub along_takes : (item : Option Item) (ended : Bool) (left left_now left_new old now new : Option (List ℕ)) (lines lines' : ItemFeed) (run moved run' : Run) (piece : List ℕ) → Along left left_now old now lines run → Consumes left_now left_new piece → lines'.read ≡ lines.read + length piece → TakesItem item ended (lines.waiting ++ piece) lines'.waiting → Gathers now new (string_bytes run.text) (string_bytes moved.text) [] → moved.state ≡ run.state → moved.number ≡ run.number → moved.refused ≡ run.refused → TakesNext item moved run' → AlongOr ended left left_new old new lines' run'
-along_takes None false left left_now left_new old now new lines lines' run moved run' piece a c r t g e1 e2 e3 s = absurd (let no = t.end in cc)
-along_takes None true left left_now left_new old now new lines lines' run moved run' piece a c r t g e1 e2 e3 s = record {
-  taken = a.taken ++ piece;
-  total = a.total;
-  past = a.past;
-  consumed = Consumes-trans left left_now left_new a.taken piece a.consumed c;
-  read = took_length a.taken piece lines.read lines'.read a.read r;
-  printed = rw (ap (λ (r : Run). string_bytes r.text) s) (printed_moved old now new (string_bytes run.text) (string_bytes moved.text) a.total a.printed g);
-  stands = subst (λ (view : View). Stands view a.past) (sym (ap (λ (r : Run). r.state) s ∙ e1)) a.stands;
-  machine = subst (AllTaken (a.taken ++ piece) a.total a.past) (sym (ap (λ (r : Run). r.refused) s ∙ e3)) (so_far_end a.taken lines.waiting piece lines'.waiting a.total a.past run.number run.refused true a.machine t);
+has_taken : (item : Option Item) (so_far : Answer) (moved run_now : Run)
+    → Stands moved.state so_far.past → moved.refused ≡ so_far.refused → TakesNext item moved run_now → HasTaken item so_far moved run_now
+has_taken None so_far moved run_now stood refused same = record {
+  stands = subst (λ (view : View). Stands view so_far.past) (sym (ap (λ (run : Run). run.state) same)) stood;
+  printed = λ old now printed. subst (λ (text : List ℕ). Printed old now text so_far.text) (sym (ap (λ (run : Run). string_bytes run.text) same)) printed;
+  refused = ap (λ (run : Run). run.refused) same ∙ refused;
+  number = ap (λ (run : Run). run.number) same;
 }
-along_takes (Some item) true left left_now left_new old now new lines lines' run moved run' piece a c r t g e1 e2 e3 s =
-    let stood : Stands moved.state a.past = subst (λ (view : View). Stands view a.past) (sym e1) a.stands in
-    let same : view_item moved.state item ≡ outcome a.past item = same_outcome moved.state a.past item stood in
+has_taken (Some item) so_far moved run_now stood refused takes =
+    let follows = takes.follows so_far.past stood in
     record {
-      taken = a.taken ++ piece;
-      total = a.total ++ outcome_text run.number (outcome a.past item);
-      past = joined a.past (outcome a.past item);
-      consumed = Consumes-trans left left_now left_new a.taken piece a.consumed c;
-      read = took_length a.taken piece lines.read lines'.read a.read r;
-      printed = printed_more old new (string_bytes moved.text) (string_bytes run'.text) a.total _ (printed_moved old now new (string_bytes run.text) (string_bytes moved.text) a.total a.printed g) (s.text ∙ ap (λ o. string_bytes moved.text ++ outcome_text moved.number o) same ∙ ap (λ n. string_bytes moved.text ++ outcome_text n (outcome a.past item)) e2);
-      stands = stands_after moved.state run'.state a.past (outcome a.past item) stood (subst (λ (o : Outcome). Leaves moved.state o run'.state) same s.stands);
-      machine = subst (AllTaken (a.taken ++ piece) (a.total ++ outcome_text run.number (outcome a.past item)) (joined a.past (outcome a.past item))) (sym (s.refused ∙ ap (λ o. moved.refused || is_refused o) same ∙ ap (λ (b : Bool). b || is_refused (outcome a.past item)) e3)) (so_far_last a.taken lines.waiting piece lines'.waiting a.total a.past run.number run.refused item a.machine t);
-    }
-along_takes (Some item) false left left_now left_new old now new lines lines' run moved run' piece a c r t g e1 e2 e3 s =
-    let stood : Stands moved.state a.past = subst (λ (view : View). Stands view a.past) (sym e1) a.stands in
-    let same : view_item moved.state item ≡ outcome a.past item = same_outcome moved.state a.past item stood in
-    record {
-      taken = a.taken ++ piece;
-      total = a.total ++ outcome_text run.number (outcome a.past item);
-      past = joined a.past (outcome a.past item);
-      consumed = Consumes-trans left left_now left_new a.taken piece a.consumed c;
-      read = took_length a.taken piece lines.read lines'.read a.read r;
-      printed = printed_more old new (string_bytes moved.text) (string_bytes run'.text) a.total _ (printed_moved old now new (string_bytes run.text) (string_bytes moved.text) a.total a.printed g) (s.text ∙ ap (λ o. string_bytes moved.text ++ outcome_text moved.number o) same ∙ ap (λ n. string_bytes moved.text ++ outcome_text n (outcome a.past item)) e2);
-      stands = stands_after moved.state run'.state a.past (outcome a.past item) stood (subst (λ (o : Outcome). Leaves moved.state o run'.state) same s.stands);
-      machine = rw (s.number ∙ ap (λ n. n + 1) e2, s.refused ∙ ap (λ o. moved.refused || is_refused o) same ∙ ap (λ (b : Bool). b || is_refused (outcome a.past item)) e3) (so_far_more a.taken lines.waiting piece lines'.waiting a.total a.past run.number run.refused item a.machine t);
+      stands = follows.stands;
+      printed = λ old now printed. printed_more old now (string_bytes moved.text) (string_bytes run_now.text) so_far.text (answer (refused_line moved.number) so_far.past item).text printed follows.text;
+      refused = follows.refused ∙ ap (λ (test : Bool). test || (answer (refused_line moved.number) so_far.past item).refused) refused;
+      number = takes.number;
     }
 
 -- what came is taken, after what was gathered moved
-pub along_next : (next : NextItem) (left left_now left_new old now new : Option (List ℕ)) (lines lines' : ItemFeed) (run moved run' : Run) → moved ≡ record run { text = moved.text } → Along left left_now old now lines run → TakesNextItem next lines lines' left_now left_new → Gathers now new (string_bytes run.text) (string_bytes moved.text) [] → TakesNext (item_next next lines') moved run' → AlongOr lines'.ended left left_new old new lines' run'
-along_next next left left_now left_new old now new lines lines' run moved run' m a t g s =
-    along_takes (item_next next lines') lines'.ended left left_now left_new old now new lines lines' run moved run' t.piece a t.consumed t.read t.item g
-    (ap (λ (r : Run). r.state) m) (ap (λ (r : Run). r.number) m) (ap (λ (r : Run). r.refused) m) s
+pub along_next : (next : NextItem) (before now new : Outside) (feed feed_now : ItemFeed) (run moved run_now : Run)
+    → moved ≡ record run { text = moved.text } → Along false before now feed run → TakesNextItem next feed feed_now now.input.left new.input.left
+    → Gathers now.output.taken new.output.taken (string_bytes run.text) (string_bytes moved.text) [] → TakesNext (item_next next feed_now) moved run_now
+    → Along feed_now.ended before new feed_now run_now
+unfolding along_piece
+along_next next before now new feed feed_now run moved run_now same along came gathers takes =
+    let item : Option Item = item_next next feed_now in
+    let stood : Stands moved.state along.so_far.past = subst (λ (view : View). Stands view along.so_far.past) (sym (ap (λ (run : Run). run.state) same)) along.stands in
+    let refused : moved.refused ≡ along.so_far.refused = ap (λ (run : Run). run.refused) same ∙ along.refused in
+    let number : run.number ≡ moved.number = sym (ap (λ (run : Run). run.number) same) in
+    let taken = has_taken item along.so_far moved run_now stood refused takes in
+    let counted = along_piece before now new feed feed_now run came.piece (λ n. n ≡ feed_now.read) along came.consumed came.read refl in
+    record {
+      taken = along.taken ++ came.piece;
+      so_far = answer_after along.so_far moved.number item;
+      consumed = counted.consumed;
+      read = counted.count;
+      printed =
+          taken.printed before.output.taken new.output.taken
+          (printed_moved before.output.taken now.output.taken new.output.taken (string_bytes run.text) (string_bytes moved.text) along.so_far.text along.printed gathers);
+      stands = taken.stands;
+      refused = taken.refused;
+      machine =
+          subst (λ (count : ℕ). HasCome feed_now.ended (along.taken ++ came.piece) feed_now.waiting count (answer_after along.so_far moved.number item)) (sym taken.number)
+          (has_come item feed_now.ended along.taken feed.waiting came.piece feed_now.waiting moved.number along.so_far
+          (subst (λ (count : ℕ). SoFar along.taken feed.waiting count along.so_far) number along.machine) came.item);
+    }
 
 -- what is gathered moves
-pub along_moved : (ended : Bool) (left left_now old now new : Option (List ℕ)) (lines : ItemFeed) (run moved : Run) → AlongOr ended left left_now old now lines run → Gathers now new (string_bytes run.text) (string_bytes moved.text) [] → moved.state ≡ run.state → moved.number ≡ run.number → moved.refused ≡ run.refused → AlongOr ended left left_now old new lines moved
-along_moved false left left_now old now new lines run moved a g e1 e2 e3 = record {
-  taken = a.taken;
-  total = a.total;
-  past = a.past;
-  consumed = a.consumed;
-  read = a.read;
-  printed = printed_moved old now new (string_bytes run.text) (string_bytes moved.text) a.total a.printed g;
-  stands = subst (λ (view : View). Stands view a.past) (sym e1) a.stands;
-  machine = rw (e2, e3) a.machine;
-}
-along_moved true left left_now old now new lines run moved a g e1 e2 e3 = record {
-  taken = a.taken;
-  total = a.total;
-  past = a.past;
-  consumed = a.consumed;
-  read = a.read;
-  printed = printed_moved old now new (string_bytes run.text) (string_bytes moved.text) a.total a.printed g;
-  stands = subst (λ (view : View). Stands view a.past) (sym e1) a.stands;
-  machine = subst (AllTaken a.taken a.total a.past) (sym e3) a.machine;
+along_moved : (ended : Bool) (before : Outside) (input : Input) (output output_now : Output) (feed : ItemFeed) (run moved : Run)
+    → moved ≡ record run { text = moved.text } → Along ended before (outside input output) feed run
+    → Gathers output.taken output_now.taken (string_bytes run.text) (string_bytes moved.text) [] → Along ended before (outside input output_now) feed moved
+along_moved ended before input output output_now feed run moved same along gathers = record {
+  taken = along.taken;
+  so_far = along.so_far;
+  consumed = along.consumed;
+  read = along.read;
+  printed = printed_moved before.output.taken output.taken output_now.taken (string_bytes run.text) (string_bytes moved.text) along.so_far.text along.printed gathers;
+  stands = subst (λ (view : View). Stands view along.so_far.past) (sym (ap (λ (run : Run). run.state) same)) along.stands;
+  refused = ap (λ (run : Run). run.refused) same ∙ along.refused;
+  machine = subst (λ (number : ℕ). HasCome ended along.taken feed.waiting number along.so_far) (sym (ap (λ (run : Run). run.number) same)) along.machine;
 }
 
 -- and it is known whether the source was read to its end
-pub along_told : (told ended : Bool) (left left_now old now new : Option (List ℕ)) (lines : ItemFeed) (run moved : Run) → ended ≡ told → moved ≡ record run { text = moved.text } → AlongOr ended left left_now old now lines run → Gathers now new (string_bytes run.text) (string_bytes moved.text) [] → AlongOr told left left_now old new lines moved
-along_told told ended left left_now old now new lines run moved e m a g =
-    subst (λ (b : Bool). AlongOr b left left_now old new lines moved) e
-    (along_moved ended left left_now old now new lines run moved a g (ap (λ (r : Run). r.state) m) (ap (λ (r : Run). r.number) m) (ap (λ (r : Run). r.refused) m))
+pub along_told : (ended told : Bool) (before : Outside) (input : Input) (output output_now : Output) (feed : ItemFeed) (run moved : Run)
+    → ended ≡ told → moved ≡ record run { text = moved.text } → Along ended before (outside input output) feed run
+    → Gathers output.taken output_now.taken (string_bytes run.text) (string_bytes moved.text) [] → Along told before (outside input output_now) feed moved
+along_told ended told before input output output_now feed run moved known same along gathers =
+    subst (λ (is_ended : Bool). Along is_ended before (outside input output_now) feed moved) known
+    (along_moved ended before input output output_now feed run moved same along gathers)
 
-drop_more : (script : Option (List ℕ)) (total more : List ℕ) → Begins script (total ++ more) → Begins script total
-drop_more None total more h = tt
-drop_more (Some script) total more h = (more ++ h.0, h.1 ∙ append_assoc total more h.0)
-
--- it stops where a write of what was gathered stops
-pub along_cut : (ended : Bool) (left left_now old now new : Option (List ℕ)) (lines : ItemFeed) (run : Run) → (ended ≡ true → IsAtEnd left_now) → AlongOr ended left left_now old now lines run → AppendsFront now new (string_bytes run.text) → IsFront left old new
-along_cut false left left_now old now new lines run e a f = begins_cut left old now new (string_bytes run.text) a.total (along_begins left left_now a.taken lines.waiting a.total a.past run.number run.refused a.consumed a.machine) a.printed f
-along_cut true left left_now old now new lines run e a f = begins_cut left old now new (string_bytes run.text) a.total (drop_more left a.total (final_list (standing a.past).frus) (ended_begins left left_now a.taken a.total a.past run.refused a.consumed (e refl) a.machine)) a.printed f
-
--- it stops where an item was got and not taken
-pub along_front : (left left_now old now new : Option (List ℕ)) (lines : ItemFeed) (run : Run) (kept : List ℕ) → Along left left_now old now lines run → Gathers now new (string_bytes run.text) kept [] → IsFront left old new
-along_front left left_now old now new lines run kept a g =
-    begins_front left old new kept a.total (along_begins left left_now a.taken lines.waiting a.total a.past run.number run.refused a.consumed a.machine) (printed_moved old now new (string_bytes run.text) kept a.total a.printed g)
+-- what is left to print at the end of the script
+list_of : (before now : Outside) (feed : ItemFeed) (run : Run) (along : Along true before now feed run)
+    → along.so_far.text ++ final_list run.state.now.frus ≡ with_list along.so_far
+list_of before now feed run along = ap (λ (now : Standing). along.so_far.text ++ final_list now.frus) along.stands.now
 
 -- it stops in the final list
-pub ended_cut : (left left_now old now new : Option (List ℕ)) (lines : ItemFeed) (run : Run) → IsAtEnd left_now → Ended left left_now old now lines run → AppendsFront now new (string_bytes run.text ++ final_list run.state.now.frus) → IsFront left old new
-ended_cut left left_now old now new lines run e a f =
-    begins_stopped left old now new (string_bytes run.text) (final_list run.state.now.frus) a.total
-    (subst (λ (now : Standing). Begins left (a.total ++ final_list now.frus)) (sym a.stands.now) (ended_begins left left_now a.taken a.total a.past run.refused a.consumed e a.machine)) a.printed f
+pub ended_cut : (before now new : Outside) (feed : ItemFeed) (run : Run) → IsAtEnd now.input.left → Along true before now feed run
+    → AppendsFront now.output.taken new.output.taken (string_bytes run.text ++ final_list run.state.now.frus) → IsFront before.input.left before.output.taken new.output.taken
+ended_cut before now new feed run at_end along front =
+    begins_stopped before.input.left before.output.taken now.output.taken new.output.taken (string_bytes run.text) (final_list run.state.now.frus) along.so_far.text
+    (subst (Begins before.input.left) (sym (list_of before now feed run along))
+    (ended_begins before.input.left now.input.left along.taken along.so_far along.consumed at_end along.machine))
+    along.printed front
+
+writes_all : (refused : Bool) (script : List ℕ) (old new : Told) → new ≡ added old (out script) → (answer_of script).refused ≡ refused
+    → WritesTold (status_of (Ok refused)) (Some script) old new
+writes_all true script old new text refusal = record { text = text; refusal = refusal }
+writes_all false script old new text refusal = record { text = text; refusal = refusal }
+
+all_written : (refused : Bool) (left left_now : Option (List ℕ)) (taken : List ℕ) (so_far : Answer) (old new : Told)
+    → Consumes left left_now taken → IsAtEnd left_now → answer_of taken ≡ so_far → refused ≡ so_far.refused → new ≡ added old (with_list so_far)
+    → WritesTold (status_of (Ok refused)) left old new
+all_written refused None left_now taken so_far old new consumed at_end machine same text = tt
+all_written refused (Some script) None taken so_far old new consumed at_end machine same text = absurd consumed
+all_written refused (Some script) (Some rest) taken so_far old new consumed at_end machine same text =
+    let is : answer_of script ≡ so_far = ap answer_of (taken_all script taken rest consumed at_end) ∙ machine in
+    writes_all refused script old new (text ∙ ap (λ (answer : Answer). added old (with_list answer)) (sym is)) (ap (λ (answer : Answer). answer.refused) is ∙ sym same)
 
 -- all is written
-pub ended_text : (left left_now old now new : Option (List ℕ)) (lines : ItemFeed) (run : Run) → IsAtEnd left_now → Ended left left_now old now lines run → Appends now new (string_bytes run.text ++ final_list run.state.now.frus) → Replays (status_of (Ok run.refused)) left old new
-ended_text None left_now old now new lines run e a w = tt
-ended_text (Some script) None old now new lines run e a w = absurd a.consumed
-ended_text (Some script) (Some rest) old now new lines run e a w = of run.refused all (ap refuses whole ∙ a.machine.refusal)
-  where
-    whole : script ≡ a.taken
-    whole = a.consumed ∙ ap (λ (l : List ℕ). a.taken ++ l) e ∙ append-nil a.taken
-
-    text : a.printed.written ++ (string_bytes run.text ++ final_list run.state.now.frus) ≡ out script
-    text =
-        sym (append_assoc a.printed.written (string_bytes run.text) (final_list run.state.now.frus)) ∙ ap (λ (l : List ℕ). l ++ final_list run.state.now.frus) a.printed.parts
-        ∙ ap (λ (now : Standing). a.total ++ final_list now.frus) a.stands.now ∙ sym a.machine.all ∙ sym (ap out whole)
-
-    all : Appends old new (out script)
-    all = subst (Appends old new) text (Appends-trans old now new a.printed.written _ a.printed.appended w)
-
-    of : (refused : Bool) → Appends old new (out script) → refuses script ≡ refused → Replays (status_of (Ok refused)) (Some script) old new
-    of true t r = record { text = t; refusal = r }
-    of false t r = record { text = t; refusal = r }
+pub ended_text : (before now new : Outside) (feed : ItemFeed) (run : Run) → IsAtEnd now.input.left → Along true before now feed run
+    → new.output.taken ≡ added now.output.taken (string_bytes run.text ++ final_list run.state.now.frus) → Replays (status_of (Ok run.refused)) before new
+ended_text before now new feed run at_end along text =
+    all_written run.refused before.input.left now.input.left along.taken along.so_far before.output.taken new.output.taken along.consumed at_end along.machine along.refused
+    (text ∙ ap (λ (told : Told). added told (string_bytes run.text ++ final_list run.state.now.frus)) along.printed.told
+    ∙ added_more before.output.taken along.printed.written (string_bytes run.text ++ final_list run.state.now.frus)
+    ∙ ap (added before.output.taken) (sym (append_assoc along.printed.written (string_bytes run.text) (final_list run.state.now.frus))
+    ∙ ap (λ (text : List ℕ). text ++ final_list run.state.now.frus) along.printed.parts ∙ list_of before now feed run along))
 
 -- all was taken
-pub ended_reached : (left left_now old now new : Option (List ℕ)) (lines : ItemFeed) (run : Run) → IsAtEnd left_now → lines.read < 2 ^ 40 → Ended left left_now old now lines run → Reaches (status_of (Ok run.refused)) left left_now old new
-ended_reached left left_now old now new lines run e l a = of run.refused (record { bytes = a.taken; consumed = a.consumed; count = omega (arith, a.read, l) })
+pub ended_reached : (before : Outside) (input : Input) (output output_now : Output) (feed : ItemFeed) (run : Run) → IsAtEnd input.left → feed.read < (2 ^ 40)
+    → Along true before (outside input output) feed run → Reaches (status_of (Ok run.refused)) before (outside input output_now)
+ended_reached before input output output_now feed run at_end few along =
+    of run.refused (along_count true before input output output_now feed run (λ count. count < (2 ^ 40)) along few)
   where
-    of : (refused : Bool) → Takes left left_now (λ count. count < 2 ^ 40) → Reaches (status_of (Ok refused)) left left_now old new
-    of true t = (e, t)
-    of false t = (e, t)
+    of : (refused : Bool) → Takes before (outside input output_now) (λ count. count < (2 ^ 40)) → Reaches (status_of (Ok refused)) before (outside input output_now)
+    of true takes = (at_end, takes)
+    of false takes = (at_end, takes)
 
 -- at least a byte was taken of an item that is not the end
-pub spends_item : (next : NextItem) (lines lines' : ItemFeed) (bytes : List ℕ) → lines'.ended ≡ false → TakesItem (item_next next lines') lines'.ended bytes lines'.waiting → SpendsItem next lines lines' → lines.read + length lines'.waiting + 1 ≤ lines'.read + length lines.waiting
-spends_item Line lines lines' bytes e t s = s
-spends_item LineTooLong lines lines' bytes e t s = s
-spends_item Block lines lines' bytes e t s = s
-spends_item BlockTooLong lines lines' bytes e t s = s
-spends_item BlockShort lines lines' bytes e t s = s
-spends_item End lines lines' bytes e t s = absurd (let no = t.end in cc)
+pub spends_item : (next : NextItem) (feed feed_now : ItemFeed) (bytes : List ℕ) → feed_now.ended ≡ false → IsTaken (item_next next feed_now) feed_now.ended bytes feed_now.waiting
+    → SpendsItem next feed feed_now → feed.read + length feed_now.waiting + 1 ≤ feed_now.read + length feed.waiting
+spends_item Line feed feed_now bytes going taken spends = spends
+spends_item LineTooLong feed feed_now bytes going taken spends = spends
+spends_item Block feed feed_now bytes going taken spends = spends
+spends_item BlockTooLong feed feed_now bytes going taken spends = spends
+spends_item BlockShort feed feed_now bytes going taken spends = spends
+spends_item End feed feed_now bytes going taken spends = absurd (let no = taken.end in cc)
 
 -- the number of the next item
-pub numbered : (item : Option Item) (moved run' : Run) (ended : Bool) (bytes rest : List ℕ) → ended ≡ false → TakesItem item ended bytes rest → TakesNext item moved run' → run'.number ≡ moved.number + 1
-numbered None moved run' ended bytes rest e t s = absurd (let no = t.end in cc)
-numbered (Some item) moved run' ended bytes rest e t s = s.number
+pub numbered : (item : Option Item) (moved run_now : Run) (ended : Bool) (bytes rest : List ℕ) → ended ≡ false → IsTaken item ended bytes rest → TakesNext item moved run_now
+    → run_now.number ≡ moved.number + 1
+numbered None moved run_now ended bytes rest going taken takes = absurd (let no = taken.end in cc)
+numbered (Some item) moved run_now ended bytes rest going taken takes = takes.number
+
+-- a write in the final list stops for want of memory or by a fault of the sink
+pub stops_after : (stop : Stop) (before now : Outside) (calls calls_now : Calls) → Takes before now (λ count. count ≤ (2 ^ 40)) → WriteCause stop calls calls_now → Reaches (status_of (Err stop)) before now
+stops_after stops.OutOfMemory before now calls calls_now takes cause = takes
+stops_after stops.WriteFault before now calls calls_now takes cause = takes
+stops_after stops.ReadFault before now calls calls_now takes cause = absurd cause
+stops_after stops.TooLong before now calls calls_now takes cause = absurd cause

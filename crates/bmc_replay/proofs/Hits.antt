@@ -20,9 +20,10 @@ use Rattle.fru_record.specs.Lookups.{text_named}
 use Rattle.cfg_json.specs.Probes.{matches}
 use Rattle.cfg_json.specs.declared.probe.PlainProbe.{PlainProbe}
 use Rattle.cfg_json.specs.declared.probe.PlainProbe.TheVariants.{Always, Contains}
-use Rattle.bmc_machine.specs.Histories.{Fru, fields_in, fields_of}
-use Rattle.bmc_machine.specs.Boards.{is_visible, is_hit, is_hit_of, has_board, index_in}
-use Rattle.bmc_machine.proofs.SameBoards.{board_itself}
+use Rattle.bmc_machine.specs.Standings.{Fru, fields_in, fields_of}
+use Rattle.bmc_machine.specs.Boards.{is_visible, is_hit, is_hit_of, has_board}
+use Rattle.bmc_machine.specs.Indexes.{index_in}
+use Rattle.bmc_machine.proofs.BoardLemmas.{board_itself}
 use Rattle.bmc_replay.specs.Kept.{hits_of, with_board}
 
 -- what each number gives one of, or nothing

@@ -11,9 +11,10 @@ use Rattle.std.proofs.Math.Seq.{map-set_same}
 use Rattle.std.proofs.lemmas.List.Sums.{prefix_len-le-length}
 use Rattle.bmc_base.specs.Places.{Place, place_eq}
 use Rattle.cfg_json.specs.Configs.{Config}
-use Rattle.bmc_machine.specs.Boards.{has_board, index_in, name_of}
+use Rattle.bmc_machine.specs.Boards.{has_board, name_of}
+use Rattle.bmc_machine.specs.Indexes.{index_in}
 use Rattle.bmc_machine.proofs.Changed.{get_more}
-use Rattle.bmc_machine.proofs.SameBoards.{board_itself}
+use Rattle.bmc_machine.proofs.BoardLemmas.{board_itself}
 use Rattle.bmc_replay.specs.Kept.{kept_of, kept_with, with_board}
 use Rattle.bmc_replay.proofs.Hits.{index_with, with_board_is}
 

@@ -7,12 +7,12 @@ use Rattle.std.specs.Ordering.{is_eq, is_lt, match_ordering}
 use Rattle.std.specs.Map.{lookup, remove_entry}
 use Rattle.std.specs.BTreeMap.{insert_entry, is_at as is_key}
 use Rattle.bmc_base.specs.Places.{Place, place_cmp}
-use Rattle.bmc_machine.specs.Histories.{Fru, is_at, is_present, put, without}
+use Rattle.bmc_machine.specs.Standings.{Fru, is_at, is_present, put, without}
 use Rattle.bmc_replay.specs.declared.present.Entry.{Entry}
 use Rattle.bmc_replay.specs.Kept.{fru_of, frus_of, hits_of}
 use Rattle.cfg_json.specs.Configs.{Config}
 use Rattle.std.specs.List.{flat_map}
-use Rattle.bmc_machine.proofs.SameBoards.{place_same, place_cmp_eq}
+use Rattle.bmc_machine.proofs.BoardLemmas.{place_same, place_cmp_eq}
 use Rattle.bmc_machine.proofs.Found.{gone_one}
 
 -- a look-up finds what is present

@@ -3,6 +3,7 @@ pub mod Hits
 pub mod ViewChanges
 pub mod Keeping
 pub mod States
-pub mod Gathered
-pub mod Machine
+pub mod GatheringLemmas
+pub mod SoFar
+pub mod StandsLemmas
 pub mod Along

@@ -20,14 +20,15 @@ use Rattle.cfg_json.specs.Probes.{value}
 use Rattle.std.proofs.lemmas.Bool.Decides.{nat_tests}
 use Rattle.bmc_report.specs.declared.refusal.Refusal.{Refusal}
 use Rattle.bmc_report.specs.declared.refusal.Refusal.TheVariants.{Occupied, NotPresent, DuplicateName, ConfigLimit}
-use Rattle.bmc_machine.specs.Histories.{Step, Configure, Plug, Unplug, Fru, is_present, put, without, broken_rule, refusal_of}
+use Rattle.bmc_machine.specs.Standings.{Fru, is_present, put, without}
 use Rattle.bmc_machine.specs.Boards.{boards, is_hit_of, has_board}
-use Rattle.bmc_machine.specs.Runs.{judged}
+use Rattle.bmc_machine.specs.Histories.{Step, Configure, Plug, Unplug}
+use Rattle.bmc_machine.specs.Refusals.{broken_rule, refusal_of}
 use Rattle.bmc_machine.proofs.Changed.{standing_of}
-use Rattle.bmc_machine.proofs.SameBoards.{all_pass, pass_all, except_none, kept_all}
+use Rattle.bmc_machine.proofs.BoardLemmas.{all_pass, pass_all, except_none, kept_all}
 use Rattle.bmc_replay.specs.declared.present.Entry.{Entry}
-use Rattle.bmc_replay.specs.Kept.{View, AreKept, IsMoved, fru_of, frus_of, hits_of, kept_of, kept_after, kept_with, board_at, first_kept, first_text, view_changes}
-use Rattle.bmc_replay.specs.Steps.{Comes, view_step}
+use Rattle.bmc_replay.specs.Kept.{View, AreKept, IsAfter, fru_of, frus_of, hits_of, kept_of, kept_after, kept_with, board_at, first_kept, first_text, view_changes}
+use Rattle.bmc_replay.specs.Runs.{Tries, IsLeft, step_text}
 use Rattle.bmc_replay.proofs.KeptFrus.{is_some-lookup, frus-insert, frus-remove, gone_of, gone_found, hits-insert, hits-remove, hits-found}
 use Rattle.bmc_replay.proofs.Hits.{flat_map_map}
 use Rattle.bmc_replay.proofs.ViewChanges.{plug_kept, plug_changes, unplug_kept, unplug_changes, configure_kept, configure_changes}
@@ -37,10 +38,9 @@ abbrev pub view_of : List Config → List (Place × Entry) → Bool → List (Li
 view_of configs entries plugged lists = record { now = standing_of configs plugged (frus_of entries); kept = lists }
 
 -- a step that is not refused is accepted
-accepted : (view : View) (step : Step) (refusal : Option Refusal) (new : View) (text text_now : List ℕ) → refusal_of view.now step ≡ None → IsMoved view step new → text_now ≡ text ++ flat_map (change_line 0) (view_changes view step) → Comes (view_step view step) None view new text text_now
-accepted view step refusal new text text_now taken moved printed =
-    subst (λ (refusal : Option Refusal). Comes (judged step (view_changes view step) refusal) None view new text text_now) (sym taken)
-    (record { answer = refl; stands = moved; printed = printed })
+accepted : (view : View) (step : Step) (new : View) (text text_now : List ℕ)
+    → refusal_of view.now step ≡ None → IsAfter view step new → text_now ≡ text ++ flat_map (change_line 0) (view_changes view step) → Tries view step None new text text_now
+accepted view step new text text_now taken after printed = record { reason = sym taken; left = after; gathered = printed }
 
 -- A FRU is plugged.
 module _ (configs : List Config) (entries : List (Place × Entry)) (was : Bool) (lists lists' : List (List (Option Place))) (place : Place) (kept : Entry) (state : AreKept configs entries was lists) (free : is_present (frus_of entries) place ≡ false) (hits : kept.hits.items ≡ hits_of configs (fru_of (place, kept))) (new : (number : ℕ) → kept_of lists' number ≡ kept_with kept.hits.items place (kept_of lists) number) where
@@ -53,9 +53,9 @@ module _ (configs : List Config) (entries : List (Place × Entry)) (was : Bool) 
       new number ∙ ap (λ (hits : List ℕ). kept_with hits place (kept_of lists) number) hits
       ∙ plug_kept configs was true (fru_of (place, kept)) (frus_of entries) (kept_of lists) state.boards number
 
-  pub plugged_comes : (text text_now : List ℕ) → broken_rule (record_of kept.bytes) ≡ None → text_now ≡ text ++ flat_map (λ hit. change_line 0 (board_at false configs (kept_of lists) place hit)) kept.hits.items → Comes (view_step (view_of configs entries was lists) (Plug place kept.bytes)) None (view_of configs entries was lists) (view_of configs (insert_entry place_cmp entries place kept) true lists') text text_now
+  pub plugged_comes : (text text_now : List ℕ) → broken_rule (record_of kept.bytes) ≡ None → text_now ≡ text ++ flat_map (λ hit. change_line 0 (board_at false configs (kept_of lists) place hit)) kept.hits.items → Tries (view_of configs entries was lists) (Plug place kept.bytes) None (view_of configs (insert_entry place_cmp entries place kept) true lists') text text_now
   plugged_comes text text_now whole printed =
-      accepted (view_of configs entries was lists) (Plug place kept.bytes) None (view_of configs (insert_entry place_cmp entries place kept) true lists') text text_now
+      accepted (view_of configs entries was lists) (Plug place kept.bytes) (view_of configs (insert_entry place_cmp entries place kept) true lists') text text_now
       (ap (λ (b : Bool). cond b (Some Occupied) (broken_rule (record_of kept.bytes))) free ∙ whole)
       (record { now = ap (standing_of configs true) put_in; kept = plugged_after })
       (printed ∙ ap (λ (t : List ℕ). text ++ t) (
@@ -88,9 +88,9 @@ module _ (configs : List Config) (entries : List (Place × Entry)) (was : Bool) 
   unplugged_after : (number : ℕ) → kept_of lists number ≡ kept_after (kept_of lists) (standing_of configs was (without place (frus_of entries))) number
   unplugged_after number = sym (ap (λ (l : List (Option Place)). kept_of lists number ++ l) (except_none (has_board (kept_of lists number)) (boards (standing_of configs was (without place (frus_of entries))) number) (all_stay number)) ∙ append-nil (kept_of lists number))
 
-  pub unplugged_comes : (text text_now : List ℕ) → text_now ≡ text ++ flat_map (λ hit. change_line 0 (board_at true configs (kept_of lists) place hit)) kept.hits.items → Comes (view_step (view_of configs entries was lists) (Unplug place)) None (view_of configs entries was lists) (view_of configs (remove_entry (is_key (place_cmp place)) entries) was lists) text text_now
+  pub unplugged_comes : (text text_now : List ℕ) → text_now ≡ text ++ flat_map (λ hit. change_line 0 (board_at true configs (kept_of lists) place hit)) kept.hits.items → Tries (view_of configs entries was lists) (Unplug place) None (view_of configs (remove_entry (is_key (place_cmp place)) entries) was lists) text text_now
   unplugged_comes text text_now printed =
-      accepted (view_of configs entries was lists) (Unplug place) None (view_of configs (remove_entry (is_key (place_cmp place)) entries) was lists) text text_now
+      accepted (view_of configs entries was lists) (Unplug place) (view_of configs (remove_entry (is_key (place_cmp place)) entries) was lists) text text_now
       (ap (λ (b : Bool). cond b None (Some NotPresent)) was_present)
       (record { now = ap (standing_of configs was) taken_out; kept = unplugged_after })
       (printed ∙ ap (λ (t : List ℕ). text ++ t) (
@@ -115,11 +115,10 @@ module _ (configs : List Config) (entries : List (Place × Entry)) (was : Bool) 
   }
 
 -- where no FRU is at a place, none is taken away
-pub not_present : (configs : List Config) (entries : List (Place × Entry)) (was : Bool) (lists : List (List (Option Place))) (place : Place) (text : List ℕ) → lookup (is_key (place_cmp place)) entries ≡ None → Comes (view_step (view_of configs entries was lists) (Unplug place)) (Some NotPresent) (view_of configs entries was lists) (view_of configs entries was lists) text text
+pub not_present : (configs : List Config) (entries : List (Place × Entry)) (was : Bool) (lists : List (List (Option Place))) (place : Place) (text : List ℕ) → lookup (is_key (place_cmp place)) entries ≡ None → Tries (view_of configs entries was lists) (Unplug place) (Some NotPresent) (view_of configs entries was lists) text text
 not_present configs entries was lists place text none =
     let absent : is_present (frus_of entries) place ≡ false = sym (is_some-lookup place entries) ∙ ap is_some none in
-    subst (λ (b : Bool). Comes (judged (Unplug place) (view_changes (view_of configs entries was lists) (Unplug place)) (cond b None (Some NotPresent))) (Some NotPresent) (view_of configs entries was lists) (view_of configs entries was lists) text text) (sym absent)
-    (record { answer = refl; stands = refl; printed = sym (append-nil text) })
+    record { reason = ap (λ (b : Bool). cond b None (Some NotPresent)) (sym absent); left = refl; gathered = sym (append-nil text) }
 
 no_entries : (entries : List (Place × Entry)) → (false || (length entries == 0)) ≡ true → entries ≡ []
 no_entries [] h = refl
@@ -162,9 +161,9 @@ module _ (configs : List Config) (entries : List (Place × Entry)) (lists : List
   line_of true = append-nil _
   line_of false = refl
 
-  pub configured_comes : (text text_now : List ℕ) → number_of configs config.name ≡ None → nat_le 256 (length configs) ≡ false → text_now ≡ text ++ first_text config → Comes (view_step (view_of configs entries false lists) (Configure config)) None (view_of configs entries false lists) (view_of (configs ++ config ∷ []) entries false (lists ++ first_kept config ∷ [])) text text_now
+  pub configured_comes : (text text_now : List ℕ) → number_of configs config.name ≡ None → nat_le 256 (length configs) ≡ false → text_now ≡ text ++ first_text config → Tries (view_of configs entries false lists) (Configure config) None (view_of (configs ++ config ∷ []) entries false (lists ++ first_kept config ∷ [])) text text_now
   configured_comes text text_now new few printed =
-      accepted (view_of configs entries false lists) (Configure config) None (view_of (configs ++ config ∷ []) entries false (lists ++ first_kept config ∷ [])) text text_now
+      accepted (view_of configs entries false lists) (Configure config) (view_of (configs ++ config ∷ []) entries false (lists ++ first_kept config ∷ [])) text text_now
       (ap (λ (o : Option ℕ). cond (is_some o) (Some DuplicateName) (cond (nat_le 256 (length configs)) (Some ConfigLimit) None)) new ∙ ap (λ (b : Bool). cond b (Some ConfigLimit) None) few)
       (record { now = refl; kept = configured_after })
       (printed ∙ ap (λ (t : List ℕ). text ++ t) (sym (rw no_frus (ap (flat_map (change_line 0)) (configure_changes configs config false (kept_of lists) none_yet) ∙ line_of (value config.probe false)))))

@@ -10,9 +10,11 @@ use Rattle.cfg_json.specs.Configs.{Config}
 use Rattle.cfg_json.specs.Probes.{value}
 use Rattle.bmc_report.specs.declared.change.Change.{Change}
 use Rattle.bmc_report.specs.declared.change.Change.TheVariants.{Board}
-use Rattle.bmc_machine.specs.Histories.{Fru, Standing, is_present, put, without}
-use Rattle.bmc_machine.specs.Boards.{boards, is_hit_of, has_board, except, index_in, name_of, boards_left, changes_between}
-use Rattle.bmc_machine.proofs.SameBoards.{all_pass, pass_all, except_none}
+use Rattle.bmc_machine.specs.Standings.{Fru, Standing, is_present, put, without}
+use Rattle.bmc_machine.specs.Boards.{boards, is_hit_of, has_board, name_of}
+use Rattle.bmc_machine.specs.Indexes.{except, index_in}
+use Rattle.bmc_machine.specs.Changes.{boards_left, changes_between}
+use Rattle.bmc_machine.proofs.BoardLemmas.{all_pass, pass_all, except_none}
 use Rattle.bmc_machine.proofs.Found.{gone_one}
 use Rattle.bmc_machine.proofs.Changed.{standing_of, get_more, more_boards, no_boards_yet, plug_new, plug_stays, none_there, unplug_stood, unplug_gone}
 use Rattle.bmc_replay.specs.Kept.{hits_of, kept_after, kept_with, with_board, board_at, first_kept}

@@ -9,8 +9,11 @@ use Rattle.cfg_json.specs.Probes.{value}
 use Rattle.bmc_report.specs.Changes.{change_line}
 use Rattle.bmc_report.specs.declared.change.Change.{Change}
 use Rattle.bmc_report.specs.declared.change.Change.TheVariants.{Board}
-use Rattle.bmc_machine.specs.Histories.{Step, Fru, Standing, after_step}
-use Rattle.bmc_machine.specs.Boards.{is_hit_of, boards, has_board, except, index_in, name_of, changes_between}
+use Rattle.bmc_machine.specs.Standings.{Fru, Standing}
+use Rattle.bmc_machine.specs.Boards.{is_hit_of, boards, has_board, name_of}
+use Rattle.bmc_machine.specs.Histories.{Step, after_step}
+use Rattle.bmc_machine.specs.Indexes.{except, index_in}
+use Rattle.bmc_machine.specs.Changes.{changes_between}
 use Rattle.bmc_replay.specs.declared.present.Entry.{Entry}
 
 abbrev pub fru_of : Place × Entry → Fru
@@ -38,7 +41,7 @@ abbrev pub kept_after : (ℕ → List (Option Place)) → Standing → ℕ → L
 kept_after kept now number = kept number ++ except (has_board (kept number)) (boards now number)
 
 -- a step leaves this
-pub record IsMoved (old : View) (step : Step) (new : View) : Type 0 where
+pub record IsAfter (old : View) (step : Step) (new : View) : Type 0 where
   pub now : new.now ≡ after_step old.now step
   pub kept : (number : ℕ) → kept_of new.kept number ≡ kept_after (kept_of old.kept) (after_step old.now step) number
 

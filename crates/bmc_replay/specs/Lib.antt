@@ -1,5 +1,6 @@
 pub mod Kept
-pub mod Steps
+pub mod Runs
 pub mod Gathering
-pub mod Advances
+pub mod Outside
 pub mod Statuses
+pub mod Stops

@@ -1,7 +1,7 @@
 ghost use Rattle.std.specs.Prelude.{◌≡◌, ◌+◌, ◌<◌, ◌++◌, ◌∷◌, [], List, Option, None, if◌then◌else◌, length, map, IfOk, OnOk, OnErr};
 ghost use Rattle.bmc_base.specs.Places.{Place};
 ghost use Rattle.std.specs.List.{slice_index_or, slice_set};
-ghost use Rattle.bmc_machine.specs.Boards.{index_in};
+ghost use Rattle.bmc_machine.specs.Indexes.{index_in};
 ghost use Rattle.bmc_replay.specs.Kept.{kept_of, with_board};
 
 use bmc_base::{OutOfMemory, Place};

@@ -1,11 +1,11 @@
 ghost use Rattle.std.specs.Prelude.{◌≡◌, ◌<◌, ◌++◌, [], length, OnOk, OnErr, MatchResult, string_bytes};
-ghost use Rattle.std.specs.Io.KnownBytes.{Appends};
-ghost use Rattle.bmc_base.specs.Counts.{HasCause};
+ghost use Rattle.bmc_base.specs.Calls.{HasCause};
+ghost use Rattle.bmc_io.specs.Told.{added};
 ghost use Rattle.bmc_io.specs.Sinks.{AppendsFront};
-ghost use Rattle.bmc_machine.specs.Runs.{final_list, row_of};
+ghost use Rattle.bmc_machine.specs.Answers.{final_list, row_of};
 ghost use Rattle.bmc_replay.specs.Kept.{frus_of};
 ghost use Rattle.bmc_replay.specs.Statuses.{WriteCause};
-ghost use Rattle.bmc_replay.specs.Gathering.{Gathers};
+ghost use Rattle.bmc_replay.specs.Gathering.{Gathers, most_gathered};
 
 use crate::present::Entry;
 use crate::stop::Stop;
@@ -20,12 +20,12 @@ use std::collections::BTreeMap;
 /// How many bytes of text are gathered before they are written.
 pub const GATHERED: usize = 64 * 1024;
 
-/// Writes all that is gathered, or a front of it.
+/// Writes all that is gathered, or a front of it where a write fails.
 pub fn flush<K: Sink>(text: &mut String, output: &mut K) -> Result<(), IoFault>
-    ensures all { OnOk result (Appends (K.taken output.old) (K.taken output.new) (string_bytes text.old)) }
+    ensures all { OnOk result ((K.seen output.new).taken ≡ added (K.seen output.old).taken (string_bytes text.old)) }
     ensures none { OnOk result (string_bytes text.new ≡ []) }
-    ensures front { AppendsFront (K.taken output.old) (K.taken output.new) (string_bytes text.old) }
-    ensures cause { HasCause (K.faults output.old) (K.faults output.new) result }
+    ensures front { AppendsFront (K.seen output.old).taken (K.seen output.new).taken (string_bytes text.old) }
+    ensures cause { HasCause (K.seen output.old).calls (K.seen output.new).calls result }
 {
     put_all(output, text.as_str().as_bytes())?;
     text.clear();
@@ -33,11 +33,11 @@ pub fn flush<K: Sink>(text: &mut String, output: &mut K) -> Result<(), IoFault>
 }
 
 /// Writes all that is gathered where it has grown large, or a front of it.
-pub fn relieve<K: Sink>(text: &mut String, output: &mut K) -> Result<(), IoFault>
-    ensures all { OnOk result (Gathers (K.taken output.old) (K.taken output.new) (string_bytes text.old) (string_bytes text.new) []) }
-    ensures small { OnOk result (length (string_bytes text.new) < 65536) }
-    ensures front { OnErr result (AppendsFront (K.taken output.old) (K.taken output.new) (string_bytes text.old)) }
-    ensures cause { HasCause (K.faults output.old) (K.faults output.new) result }
+pub fn flush_large<K: Sink>(text: &mut String, output: &mut K) -> Result<(), IoFault>
+    ensures all { OnOk result (Gathers (K.seen output.old).taken (K.seen output.new).taken (string_bytes text.old) (string_bytes text.new) []) }
+    ensures small { OnOk result (length (string_bytes text.new) < most_gathered) }
+    ensures front { OnErr result (AppendsFront (K.seen output.old).taken (K.seen output.new).taken (string_bytes text.old)) }
+    ensures cause { HasCause (K.seen output.old).calls (K.seen output.new).calls result }
 {
     if text.len() < GATHERED {
         return Ok(());
@@ -63,13 +63,13 @@ pub fn push_list<K: Sink>(
     text: &mut String,
     output: &mut K,
 ) -> Result<(), Stop>
-    ensures all { OnOk result (Gathers (K.taken output.old) (K.taken output.new) (string_bytes text.old) (string_bytes text.new) (final_list (frus_of frus.now.entries))) }
-    ensures front { OnErr result (AppendsFront (K.taken output.old) (K.taken output.new) (string_bytes text.old ++ final_list (frus_of frus.now.entries))) }
-    ensures cause { MatchResult result (λ _. K.faults output.new ≡ K.faults output.old) (λ stop. WriteCause stop (K.faults output.old) (K.faults output.new)) }
+    ensures all { OnOk result (Gathers (K.seen output.old).taken (K.seen output.new).taken (string_bytes text.old) (string_bytes text.new) (final_list (frus_of frus.now.entries))) }
+    ensures front { OnErr result (AppendsFront (K.seen output.old).taken (K.seen output.new).taken (string_bytes text.old ++ final_list (frus_of frus.now.entries))) }
+    ensures cause { MatchResult result (λ _. (K.seen output.new).calls.faults ≡ (K.seen output.old).calls.faults) (λ stop. WriteCause stop (K.seen output.old).calls (K.seen output.new).calls) }
 {
     'rows: for (place, entry) in frus.iter() {
         push_row(alloc, text, *place, entry.bytes.as_slice())?;
-        relieve(text, output)?;
+        flush_large(text, output)?;
     }
     Ok(())
 }

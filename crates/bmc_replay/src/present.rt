@@ -2,7 +2,7 @@ ghost use Rattle.std.specs.Prelude.{◌≡◌, false, OnOk, OnErr};
 ghost use Rattle.std.specs.Map.{lookup, remove_entry};
 ghost use Rattle.std.specs.BTreeMap.{insert_entry, is_at};
 ghost use Rattle.bmc_base.specs.Places.{place_cmp};
-ghost use Rattle.bmc_machine.specs.Histories.{is_present};
+ghost use Rattle.bmc_machine.specs.Standings.{is_present};
 ghost use Rattle.bmc_replay.specs.Kept.{frus_of};
 
 use bmc_base::{Bytes, OutOfMemory, Place};

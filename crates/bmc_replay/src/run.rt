@@ -1,23 +1,23 @@
-ghost use Rattle.std.specs.Prelude.{◌≡◌, ◌<◌, ◌^◌, IfOk, OnOk, string_bytes};
+ghost use Rattle.std.specs.Prelude.{◌≡◌, ◌<◌, ◌^◌, Ok, IfOk, OnOk, string_bytes};
 ghost use Rattle.bmc_text.specs.Items as items;
 ghost use Rattle.bmc_text.specs.Taking.{item_next};
-ghost use Rattle.bmc_machine.specs.Runs.{command_outcome};
-ghost use Rattle.bmc_replay.specs.Kept.{view_changes};
-ghost use Rattle.bmc_replay.specs.Steps.{Comes, CountsItem, IsNew, TakesNext, view_item};
+ghost use Rattle.bmc_machine.specs.Answers.{answer, answer_command};
+ghost use Rattle.bmc_replay.specs.Runs.{Answers, CountsItem, IsNew, TakesNext};
 
 use crate::output::GATHERED;
+use crate::refusing::config_refused;
 use crate::state::State;
 use bmc_base::OutOfMemory;
 use bmc_report::{Refusal, push_refused_line};
 use bmc_script::{Command, ScriptFault};
 use bmc_text::{Items, NextItem};
-use cfg_json::{Config, ConfigFault};
+use cfg_json::Config;
 use std::alloc::Global;
 
 /// A run of a script so far.
 #[derive(Drop)]
 pub struct Run {
-    /// What stands after it.
+    /// What is kept of the history.
     pub state: State,
     /// The text that is gathered and not yet written.
     pub text: String,
@@ -27,14 +27,15 @@ pub struct Run {
     pub refused: bool,
 }
 
-// Does what a command asks for and gathers what changes, or answers why it is refused.
-fn obey(
+// Does what a command asks for and gathers what changes, or returns why it is refused.
+#[tactic(auto, using(crate::proofs::StandsLemmas::silent_answers))]
+fn run_command(
     alloc: Global,
     state: &mut State,
     command: Command,
     text: &mut String,
 ) -> Result<Option<Refusal>, OutOfMemory>
-    ensures { IfOk result (λ refusal. Comes (command_outcome state.old.now (view_changes state.old) (Ok command)) refusal state.old state.new (string_bytes text.old) (string_bytes text.new)) }
+    ensures { IfOk result (λ refusal. Answers (λ line past. answer_command line past (Ok command)) refusal state.old state.new (string_bytes text.old) (string_bytes text.new)) }
 {
     match command {
         Command::Nothing => Ok(None),
@@ -43,23 +44,24 @@ fn obey(
     }
 }
 
-// Takes a line that asks for no block, and answers why it is refused, if it is.
+// Takes a line that asks for no block, and returns why it is refused, if it is.
+#[tactic(auto, using(crate::proofs::StandsLemmas::refused_answers))]
 fn take_line(
     alloc: Global,
     state: &mut State,
     line: &[u8],
     text: &mut String,
 ) -> Result<Option<Refusal>, OutOfMemory>
-    ensures { IfOk result (λ refusal. Comes (view_item state.old (items.Line line.now)) refusal state.old state.new (string_bytes text.old) (string_bytes text.new)) }
+    ensures { IfOk result (λ refusal. Answers (λ label past. answer label past (items.Line line.now)) refusal state.old state.new (string_bytes text.old) (string_bytes text.new)) }
 {
     match Command::read(alloc, line) {
-        Ok(command) => obey(alloc, state, command, text),
+        Ok(command) => run_command(alloc, state, command, text),
         Err(ScriptFault::UnknownCommand) => Ok(Some(Refusal::UnknownCommand)),
         Err(ScriptFault::OutOfMemory) => Err(OutOfMemory),
     }
 }
 
-// Takes the block of a configuration, and answers why it is refused, if it is.
+// Takes the block of a configuration, and returns why it is refused, if it is.
 #[inline(never)]
 fn take_block(
     alloc: Global,
@@ -67,16 +69,18 @@ fn take_block(
     block: &[u8],
     text: &mut String,
 ) -> Result<Option<Refusal>, OutOfMemory>
-    ensures { IfOk result (λ refusal. Comes (view_item state.old (items.Block block.now)) refusal state.old state.new (string_bytes text.old) (string_bytes text.new)) }
+    ensures { IfOk result (λ refusal. Answers (λ line past. answer line past (items.Block block.now)) refusal state.old state.new (string_bytes text.old) (string_bytes text.new)) }
 {
     match Config::read(alloc, block) {
         Ok(config) => state.configure(alloc, config, text),
-        Err(ConfigFault::OutOfMemory) => Err(OutOfMemory),
-        Err(rule) => Ok(Some(Refusal::Config(rule))),
+        Err(rule) => {
+            let refusal = config_refused(rule)?;
+            Ok(Some(refusal))
+        }
     }
 }
 
-// Gathers the text of an item and counts it.
+// Gathers the line of a refusal and counts the item.
 fn count_item(run: &mut Run, refusal: Option<Refusal>) -> Result<(), OutOfMemory>
     requires { run.old.number < 2 ^ 63 }
     ensures { OnOk result (CountsItem refusal run.old run.new) }
@@ -90,7 +94,7 @@ fn count_item(run: &mut Run, refusal: Option<Refusal>) -> Result<(), OutOfMemory
 }
 
 impl Run {
-    /// A run that has taken nothing. It takes room for the text that is gathered here, once.
+    /// A run that has taken nothing. Takes room for the text that is gathered, once.
     pub fn new(alloc: Global) -> Result<Run, OutOfMemory>
         ensures { IfOk result IsNew }
     {

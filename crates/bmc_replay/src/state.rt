@@ -1,15 +1,16 @@
 ghost use Rattle.std.specs.Prelude.{◌≡◌, ◌++◌, false, IfOk, OnOk, OnErr, MatchResult, string_bytes};
 ghost use Rattle.bmc_io.specs.Sinks.{AppendsFront};
 ghost use Rattle.bmc_machine.specs.Histories as histories;
-ghost use Rattle.bmc_machine.specs.Runs.{final_list};
+ghost use Rattle.bmc_machine.specs.Answers.{final_list};
 ghost use Rattle.bmc_replay.specs.Gathering.{Gathers};
 ghost use Rattle.bmc_replay.specs.Statuses.{WriteCause};
-ghost use Rattle.bmc_replay.specs.Steps.{Comes, view_step, none_kept};
+ghost use Rattle.bmc_replay.specs.Runs.{Tries, none_kept};
 
 use crate::boards::{accept, find_hits, keep_boards, push_boards};
 use crate::kept::Kept;
 use crate::output::push_list;
 use crate::present::{Entry, has, put_in, take_out};
+use crate::refusing::record_refused;
 use crate::stop::Stop;
 use bmc_base::{Bytes, OutOfMemory, Place};
 use bmc_io::Sink;
@@ -64,7 +65,7 @@ impl State {
         config: Config,
         text: &mut String,
     ) -> Result<Option<Refusal>, OutOfMemory>
-        ensures { IfOk result (λ refusal. Comes (view_step self.old (histories.Configure config)) refusal self.old self.new (string_bytes text.old) (string_bytes text.new)) }
+        ensures { IfOk result (λ refusal. Tries self.old (histories.Configure config) refusal self.new (string_bytes text.old) (string_bytes text.new)) }
     {
         if self.plugged {
             return Ok(Some(Refusal::ConfigAfterPlug));
@@ -87,13 +88,14 @@ impl State {
         bytes: Bytes,
         text: &mut String,
     ) -> Result<Option<Refusal>, OutOfMemory>
-        ensures { IfOk result (λ refusal. Comes (view_step self.old (histories.Plug place bytes)) refusal self.old self.new (string_bytes text.old) (string_bytes text.new)) }
+        ensures { IfOk result (λ refusal. Tries self.old (histories.Plug place bytes) refusal self.new (string_bytes text.old) (string_bytes text.new)) }
     {
         if has(&self.frus, place) {
             return Ok(Some(Refusal::Occupied));
         }
         if let Err(rule) = check_record(bytes.as_slice()) {
-            return Ok(Some(Refusal::Fru(rule)));
+            let refusal = record_refused(rule)?;
+            return Ok(Some(refusal));
         }
         let hits = find_hits(alloc, &self.configs, place, bytes.as_slice())?;
         push_boards(&self.configs, &self.kept, &hits, place, false, text)?;
@@ -109,7 +111,7 @@ impl State {
         place: Place,
         text: &mut String,
     ) -> Result<Option<Refusal>, OutOfMemory>
-        ensures { IfOk result (λ refusal. Comes (view_step self.old (histories.Unplug place)) refusal self.old self.new (string_bytes text.old) (string_bytes text.new)) }
+        ensures { IfOk result (λ refusal. Tries self.old (histories.Unplug place) refusal self.new (string_bytes text.old) (string_bytes text.new)) }
     {
         let Some(entry) = take_out(&mut self.frus, place) else {
             return Ok(Some(Refusal::NotPresent));
@@ -125,9 +127,9 @@ impl State {
         text: &mut String,
         output: &mut K,
     ) -> Result<(), Stop>
-        ensures all { OnOk result (Gathers (K.taken output.old) (K.taken output.new) (string_bytes text.old) (string_bytes text.new) (final_list self.now.now.frus)) }
-        ensures front { OnErr result (AppendsFront (K.taken output.old) (K.taken output.new) (string_bytes text.old ++ final_list self.now.now.frus)) }
-        ensures cause { MatchResult result (λ _. K.faults output.new ≡ K.faults output.old) (λ stop. WriteCause stop (K.faults output.old) (K.faults output.new)) }
+        ensures all { OnOk result (Gathers (K.seen output.old).taken (K.seen output.new).taken (string_bytes text.old) (string_bytes text.new) (final_list self.now.now.frus)) }
+        ensures front { OnErr result (AppendsFront (K.seen output.old).taken (K.seen output.new).taken (string_bytes text.old ++ final_list self.now.now.frus)) }
+        ensures cause { MatchResult result (λ _. (K.seen output.new).calls.faults ≡ (K.seen output.old).calls.faults) (λ stop. WriteCause stop (K.seen output.old).calls (K.seen output.new).calls) }
     {
         push_list(alloc, &self.frus, text, output)
     }

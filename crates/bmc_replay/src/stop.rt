@@ -4,23 +4,6 @@ ghost use Rattle.bmc_replay.specs.declared.stop.Stop.TheVariants.{OutOfMemory, W
 use bmc_io::IoFault;
 use bmc_text::LineFault;
 
-/// How a replay ends.
-#[derive(Clone, Copy, Debug, PartialEq, Eq)]
-pub enum Status {
-    /// The script was read to its end, all was written, and nothing was refused.
-    Done,
-    /// The same, but at least one line was refused.
-    Refused,
-    /// There was no memory.
-    OutOfMemory,
-    /// The source failed.
-    ReadFault,
-    /// The sink failed.
-    WriteFault,
-    /// 2^40 bytes of the script were taken.
-    TooLong,
-}
-
 // Why a run stops before the script's end.
 #[derive(Clone, Copy, Debug, PartialEq, Eq)]
 pub enum Stop {

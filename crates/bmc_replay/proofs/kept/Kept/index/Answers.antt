@@ -2,7 +2,7 @@ use Rattle.std.proofs.Common.{◌≡◌, ◌∙◌, ℕ, sym, ap, List, Option, 
 use Rattle.std.proofs.lemmas.List.{length-map}
 use Rattle.std.specs.Option.{unwrap_or, option_eq}
 use Rattle.bmc_base.specs.Places.{Place, place_eq}
-use Rattle.bmc_machine.specs.Boards.{index_in}
+use Rattle.bmc_machine.specs.Indexes.{index_in}
 use Rattle.bmc_replay.specs.Kept.{kept_of}
 use Rattle.bmc_replay.proofs.Keeping.{if_ok, index_is, keys_at}
 use Rattle.bmc_replay.proofs.kept.Kept.index.Goals as goal

@@ -1,10 +1,13 @@
-use Rattle.std.proofs.Common.{◌≡◌, ◌++◌, ◌∙◌, ℕ, List, None, false, true, arith, sym, ap, subst, string_bytes}
+use Rattle.std.proofs.Common.{◌≡◌, ◌++◌, ◌∙◌, ℕ, List, None, Some, Err, false, true, arith, sym, ap, subst, string_bytes}
+use Rattle.fru_area.specs.Answers.{checked}
+use Rattle.bmc_replay.proofs.StandsLemmas.{broken_tries}
 use Rattle.std.specs.List.{flat_map}
 use Rattle.bmc_report.specs.Changes.{change_line}
 use Rattle.fru_record.specs.Records.{record_of}
-use Rattle.bmc_machine.specs.Histories.{Plug, broken_rule}
+use Rattle.bmc_machine.specs.Histories.{Plug}
+use Rattle.bmc_machine.specs.Refusals.{broken_rule}
 use Rattle.bmc_replay.specs.Kept.{View, hits_of, kept_of, kept_with, board_at}
-use Rattle.bmc_replay.specs.Steps.{Comes, view_step}
+use Rattle.bmc_replay.specs.Runs.{Tries}
 use Rattle.bmc_replay.proofs.States.{view_of, hits_within, more_kept, checked_whole, plugged_comes, plugged_kept}
 use Rattle.bmc_replay.proofs.state.State.plug.Goals as goal
 
@@ -38,5 +41,11 @@ returns c =
     (λ number. c.in_ok-keep_boards.ensures.kept number ∙ ap (λ (hits : List ℕ). kept_with hits c.args.place (kept_of c.self.inside.kept) number) c.deref-2.ensures.value)
     (string_bytes c.args.text.now) (string_bytes c.push_boards.new.text) whole
     (c.in_ok-push_boards.ensures ∙ ap (λ (hits : List ℕ). string_bytes c.args.text.now ++ flat_map (λ hit. change_line 0 (board_at false c.self.inside.configs (kept_of c.self.inside.kept) c.args.place hit)) hits) c.deref.ensures.value) in
-    subst (λ (view : View). Comes (view_step view (Plug c.args.place c.args.bytes)) None view (view_of c.self.inside.configs c.put_in.new.frus.entries true c.keep_boards.new.kept) (string_bytes c.args.text.now) (string_bytes c.push_boards.new.text)) c.self.view_is
+    subst (λ (view : View). Tries view (Plug c.args.place c.args.bytes) None (view_of c.self.inside.configs c.put_in.new.frus.entries true c.keep_boards.new.kept) (string_bytes c.args.text.now) (string_bytes c.push_boards.new.text)) c.self.view_is
     (rw c.in_ok-put_in.ensures.ok comes)
+
+pub returns-in-Err : goal.returns-in-Err
+returns-in-Err c =
+    subst (λ (view : View). Tries view (Plug c.args.place c.args.bytes) (Some c.in_ok-refusal.refusal) view (string_bytes c.args.text.now) (string_bytes c.args.text.now)) c.self.view_is
+    (broken_tries (view_of c.self.inside.configs c.self.inside.frus.entries c.self.inside.plugged c.self.inside.kept) c.args.place c.args.bytes (string_bytes c.args.text.now) c.in-Err.rule c.in_ok-refusal.refusal tt
+    (sym c.if-has.ensures) (subst (λ (bytes : List ℕ). Err c.in-Err.rule ≡ checked (record_of bytes)) c.as_slice.ensures c.in-Err.ensures) c.in_ok-refusal.ensures)

@@ -1,6 +1,6 @@
 use Rattle.std.proofs.lemmas.Result.{err_from_is_err_and}
-use Rattle.bmc_replay.proofs.Gathered.{gathers_cut}
-use Rattle.bmc_replay.proofs.top.finish.Goals as goal
+use Rattle.bmc_replay.proofs.GatheringLemmas.{gathers_cut}
+use Rattle.bmc_replay.proofs.replaying.finish.Goals as goal
 
 pub returns-in_err-flush-clause-front : goal.returns-in_err-flush-clause-front
 returns-in_err-flush-clause-front g c =

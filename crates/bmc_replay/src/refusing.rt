@@ -1,0 +1,43 @@
+ghost use Rattle.std.specs.Prelude.{◌≡◌, Some, IfOk};
+ghost use Rattle.bmc_machine.specs.Refusals.{record_refusal, config_refusal};
+
+use bmc_base::OutOfMemory;
+use bmc_report::Refusal;
+use cfg_json::ConfigFault;
+use fru_area::FruFault;
+
+/// The refusal by a rule that bytes break to be a record.
+pub fn record_refused(rule: FruFault) -> Result<Refusal, OutOfMemory>
+    ensures { IfOk result (λ refusal. record_refusal rule ≡ Some refusal) }
+{
+    let refusal = match rule {
+        FruFault::FruShort => Refusal::FruShort,
+        FruFault::FruTooLong => Refusal::FruTooLong,
+        FruFault::HeaderVersion => Refusal::HeaderVersion,
+        FruFault::HeaderChecksum => Refusal::HeaderChecksum,
+        FruFault::AreaOutside(area) => Refusal::AreaOutside(area),
+        FruFault::AreaVersion(area) => Refusal::AreaVersion(area),
+        FruFault::AreaLength(area) => Refusal::AreaLength(area),
+        FruFault::AreaChecksum(area) => Refusal::AreaChecksum(area),
+        FruFault::FieldOutside(area) => Refusal::FieldOutside(area),
+        FruFault::NoEnd(area) => Refusal::NoEnd(area),
+        FruFault::OutOfMemory => return Err(OutOfMemory),
+    };
+    Ok(refusal)
+}
+
+/// The refusal by a rule that a document breaks.
+pub fn config_refused(rule: ConfigFault) -> Result<Refusal, OutOfMemory>
+    ensures { IfOk result (λ refusal. config_refusal rule ≡ Some refusal) }
+{
+    let refusal = match rule {
+        ConfigFault::NotJson => Refusal::NotJson,
+        ConfigFault::Fraction => Refusal::Fraction,
+        ConfigFault::MissingKey => Refusal::MissingKey,
+        ConfigFault::WrongKind => Refusal::WrongKind,
+        ConfigFault::OutOfRange => Refusal::OutOfRange,
+        ConfigFault::ProbeForm => Refusal::ProbeForm,
+        ConfigFault::OutOfMemory => return Err(OutOfMemory),
+    };
+    Ok(refusal)
+}

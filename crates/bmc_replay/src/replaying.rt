@@ -1,0 +1,101 @@
+ghost use Rattle.std.specs.Prelude.{◌≡◌, ◌<◌, ◌≤◌, ◌^◌, ◌++◌, [], true, false, Ok, Err, OnOk, OnErr, IfOk, IfErr, MatchResult, string_bytes};
+ghost use Rattle.std.specs.Io.KnownBytes.{IsAtEnd};
+ghost use Rattle.bmc_io.specs.Told.{added};
+ghost use Rattle.bmc_io.specs.Sinks.{AppendsFront};
+ghost use Rattle.bmc_text.specs.Taking.{TakesNextItem, SpendsItem};
+ghost use Rattle.bmc_machine.specs.Answers.{final_list};
+ghost use Rattle.bmc_replay.specs.Gathering.{Gathers};
+ghost use Rattle.bmc_replay.specs.Outside.{outside};
+ghost use Rattle.bmc_replay.specs.Stops.{StopsAt};
+ghost use Rattle.bmc_replay.specs.Statuses.{Replays, Reaches, HasReason, WriteCause, status_of};
+
+use crate::output::{flush, flush_large};
+use crate::run::Run;
+use crate::status::Status;
+use crate::stop::Stop;
+use bmc_io::{Sink, Source};
+use bmc_text::{Items, NextItem};
+use std::alloc::Global;
+
+// What comes next of the script. What is gathered is written before the source is asked again.
+#[tactic(auto, using(crate::proofs::Along::stops_unread))]
+fn advance<S: Source, K: Sink>(
+    alloc: Global,
+    items: &mut Items,
+    text: &mut String,
+    input: &mut S,
+    output: &mut K,
+) -> Result<NextItem, Stop>
+    requires { items.old.ended ≡ false }
+    ensures next { IfOk result (λ next. TakesNextItem next items.old items.new (S.seen input.old).left (S.seen input.new).left) }
+    ensures spends { IfOk result (λ next. SpendsItem next items.old items.new) }
+    ensures gathered { OnOk result (Gathers (K.seen output.old).taken (K.seen output.new).taken (string_bytes text.old) (string_bytes text.new) []) }
+    ensures at_end { OnOk result (items.new.ended ≡ true → IsAtEnd (S.seen input.new).left) }
+    ensures stops { IfErr result (λ stop. StopsAt stop items.old items.new (outside (S.seen input.old) (K.seen output.old)) (outside (S.seen input.new) (K.seen output.new)) (string_bytes text.old)) }
+    ensures limit { items.new.read ≤ (2 ^ 40) }
+    ensures below { items.new.ended ≡ true → items.new.read < (2 ^ 40) }
+    ensures reason { MatchResult result (λ _. HasReason Status.Done (outside (S.seen input.old) (K.seen output.old)) (outside (S.seen input.new) (K.seen output.new))) (λ stop. HasReason (status_of (Err stop)) (outside (S.seen input.old) (K.seen output.old)) (outside (S.seen input.new) (K.seen output.new))) }
+{
+    if let Some(next) = items.next_buffered(alloc)? {
+        return Ok(next);
+    }
+    flush(text, output)?;
+    let next = items.next(alloc, input)?;
+    Ok(next)
+}
+
+// Writes what is gathered, and then the final list.
+fn finish<K: Sink>(alloc: Global, run: &mut Run, output: &mut K) -> Result<(), Stop>
+    ensures all { OnOk result ((K.seen output.new).taken ≡ added (K.seen output.old).taken (string_bytes run.old.text ++ final_list run.old.state.now.frus)) }
+    ensures front { OnErr result (AppendsFront (K.seen output.old).taken (K.seen output.new).taken (string_bytes run.old.text ++ final_list run.old.state.now.frus)) }
+    ensures cause { MatchResult result (λ _. (K.seen output.new).calls.faults ≡ (K.seen output.old).calls.faults) (λ stop. WriteCause stop (K.seen output.old).calls (K.seen output.new).calls) }
+{
+    run.state.push_list(alloc, &mut run.text, output)?;
+    flush(&mut run.text, output)?;
+    Ok(())
+}
+
+// Replays a script, and says whether an item was refused.
+fn replay_items<S: Source, K: Sink>(
+    alloc: Global,
+    input: &mut S,
+    output: &mut K,
+) -> Result<bool, Stop>
+    ensures text { Replays (status_of result) (outside (S.seen input.old) (K.seen output.old)) (outside (S.seen input.new) (K.seen output.new)) }
+    ensures reached { Reaches (status_of result) (outside (S.seen input.old) (K.seen output.old)) (outside (S.seen input.new) (K.seen output.new)) }
+    ensures reason { HasReason (status_of result) (outside (S.seen input.old) (K.seen output.old)) (outside (S.seen input.new) (K.seen output.new)) }
+{
+    let mut items = Items::new(alloc)?;
+    let mut run = Run::new(alloc)?;
+    'items: loop {
+        let next = advance(alloc, &mut items, &mut run.text, input, output)?;
+        run.take(alloc, next, &items)?;
+        flush_large(&mut run.text, output)?;
+        if items.is_ended() {
+            break;
+        }
+    }
+    let refused = run.refused;
+    finish(alloc, &mut run, output)?;
+    Ok(refused)
+}
+
+/// Replays a script: takes the items of `input` in turn, writes to `output` what the machine prints of
+/// each, and at the end the list of the FRUs that are present.
+pub fn replay<S: Source, K: Sink>(alloc: Global, input: &mut S, output: &mut K) -> Status
+    // What is written is what the machine prints for the bytes that the source has left, or a front of it.
+    ensures text { Replays result (outside (S.seen input.old) (K.seen output.old)) (outside (S.seen input.new) (K.seen output.new)) }
+    // How much of the source was taken, and what is written where it failed or was too long.
+    ensures reached { Reaches result (outside (S.seen input.old) (K.seen output.old)) (outside (S.seen input.new) (K.seen output.new)) }
+    // The first call of the outside that fails ends the run, and each fault is answered where one failed.
+    ensures reason { HasReason result (outside (S.seen input.old) (K.seen output.old)) (outside (S.seen input.new) (K.seen output.new)) }
+{
+    match replay_items(alloc, input, output) {
+        Ok(false) => Status::Done,
+        Ok(true) => Status::Refused,
+        Err(Stop::OutOfMemory) => Status::OutOfMemory,
+        Err(Stop::ReadFault) => Status::ReadFault,
+        Err(Stop::WriteFault) => Status::WriteFault,
+        Err(Stop::TooLong) => Status::TooLong,
+    }
+}
