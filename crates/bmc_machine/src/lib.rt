@@ -1,5 +1,4 @@
-//! The machine that a run of a script is proved to be: histories, what is present, what is refused and
-//! what is printed, as definitions and laws without code. The contract of the run cites them.
+//! Says in definitions and laws, and without code, what is printed for a script.
 #![tactic(auto)]
 
 mod law;

@@ -1,5 +1,4 @@
-//! The run of a script, from its bytes to what is printed: the top call `replay`, whose contract says
-//! that it writes what the machine of `bmc_machine` writes. The program stands on it.
+//! Replays a script: `replay` takes its items in turn, and writes what the machine prints of them.
 #![tactic(auto)]
 
 mod boards;
