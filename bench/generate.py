@@ -6,22 +6,27 @@
   comments  lines that do nothing
   long      comments of 9,000 bytes, the longest that a line may be
   toolong   lines of 20,000 bytes, which are refused and dropped
-  records   records of 2,048 bytes with three full areas are plugged, and unplugged again
-  present   COUNT FRUs are plugged first (at most 32,768); then one after another of them is unplugged
-            and plugged again, in an order that jumps about
-  boards    256 configurations; then FRUs come and go at 2,048 places, with COUNT of them present (at most
-            1,024). In turn one configuration finds the FRU, eight do, and none
-  idle      COUNT configurations (at most 256), none of which finds the FRU that is plugged and unplugged
-  under     16 configurations, four of which find each FRU; else as present, with at most 2,048 FRUs
+  records   records of 2,048 bytes with three full areas are plugged, and
+            unplugged again
+  present   COUNT FRUs are plugged first, at most 32,768; then one after
+            another of them is unplugged and plugged again, in an order that
+            jumps about
+  boards    256 configurations; then FRUs come and go at 2,048 places, with
+            COUNT of them present, at most 1,024. In turn one configuration
+            finds the FRU, eight do, and none
+  idle      COUNT configurations, at most 256, none of which finds the FRU
+            that is plugged and unplugged
+  under     16 configurations, of which 4 find each FRU; else as present,
+            with at most 2,048 FRUs
 
-COUNT is 256 if left out. LINES counts the lines without the configurations and the first FRUs. The same words
-give the same script."""
+COUNT is 256 if left out. LINES does not count the configurations and the first
+FRUs. The same words give the same script."""
 
 import os
 import sys
 
 sys.dont_write_bytecode = True
-sys.path.insert(0, os.path.dirname(os.path.abspath(__file__)) + "/../examples")
+sys.path.insert(0, os.path.dirname(os.path.realpath(__file__)) + "/../examples")
 from record import board_area, chassis_area, product_area, record
 
 # Each workload, and the most that COUNT can be.
@@ -120,6 +125,9 @@ def script(workload, lines, count=256):
 
 def main():
     said = sys.argv[1:]
+    if said in (["-h"], ["--help"]):
+        print(__doc__)
+        return
     if len(said) not in (2, 3) or said[0] not in WORKLOADS or not all(it.isdecimal() for it in said[1:]):
         sys.exit(__doc__)
     count, most = int(said[2]) if len(said) == 3 else 256, WORKLOADS[said[0]]

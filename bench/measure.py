@@ -1,5 +1,6 @@
 """What bench/run and bench/growth share: scripts, timed runs, and tables."""
 
+import argparse
 import os
 import subprocess
 import sys
@@ -7,15 +8,40 @@ import tempfile
 import time
 
 sys.dont_write_bytecode = True
-sys.path.insert(0, os.path.dirname(os.path.abspath(__file__)))
+sys.path.insert(0, os.path.dirname(os.path.realpath(__file__)))
 from generate import script
 
-TOP = os.path.dirname(os.path.dirname(os.path.abspath(__file__)))
+TOP = os.path.dirname(os.path.dirname(os.path.realpath(__file__)))
 DATA = f"{TOP}/bench/data"
 BUILT = f"{TOP}/crates/bmcreplay/out/bmcreplay"
 TIME = "/usr/bin/time"
 # For so many seconds each script is run at least.
 LEAST = 0.5
+
+
+def positive(text):
+    """A number of at least 1."""
+    if not (text.isascii() and text.isdecimal() and int(text) > 0):
+        raise argparse.ArgumentTypeError(f"{text!r} is no number from 1 on")
+    return int(text)
+
+
+def options(what, lines, of):
+    """The reader of the words of a measurement, which takes so many lines if none are given."""
+    form = lambda prog: argparse.RawDescriptionHelpFormatter(prog, width=79)
+    prog = f"bench/{os.path.basename(sys.argv[0])}"
+    parser = argparse.ArgumentParser(prog=prog, description=what, formatter_class=form)
+    parser.add_argument("--lines", type=positive, default=lines, metavar="N", help=f"{of}; {lines:,} if left out")
+    tries = "how often each script is run at least; 5 if left out. The shortest time counts"
+    parser.add_argument("--tries", type=positive, default=5, metavar="N", help=tries)
+    return parser
+
+
+def chosen(path):
+    """The program at this path."""
+    if not (os.path.isfile(path) and os.access(path, os.X_OK)):
+        sys.exit(f"bench: there is no program at {path}")
+    return os.path.abspath(path)
 
 
 def built():

@@ -1,24 +1,33 @@
 #!/usr/bin/env python3
-"""Makes a record, the bytes of a FRU that bmcreplay takes, and prints it in hexadecimal.
+"""Makes a record, the bytes of a FRU, and prints it in hexadecimal digits.
 
-examples/record.py --board-manufacturer ACM --board-product RSR1 --board-serial S1
-    prints the bytes of a record with a board area
-examples/record.py --at 1 80 --chassis-type 23 --chassis-serial C1-07 --product-name 'NS-2240'
-    prints a line of a script, which plugs one with a chassis area and a product area at bus 1, address 80
+examples/record.py --board-manufacturer ACM --board-product RSR1
+    prints the digits of a record with a board area
+examples/record.py --at 1 80 --chassis-type 23 --product-name NS-2240
+    prints a line of a script: it plugs a record with a chassis area and a
+    product area at bus 1, address 80
 
-An area is made where one of its words is given. Its named fields that are left out are empty texts.
+An area is made where one of its options is given. Its named fields that
+are left out are empty texts. The name behind each option is the one under
+which bmcreplay prints the field.
 
-A text has 0 or 2 to 63 characters of Latin 1. One character cannot be written so: its type/length byte
-would be C1h, which ends the fields. In an area whose language is neither 0 nor 25, which both mean
-English, a text has up to 31 units of 2-byte Unicode. What a text begins with may say another type:
+A text has 0 or 2 to 63 characters of Latin 1. A text of one character
+cannot be written: its type/length byte would be C1h, which ends the fields.
+In an area whose language is neither 0 nor 25, the numbers of English, a text
+has up to 31 units of 2-byte Unicode. A word before the text asks for another
+type:
 
-  hex:00FF           binary: these bytes
-  bcd:12-03          BCD plus: digits, spaces and - . : , _
-  six:RACK 7         6-bit ASCII: the characters from 20h to 5Fh
-  text:bcd:12        as without it, for a text that begins like one of these
+  hex:00FF        binary: these bytes
+  bcd:12-03       BCD plus: digits, spaces and - . : , _
+  six:RACK 7      6-bit ASCII: the characters from 20h to 5Fh
+  text:bcd:12     the text bcd:12, which begins like another type
 
-BCD plus of an odd length gets a space behind it, and so does 6-bit ASCII of 3, 7, 11 .. characters: their
-bytes have room for one more."""
+BCD plus of an odd length gets a space behind it. So does 6-bit ASCII of 3,
+7, 11 .. characters: their bytes have room for one more.
+
+The status is 0 where all was printed, 1 where the record cannot be made or
+not be printed, and 2 where the words of the command line are wrong. One line
+on standard error says why it is not 0."""
 
 import argparse
 import datetime
@@ -26,9 +35,24 @@ import sys
 
 ENGLISH = (0, 25)
 BCD_PLUS = "0123456789 -.:,_"
-CHASSIS = ("part", "serial")
-BOARD = ("manufacturer", "product", "serial", "part", "file")
-PRODUCT = ("manufacturer", "name", "part", "version", "serial", "tag", "file")
+# The options for the named fields of an area, each with the name under which the field is printed.
+CHASSIS = {"part": "CHASSIS_PART_NUMBER", "serial": "CHASSIS_SERIAL_NUMBER"}
+BOARD = {
+    "manufacturer": "BOARD_MANUFACTURER",
+    "product": "BOARD_PRODUCT_NAME",
+    "serial": "BOARD_SERIAL_NUMBER",
+    "part": "BOARD_PART_NUMBER",
+    "file": "BOARD_FRU_VERSION_ID",
+}
+PRODUCT = {
+    "manufacturer": "PRODUCT_MANUFACTURER",
+    "name": "PRODUCT_PRODUCT_NAME",
+    "part": "PRODUCT_PART_NUMBER",
+    "version": "PRODUCT_VERSION",
+    "serial": "PRODUCT_SERIAL_NUMBER",
+    "tag": "PRODUCT_ASSET_TAG",
+    "file": "PRODUCT_FRU_VERSION_ID",
+}
 AREAS = {"chassis": CHASSIS, "board": BOARD, "product": PRODUCT}
 EPOCH = datetime.datetime(1996, 1, 1)
 
@@ -36,6 +60,14 @@ EPOCH = datetime.datetime(1996, 1, 1)
 def with_checksum(data):
     """The bytes, and one more that makes their sum zero modulo 256."""
     return data + bytes([-sum(data) % 256])
+
+
+def binary(text):
+    """The bytes of hexadecimal digits. Spaces may stand between bytes."""
+    try:
+        return bytes.fromhex(text)
+    except ValueError:
+        raise ValueError(f"hex: wants two hexadecimal digits for each byte, and {text!r} is not that") from None
 
 
 def bcd_plus(text):
@@ -57,7 +89,10 @@ def text_bytes(text, language):
     """The bytes of a text of type 3: Latin 1, or 2-byte Unicode, by the language."""
     if language in ENGLISH and max(text, default="") > "\xff":
         raise ValueError(f"a text has characters of Latin 1 alone, and {text!r} has others")
-    data = text.encode("latin-1" if language in ENGLISH else "utf-16-le")
+    try:
+        data = text.encode("latin-1" if language in ENGLISH else "utf-16-le")
+    except UnicodeEncodeError:
+        raise ValueError(f"a text is UTF-8, and {text!r} is not") from None
     if len(data) == 1:
         raise ValueError(f"a text of one byte would end the fields, and {text!r} has one")
     return data
@@ -65,7 +100,7 @@ def text_bytes(text, language):
 
 def field(text, language=0):
     """A field: its type/length byte, and its bytes."""
-    kinds = {"hex": (0, bytes.fromhex), "bcd": (1, bcd_plus), "six": (2, six_bit)}
+    kinds = {"hex": (0, binary), "bcd": (1, bcd_plus), "six": (2, six_bit)}
     front, colon, rest = text.partition(":")
     if colon and front in kinds:
         kind, to_bytes = kinds[front]
@@ -116,31 +151,73 @@ def record(chassis=b"", board=b"", product=b""):
 
 def date(text):
     """The minutes from the beginning of 1996 to a date."""
-    minutes = (datetime.datetime.strptime(text, "%Y-%m-%d %H:%M") - EPOCH) // datetime.timedelta(minutes=1)
+    try:
+        found = datetime.datetime.strptime(text, "%Y-%m-%d %H:%M")
+    except ValueError:
+        raise argparse.ArgumentTypeError(f"{text!r} is no date of the form 2024-10-21 07:30") from None
+    minutes = (found - EPOCH) // datetime.timedelta(minutes=1)
     if not 0 < minutes < 1 << 24:
         raise argparse.ArgumentTypeError("dates go from 1996-01-01 00:01 to 2027-11-24 20:15")
     return minutes
 
 
-def byte(text):
-    """A number of one byte."""
-    if not 0 <= int(text) <= 255:
-        raise argparse.ArgumentTypeError("numbers go from 0 to 255")
-    return int(text)
+def number_to(most):
+    """What reads a number from 0 to this one."""
+
+    def read(text):
+        if not (text.isascii() and text.isdecimal() and int(text) <= most):
+            raise argparse.ArgumentTypeError(f"{text!r} is no number from 0 to {most}")
+        return int(text)
+
+    return read
+
+
+def output(text):
+    """Prints a text. Ends with status 1 where it cannot be written."""
+    try:
+        with open(1, "w", encoding="utf-8", closefd=False) as it:
+            it.write(text)
+    except OSError as why:
+        sys.exit(f"record.py: the output could not be written: {why.strerror}")
+
+
+class Parser(argparse.ArgumentParser):
+    """A parser that says in one line what is wrong, and notices where its help cannot be printed."""
+
+    def error(self, message):
+        self.exit(2, f"record.py: {message}\n")
+
+    def print_help(self, file=None):
+        output(self.format_help())
+
+
+class PlaceOf(argparse.Action):
+    """Reads a bus and an address, each in its range."""
+
+    def __call__(self, parser, said, words, option=None):
+        try:
+            setattr(said, self.dest, (number_to(255)(words[0]), number_to(127)(words[1])))
+        except argparse.ArgumentTypeError as why:
+            raise argparse.ArgumentError(self, str(why)) from None
 
 
 def words():
     """The words of the command line."""
-    parser = argparse.ArgumentParser(description=__doc__, formatter_class=argparse.RawDescriptionHelpFormatter)
-    parser.add_argument("--at", nargs=2, type=int, metavar=("BUS", "ADDRESS"), help="print a whole line of a script")
-    parser.add_argument("--chassis-type", type=byte, metavar="N", help="0 if left out")
-    parser.add_argument("--board-date", type=date, metavar="DATE", help="as '2024-10-21 07:30'")
+    form = lambda prog: argparse.RawDescriptionHelpFormatter(prog, max_help_position=32, width=79)
+    parser = Parser(description=__doc__, formatter_class=form, usage="%(prog)s [OPTION ..]", allow_abbrev=False)
+    byte = number_to(255)
+    place = "print a line of a script that plugs the record: bus 0 to 255, address 0 to 127"
+    parser.add_argument("--at", nargs=2, action=PlaceOf, metavar=("BUS", "ADDRESS"), help=place)
+    parser.add_argument("--chassis-type", type=byte, metavar="N", help="CHASSIS_TYPE, 0 if left out")
+    date_help = "BOARD_MANUFACTURE_DATE, as '2024-10-21 07:30'; none if left out"
+    parser.add_argument("--board-date", type=date, metavar="DATE", help=date_help)
     for area, names in AREAS.items():
         if area != "chassis":
             parser.add_argument(f"--{area}-language", type=byte, metavar="N", help="0, English, if left out")
-        for name in names:
-            parser.add_argument(f"--{area}-{name}", metavar="TEXT")
-        parser.add_argument(f"--{area}-custom", action="append", metavar="TEXT", help="a further field; again for more")
+        for name, printed in names.items():
+            parser.add_argument(f"--{area}-{name}", metavar="TEXT", help=printed)
+        further = f"{area.upper()}_INFO_AM1; once more for the next"
+        parser.add_argument(f"--{area}-custom", action="append", metavar="TEXT", help=further)
     return vars(parser.parse_args())
 
 
@@ -162,7 +239,7 @@ def main():
         digits = said_record(said).hex().upper()
     except ValueError as why:
         sys.exit(f"record.py: {why}")
-    print("plug {} {} {}".format(*said["at"], digits) if said["at"] else digits)
+    output("plug {} {} {}\n".format(*said["at"], digits) if said["at"] else f"{digits}\n")
 
 
 if __name__ == "__main__":

@@ -1,5 +1,6 @@
 """What the checks share: the program, runs of it, and how a check ends."""
 
+import argparse
 import os
 import socket
 import subprocess
@@ -7,13 +8,23 @@ import sys
 
 sys.dont_write_bytecode = True
 
-TOP = os.path.dirname(os.path.dirname(os.path.dirname(os.path.abspath(__file__))))
+TOP = os.path.dirname(os.path.dirname(os.path.dirname(os.path.realpath(__file__))))
 CHECK = os.path.basename(sys.argv[0])
 
 
 def fail(text):
     """Ends the check: it has failed."""
     sys.exit(f"checks/{CHECK}: {text}")
+
+
+# What the help of each check that runs the program says at its end.
+CHOICE = "BMCREPLAY=PATH before the command has it look at the program at PATH,\nand not at the one that ./run builds."
+
+
+def options(what, choice=CHOICE):
+    """The reader of a check's words. Its help says what the check looks at."""
+    form = lambda prog: argparse.RawDescriptionHelpFormatter(prog, width=79)
+    return argparse.ArgumentParser(prog=f"checks/{CHECK}", description=what, epilog=choice, formatter_class=form)
 
 
 def program():

@@ -53,28 +53,28 @@ class Machine:
         self.had = []
 
 
-def obey(rule, kept):
-    """Goes on where a rule is kept."""
-    if not kept:
+def demand(rule, holds):
+    """Goes on where a rule holds."""
+    if not holds:
         raise Broken(rule)
 
 
 def check_header(record):
     """The rules on the whole record and on its header."""
-    obey("FruShort", len(record) >= 8)
-    obey("FruTooLong", len(record) <= 4096)
-    obey("HeaderVersion", record[0] == 1)
-    obey("HeaderChecksum", sum(record[:8]) % 256 == 0)
+    demand("FruShort", len(record) >= 8)
+    demand("FruTooLong", len(record) <= 4096)
+    demand("HeaderVersion", record[0] == 1)
+    demand("HeaderChecksum", sum(record[:8]) % 256 == 0)
 
 
 def area_from(record, start, area):
     """The bytes of the area that begins at this byte."""
     rest = record[start:]
-    obey(f"AreaOutside {area}", len(rest) >= 8 and len(rest) >= 8 * rest[1])
-    obey(f"AreaVersion {area}", rest[0] == 1)
-    obey(f"AreaLength {area}", rest[1])
+    demand(f"AreaOutside {area}", len(rest) >= 8 and len(rest) >= 8 * rest[1])
+    demand(f"AreaVersion {area}", rest[0] == 1)
+    demand(f"AreaLength {area}", rest[1])
     found = rest[: 8 * rest[1]]
-    obey(f"AreaChecksum {area}", sum(found) % 256 == 0)
+    demand(f"AreaChecksum {area}", sum(found) % 256 == 0)
     return found
 
 
@@ -82,11 +82,11 @@ def fields_from(body, area):
     """The fields that these bytes begin with, each as its type and its bytes. Behind them stands the end mark."""
     fields = []
     while True:
-        obey(f"NoEnd {area}", body)
+        demand(f"NoEnd {area}", body)
         if body[0] == END:
             return fields
         kind, length = divmod(body[0], 64)
-        obey(f"FieldOutside {area}", len(body) > length)
+        demand(f"FieldOutside {area}", len(body) > length)
         fields.append((kind, body[1 : 1 + length]))
         body = body[1 + length :]
 
@@ -229,36 +229,36 @@ def config_of(block):
         document = document_of(block)
     except ValueError:
         raise Broken("NotJson") from None
-    obey("Fraction", not any(isinstance(it, float) for it in parts(document)))
-    obey("WrongKind", isinstance(document, dict))
-    obey("MissingKey", "Name" in document)
+    demand("Fraction", not any(isinstance(it, float) for it in parts(document)))
+    demand("WrongKind", isinstance(document, dict))
+    demand("MissingKey", "Name" in document)
     name = document["Name"]
-    obey("WrongKind", isinstance(name, str))
-    obey("OutOfRange", 1 <= len(name.encode()) <= 64)
-    obey("MissingKey", "Probe" in document)
+    demand("WrongKind", isinstance(name, str))
+    demand("OutOfRange", 1 <= len(name.encode()) <= 64)
+    demand("MissingKey", "Probe" in document)
     probe = document["Probe"]
-    obey("WrongKind", isinstance(probe, (str, list)))
+    demand("WrongKind", isinstance(probe, (str, list)))
     found = isinstance(probe, str) and PLAIN_PROBE.fullmatch(probe)
-    obey("ProbeForm", found)
-    obey("ProbeForm", "Exposes" not in document)
+    demand("ProbeForm", found)
+    demand("ProbeForm", "Exposes" not in document)
     return name, *found.groups()
 
 
 def config(size, block, machine):
-    """Keeps the configuration of a block that should have this size."""
-    obey("ConfigTooLong", size <= LONGEST_BLOCK)
-    obey("ConfigShort", len(block) == size)
+    """Adds the configuration of a block that should have this size."""
+    demand("ConfigTooLong", size <= LONGEST_BLOCK)
+    demand("ConfigShort", len(block) == size)
     found = config_of(block)
-    obey("ConfigAfterPlug", not machine.plugged)
-    obey("DuplicateName", found[0] not in [name for name, _, _ in machine.configs])
-    obey("ConfigLimit", len(machine.configs) < MOST_CONFIGS)
+    demand("ConfigAfterPlug", not machine.plugged)
+    demand("DuplicateName", found[0] not in [name for name, _, _ in machine.configs])
+    demand("ConfigLimit", len(machine.configs) < MOST_CONFIGS)
     machine.configs.append(found)
     machine.had.append({})
 
 
 def plug(place, record, machine):
     """Puts the FRU with this record at a place."""
-    obey("Occupied", place not in machine.present)
+    demand("Occupied", place not in machine.present)
     machine.present[place] = fields_of(record)
     machine.plugged = True
 
@@ -268,11 +268,11 @@ def line_alone(line, machine):
     plugged, unplugged = PLUG.fullmatch(line), UNPLUG.fullmatch(line)
     found = plugged or unplugged
     place = place_of(found[1], found[2]) if found else None
-    obey("UnknownCommand", place is not None)
+    demand("UnknownCommand", place is not None)
     if plugged:
         plug(place, bytes.fromhex(plugged[3].decode()), machine)
     else:
-        obey("NotPresent", machine.present.pop(place, None) is not None)
+        demand("NotPresent", machine.present.pop(place, None) is not None)
 
 
 def boards_of(machine):
@@ -313,7 +313,7 @@ def without_return(line):
 def refusal_of(line, size, block, machine):
     """Why a line is refused, with its block where it takes one, or None. What it asks for is done."""
     try:
-        obey("UnknownCommand", len(line) <= LONGEST)
+        demand("UnknownCommand", len(line) <= LONGEST)
         line = without_return(line)
         if size is not None:
             config(size, block, machine)

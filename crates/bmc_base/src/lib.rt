@@ -1,5 +1,5 @@
-//! What all other crates stand on: places of FRUs, names, bytes and texts of their own, want of memory,
-//! and the words for counts of faults.
+//! Holds what all other crates stand on: places, names, owned bytes and texts, want of memory, and
+//! counts of faults.
 #![tactic(auto)]
 
 mod bytes;

@@ -1,5 +1,4 @@
-//! The outside: where bytes come from and where they go, each with its calls. Memory tells what it
-//! holds, real streams do not. Readers of lines and writers of texts stand on the traits alone.
+//! Sources that give bytes and sinks that take them, in memory and over standard input and output.
 #![tactic(auto)]
 
 mod fault;

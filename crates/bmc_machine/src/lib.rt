@@ -1,4 +1,4 @@
-//! The machine that a run of a script is proved to be, as definitions and laws without code.
+//! Says in definitions and laws, and without code, what is printed for a script.
 #![tactic(auto)]
 
 mod examples;

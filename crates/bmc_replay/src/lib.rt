@@ -1,4 +1,4 @@
-//! The run of a script, from its bytes to what is printed: the top call `replay`.
+//! Replays a script: `replay` takes its items in turn, and writes what the machine prints of them.
 #![tactic(auto)]
 
 mod boards;

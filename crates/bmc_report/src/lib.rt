@@ -1,4 +1,4 @@
-//! The printed texts of a run, exactly. The run of a script stands on it.
+//! Appends what is printed to a text: refused lines, changes, and the rows of FRUs.
 #![tactic(auto)]
 
 mod change;

@@ -1,5 +1,4 @@
-//! Tests of whole scripts through the top call, over sources and sinks in memory: what is printed, how
-//! the run ends, and what a fault leaves.
+//! Tests whole scripts through `replay`, over sources and sinks in memory.
 #![tactic(auto)]
 
 #[cfg(test)]

@@ -1,4 +1,4 @@
-//! The commands of a script's lines. The run of a script stands on it.
+//! Reads the command of a line.
 #![tactic(auto)]
 
 mod command;

@@ -1,5 +1,4 @@
-//! The text of a script: its lines, each with the block that it asks for, however the source cuts its
-//! bytes, and bytes in hexadecimal. The commands of lines stand on it.
+//! Cuts a script into items, each a line with the block that it asks for, and reads hexadecimal digits.
 #![tactic(auto)]
 
 mod buffer;

@@ -1,5 +1,5 @@
-//! Configurations in JSON: a document read to a configuration or refused by its first broken rule, and the
-//! shelf of the configurations in their order. What is found and the boards stand on it.
+//! Reads configurations in JSON, tells which records match their patterns, and lists them in their
+//! order.
 #![tactic(auto)]
 
 mod config;

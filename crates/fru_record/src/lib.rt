@@ -1,5 +1,4 @@
-//! Whole FRU records, by the IPMI Platform Management FRU Information Storage Definition 1.0: decoded to
-//! their fields, or refused by the first rule that they break, and built of parts. It stands on the areas of `fru_area`.
+//! Reads whole FRU records, or names their first broken rule, and builds records of parts.
 #![tactic(auto)]
 
 mod builder;
