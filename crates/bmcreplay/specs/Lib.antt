@@ -1,1 +1,1 @@
-pub mod ExitStatuses
+pub mod Ends

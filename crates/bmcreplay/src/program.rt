@@ -1,0 +1,28 @@
+ghost use Rattle.std.specs.Process.{exit_status};
+ghost use Rattle.bmc_replay.specs.Outside.{outside};
+ghost use Rattle.bmcreplay.specs.Ends.{Ends};
+
+use crate::statuses::{exit_code, reason_of};
+use bmc_io::{Sink, Source};
+use bmc_replay::replay;
+use std::alloc::Global;
+use std::io::Write;
+use std::process::ExitCode;
+
+/// Replays the script of `input` to `output`, and writes to `errors` a line that says why it ended early,
+/// if it did. What becomes of that line is part of no clause.
+pub fn run<S: Source, K: Sink, E: Write>(
+    alloc: Global,
+    input: &mut S,
+    output: &mut K,
+    errors: &mut E,
+) -> ExitCode
+    // The process ends with the number of the status of this replay.
+    ensures { Ends (exit_status result) (outside (S.seen input.old) (K.seen output.old)) (outside (S.seen input.new) (K.seen output.new)) }
+{
+    let status = replay(alloc, input, output);
+    if let Some(reason) = reason_of(status) {
+        let _written = errors.write_all(reason.as_bytes());
+    }
+    exit_code(status)
+}
