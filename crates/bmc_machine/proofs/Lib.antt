@@ -1,4 +1,5 @@
 pub mod BoardLemmas
 pub mod IndexLemmas
+pub mod HistoryLemmas
 pub mod Found
 pub mod Changed

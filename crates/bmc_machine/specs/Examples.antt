@@ -1,5 +1,5 @@
 -- Scripts with known answers, built of named parts.
-use Rattle.std.specs.Prelude.{ℕ, List, ◌∷◌, ◌++◌, codes, [], decimal}
+use Rattle.std.specs.Prelude.{ℕ, List, ◌++◌, codes}
 
 -- a record with a board area: maker, product, serial number, and two empty fields
 abbrev pub riser : List ℕ

@@ -2,7 +2,9 @@
 #![tactic(auto)]
 
 mod examples;
+mod histories;
 mod indexes;
 
 pub use examples::{scripts_with_boards, scripts_with_frus};
+pub use histories::histories_are_legal;
 pub use indexes::indexes_are_kept;
