@@ -6,5 +6,5 @@ mod histories;
 mod indexes;
 
 pub use examples::{scripts_with_boards, scripts_with_frus};
-pub use histories::histories_are_legal;
+pub use histories::{frus_by_place, histories_are_legal};
 pub use indexes::indexes_are_kept;
