@@ -7,4 +7,4 @@ mod indexes;
 
 pub use examples::{scripts_with_boards, scripts_with_frus};
 pub use histories::{frus_by_place, histories_are_legal};
-pub use indexes::indexes_are_kept;
+pub use indexes::{indexes_are_kept, indexes_count};
