@@ -1,6 +1,7 @@
-ghost use Rattle.std.specs.Prelude.{◌≡◌, ◌++◌, [], codes, true};
+ghost use Rattle.std.specs.Prelude.{◌≡◌, ◌++◌, ◌∷◌, [], codes, true, Some};
+ghost use Rattle.bmc_machine.specs.Meetings.{first_met, met_before};
 ghost use Rattle.bmc_machine.specs.Answers.{answer_of, out};
-ghost use Rattle.bmc_machine.specs.Examples.{riser, riser_fields, chassis, chassis_fields, damaged, always_found, finds_riser, plug, unplug, config, fru, refused, new_riser, gone_riser, bus_1_79, bus_1_80, bus_1_81, bus_20_80};
+ghost use Rattle.bmc_machine.specs.Examples.{riser, riser_fields, chassis, chassis_fields, damaged, always_found, finds_riser, plug, unplug, config, fru, refused, new_riser, gone_riser, bus_1_79, bus_1_80, bus_1_81, bus_20_80, place_1_79, place_1_80, place_1_81, three_risers};
 
 /// What the machine prints for scripts with FRUs, computed from the definitions: a FRU that is listed, two that
 /// are listed by place, a damaged record, a comment and a carriage return, and what is refused first.
@@ -22,4 +23,12 @@ pub fn scripts_with_boards()
     ensures found { out (config (codes "83") finds_riser ++ plug bus_1_80 riser ++ plug bus_20_80 riser ++ unplug bus_1_80) ≡ new_riser (codes "1") bus_1_80 ++ gone_riser (codes "1") bus_1_80 ++ fru bus_20_80 riser_fields }
     ensures refused { out (config (codes "27") always_found ++ config (codes "27") always_found ++ plug bus_20_80 chassis ++ config (codes "83") finds_riser ++ unplug bus_20_80) ≡ codes "0 new board \"A\" 1\n" ++ refused (codes "2") (codes "DuplicateName") ++ refused (codes "4") (codes "ConfigAfterPlug") }
     ensures kept { out (config (codes "83") finds_riser ++ plug bus_1_81 riser ++ plug bus_1_80 riser ++ unplug bus_1_81 ++ plug bus_1_79 riser ++ unplug bus_1_80 ++ unplug bus_1_79 ++ plug bus_1_81 riser ++ unplug bus_1_81) ≡ new_riser (codes "1") bus_1_81 ++ new_riser (codes "2") bus_1_80 ++ gone_riser (codes "1") bus_1_81 ++ new_riser (codes "3") bus_1_79 ++ gone_riser (codes "2") bus_1_80 ++ gone_riser (codes "3") bus_1_79 ++ new_riser (codes "1") bus_1_81 ++ gone_riser (codes "1") bus_1_81 }
+{}
+
+/// When boards were first met: the second riser behind the first one, and the third after the second is gone. The boards
+/// that were met before it keep their order.
+pub fn boards_were_met()
+    ensures second { first_met (answer_of three_risers).past 0 (Some place_1_81) ≡ record { steps = 3; position = 1 } }
+    ensures third { first_met (answer_of three_risers).past 0 (Some place_1_79) ≡ record { steps = 5; position = 0 } }
+    ensures before { met_before (answer_of three_risers).past 0 (Some place_1_79) ≡ Some place_1_80 ∷ Some place_1_81 ∷ [] }
 {}

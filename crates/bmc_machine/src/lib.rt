@@ -5,7 +5,7 @@ mod examples;
 mod histories;
 mod indexes;
 
-pub use examples::{scripts_with_boards, scripts_with_frus};
+pub use examples::{boards_were_met, scripts_with_boards, scripts_with_frus};
 pub use histories::{
     frus_by_place, histories_are_legal, refused_items_are_idle, refused_plugs_are_idle,
 };
