@@ -64,7 +64,8 @@ pub kept_idle : (step : Step) (past : List Step) (number : ℕ) → standing (st
 kept_idle step past number same =
     kept_next step past number
     ∙ ap (λ (now : Standing). kept past number ++ except (has_board (kept past number)) (boards now number)) same
-    ∙ ap (λ (new : List (Option Place)). kept past number ++ new) (except_none (has_board (kept past number)) (boards (standing past) number) (kept_now past number))
+    ∙ ap (λ (new : List (Option Place)). kept past number ++ new)
+    (except_none (has_board (kept past number)) (boards (standing past) number) (kept_now past number))
     ∙ append-nil (kept past number)
 
 -- ---- indexes

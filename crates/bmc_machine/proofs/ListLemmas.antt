@@ -41,26 +41,31 @@ pub all_passes : {X : Type 0} (test : X → Bool) (xs : List X) → AllByRecursi
 all_passes test [] = tt
 all_passes {X} test (first ∷ xs) = by (test first) refl (all_passes test xs)
   where
-    by : (passes : Bool) → test first ≡ passes → AllByRecursion (λ each. test each ≡ true) (filter test xs) → AllByRecursion (λ each. test each ≡ true) (cond passes (first ∷ filter test xs) (filter test xs))
+    by : (passes : Bool) → test first ≡ passes → AllByRecursion (λ each. test each ≡ true) (filter test xs)
+        → AllByRecursion (λ each. test each ≡ true) (cond passes (first ∷ filter test xs) (filter test xs))
     by true is rest = (is, rest)
     by false is rest = rest
 
 -- ---- keys that ascend
 
 -- a map that keeps the order
-pub ascending_map : {J K : Type 0} (before : J → J → Ordering) (cmp : K → K → Ordering) (image : J → K) → ((one other : J) → before one other ≡ Less → cmp (image one) (image other) ≡ Less) → (js : List J) → IsStrictlySortedBy before js → IsStrictlySortedBy cmp (map image js)
+pub ascending_map : {J K : Type 0} (before : J → J → Ordering) (cmp : K → K → Ordering) (image : J → K)
+    → ((one other : J) → before one other ≡ Less → cmp (image one) (image other) ≡ Less) → (js : List J) → IsStrictlySortedBy before js
+    → IsStrictlySortedBy cmp (map image js)
 unfolding IsStrictlySortedBy
 ascending_map before cmp image keeps [] ascend = tt
 ascending_map before cmp image keeps (first ∷ js) ascend =
     (all_map _ image js (all_weaker _ _ (keeps first) js ascend.0), ascending_map before cmp image keeps js ascend.1)
 
 -- those that pass a test
-pub ascending_filter : {X K : Type 0} (key : X → K) (cmp : K → K → Ordering) (test : X → Bool) (xs : List X) → IsStrictlySortedBy cmp (map key xs) → IsStrictlySortedBy cmp (map key (filter test xs))
+pub ascending_filter : {X K : Type 0} (key : X → K) (cmp : K → K → Ordering) (test : X → Bool) (xs : List X) → IsStrictlySortedBy cmp (map key xs)
+    → IsStrictlySortedBy cmp (map key (filter test xs))
 unfolding IsStrictlySortedBy
 ascending_filter key cmp test [] ascend = tt
 ascending_filter key cmp test (first ∷ xs) ascend = by (test first) (ascending_filter key cmp test xs ascend.1)
   where
-    by : (passes : Bool) → IsStrictlySortedBy cmp (map key (filter test xs)) → IsStrictlySortedBy cmp (map key (cond passes (first ∷ filter test xs) (filter test xs)))
+    by : (passes : Bool) → IsStrictlySortedBy cmp (map key (filter test xs))
+        → IsStrictlySortedBy cmp (map key (cond passes (first ∷ filter test xs) (filter test xs)))
     by true rest = (all_map _ key _ (all_filter _ test xs (all_mapped _ key xs ascend.0)), rest)
     by false rest = rest
 

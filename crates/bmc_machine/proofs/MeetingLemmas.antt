@@ -1,5 +1,6 @@
 -- The index of a board is one more than the number of boards of its configuration that were first met before it.
-use Rattle.std.proofs.Common.{◌≡◌, ℕ, suc, ◌+◌, ◌≤◌, List, [], ◌∷◌, ◌++◌, Bool, true, false, not, cond, ◌&&◌, ◌||◌, nat_lt, Option, Some, None, map, filter, refl, sym, ap, ap₂, ◌∙◌, arith, subst, inl, inr, slice_get, option_map}
+use Rattle.std.proofs.Common.{◌≡◌, ℕ, suc, ◌+◌, ◌≤◌, List, [], ◌∷◌, ◌++◌, Bool, true, false, not, cond, ◌&&◌, ◌||◌, nat_lt, Option, Some, None}
+use Rattle.std.proofs.Common.{filter, refl, sym, ap, ap₂, ◌∙◌, arith, subst, inl, inr, slice_get, option_map}
 use mathlib.Core.List.{map-map}
 use Rattle.std.specs.Prelude.{length}
 use Rattle.std.specs.Option.{option_eq, option_cmp, unwrap_or}
@@ -13,15 +14,16 @@ use Rattle.std.proofs.lemmas.List.Elements.{filter-append}
 use Rattle.std.proofs.lemmas.Map.Keys.{IsDistinct-from_sorted}
 use Rattle.bmc_base.specs.Places.{Place, place_cmp, place_eq}
 use Rattle.cfg_json.specs.Configs.{Config}
-use Rattle.bmc_machine.specs.Standings.{Fru, Standing}
+use Rattle.bmc_machine.specs.Standings.{Fru}
 use Rattle.bmc_machine.specs.Boards.{is_found, is_hit, places_or_none, boards_of, boards, has_board}
 use Rattle.bmc_machine.specs.Histories.{Step, standing}
 use Rattle.bmc_machine.specs.Indexes.{had_board, except, kept, index_in}
-use Rattle.bmc_machine.specs.Meetings.{Meeting, position_of, first_met, is_earlier}
+use Rattle.bmc_machine.specs.Meetings.{Meeting, position_of, first_met, is_earlier, met_before}
 use Rattle.bmc_machine.specs.Refusals.{IsLegal}
 use Rattle.bmc_machine.proofs.BoardLemmas.{board_itself, board_same, place_cmp_eq}
 use Rattle.bmc_machine.proofs.IndexLemmas.{kept_had, position_front}
-use Rattle.bmc_machine.proofs.ListLemmas.{all_weaker, all_passes, ascending_map, ascending_filter, distinct_filter, distinct_append, filter_alike, filter_none, filter_all}
+use Rattle.bmc_machine.proofs.ListLemmas.{all_weaker, all_passes, ascending_map, ascending_filter, distinct_filter, distinct_append, filter_alike}
+use Rattle.bmc_machine.proofs.ListLemmas.{filter_none, filter_all}
 use Rattle.bmc_machine.proofs.StandingLemmas.{places, frus_ascend}
 use Rattle.bmc_machine.proofs.PositionLemmas.{position_behind, is_before, count_before}
 
@@ -40,7 +42,8 @@ places_ascend (fru ∷ frus) ascend =
     subst (IsStrictlySortedBy (option_cmp place_cmp)) (map-map Some (λ (fru : Fru). fru.place) (fru ∷ frus))
     (ascending_map place_cmp (option_cmp place_cmp) Some (λ place other less. less) (places (fru ∷ frus)) ascend)
 
-boards_of_ascend : (config : Config) (frus : List Fru) → IsStrictlySortedBy place_cmp (places frus) → IsStrictlySortedBy (option_cmp place_cmp) (boards_of config frus)
+boards_of_ascend : (config : Config) (frus : List Fru) → IsStrictlySortedBy place_cmp (places frus)
+    → IsStrictlySortedBy (option_cmp place_cmp) (boards_of config frus)
 unfolding IsStrictlySortedBy
 boards_of_ascend config frus ascend = by (is_found config frus)
   where
@@ -56,7 +59,8 @@ pub boards_ascend : (past : List Step) (number : ℕ) → IsLegal past → IsStr
 unfolding boards IsStrictlySortedBy
 boards_ascend past number legal = by (slice_get (standing past).configs number)
   where
-    by : (config : Option Config) → IsStrictlySortedBy (option_cmp place_cmp) (unwrap_or (option_map (λ config. boards_of config (standing past).frus) config) [])
+    by : (config : Option Config)
+        → IsStrictlySortedBy (option_cmp place_cmp) (unwrap_or (option_map (λ config. boards_of config (standing past).frus) config) [])
     by None = tt
     by (Some config) = boards_of_ascend config (standing past).frus (frus_ascend past legal)
 
@@ -127,12 +131,13 @@ module _ (step : Step) (past : List Step) (number : ℕ) (place : Option Place) 
   count_old had before =
       let front : position_of place (kept past number ++ added) ≡ position_of place (kept past number) =
       position_front (option_eq place_eq place) (kept past number) added (kept_had past number place ∙ had) in
-      let old : filter earlier (kept past number) ≡ filter (λ other. is_earlier (first_met past number other) (first_met past number place)) (kept past number) =
+      let old : filter earlier (kept past number) ≡ met_before past number place =
       filter_alike _ _ (kept past number) (all_weaker _ _ as_before (kept past number) (all_had past number)) in
       let new : filter earlier added ≡ [] = filter_none earlier added (all_weaker _ _ is_late added all_added) in
       omega (arith, front, before, count_parts, ap length old, ap length new)
     where
-      as_before : (other : Option Place) → had_board past number other ≡ true → earlier other ≡ is_earlier (first_met past number other) (first_met past number place)
+      as_before : (other : Option Place) → had_board past number other ≡ true
+          → earlier other ≡ is_earlier (first_met past number other) (first_met past number place)
       as_before other is = ap₂ (λ (one two : Bool). is_earlier (met one other) (met two place)) is had
 
       is_late : (other : Option Place) → had_board past number other ≡ false → earlier other ≡ false
@@ -146,7 +151,8 @@ module _ (step : Step) (past : List Step) (number : ℕ) (place : Option Place) 
   count_new had differ has =
       let behind : position_of place (kept past number ++ added) ≡ length (kept past number) + position_of place added =
       position_behind place (kept past number) added (kept_had past number place ∙ had) in
-      let old : filter earlier (kept past number) ≡ kept past number = filter_all earlier (kept past number) (all_weaker _ _ is_soon (kept past number) (all_had past number)) in
+      let old : filter earlier (kept past number) ≡ kept past number =
+      filter_all earlier (kept past number) (all_weaker _ _ is_soon (kept past number) (all_had past number)) in
       let new : filter earlier added ≡ filter (is_before now place) added = filter_alike _ _ added (all_weaker _ _ by_position added all_added) in
       omega (arith, behind, count_parts, ap length old, ap length new, count_before (had_board past number) place now differ had has)
     where

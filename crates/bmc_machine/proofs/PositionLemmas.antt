@@ -17,7 +17,8 @@ pub position_behind : (place : Option Place) (front back : List (Option Place)) 
     → position_of place (front ++ back) ≡ length front + position_of place back
 position_behind place [] back absent = omega arith
 position_behind place (board ∷ front) back absent =
-    let apart : (option_eq place_eq place board ≡ false) × (has_board front place ≡ false) = or_parts (option_eq place_eq place board) (has_board front place) absent in
+    let apart : (option_eq place_eq place board ≡ false) × (has_board front place ≡ false) =
+    or_parts (option_eq place_eq place board) (has_board front place) absent in
     let rest : position_of place (front ++ back) ≡ length front + position_of place back = position_behind place front back apart.1 in
     let one_more : 1 + position_of place (front ++ back) ≡ length (board ∷ front) + position_of place back = omega (arith, rest) in
     ap (λ (same : Bool). cond (not same) (1 + position_of place (front ++ back)) 0) apart.0 ∙ one_more
@@ -37,7 +38,10 @@ none_before n = grind (arith, nat_tests)
 
 differs : (place other : Option Place) → option_eq place_eq place other ≡ false → option_eq place_eq other place ≡ false
 differs place other apart =
-    false_from_ne_true _ (λ same. both_ways _ apart (ap (λ (board : Option Place). option_eq place_eq board other) (sym (board_same other place same)) ∙ board_itself other))
+    false_from_ne_true _ (λ same. both_ways _ apart (turned (board_same other place same)))
+  where
+    turned : other ≡ place → option_eq place_eq place other ≡ true
+    turned one = ap (λ (it : Option Place). option_eq place_eq it other) (sym one) ∙ board_itself other
 
 module _ (test : Option Place → Bool) (place board : Option Place) (boards : List (Option Place)) where
   abbrev left : List (Option Place)
@@ -68,11 +72,15 @@ module _ (test : Option Place → Bool) (place board : Option Place) (boards : L
       → count (with_first passes) ≡ position_of place (with_first passes)
   count_other true apart rest = rest
   count_other false apart rest =
-      let first : is_before (board ∷ boards) place board ≡ true = ap₂ (λ (one two : Bool). nat_lt (position one board) (position two place)) (board_itself board) apart ∙ some_before (position_of place boards) in
-      let one_more : length (board ∷ filter (is_before (board ∷ boards) place) left) ≡ 1 + position_of place left = omega (arith, rest) in
-      ap (λ (before : Bool). length (cond before (board ∷ filter (is_before (board ∷ boards) place) left) (filter (is_before (board ∷ boards) place) left))) first
+      let first : is_before (board ∷ boards) place board ≡ true =
+      ap₂ (λ (one two : Bool). nat_lt (position one board) (position two place)) (board_itself board) apart ∙ some_before (position_of place boards) in
+      let one_more : length (board ∷ before) ≡ 1 + position_of place left = omega (arith, rest) in
+      ap (λ (is_first : Bool). length (cond is_first (board ∷ before) before)) first
       ∙ one_more
       ∙ sym (ap (λ (same : Bool). cond (not same) (1 + position_of place left) 0) apart)
+    where
+      before : List (Option Place)
+      before = filter (is_before (board ∷ boards) place) left
 
   -- where it is
   count_same : (passes : Bool) → passes ≡ false → option_eq place_eq place board ≡ true → count (with_first passes) ≡ position_of place (with_first passes)

@@ -1,5 +1,5 @@
 -- What is refused leaves the moment and the indexes.
-use Rattle.std.proofs.Common.{◌≡◌, ℕ, List, [], ◌∷◌, Bool, true, Option, Some, None, refl, ap, ◌∙◌}
+use Rattle.std.proofs.Common.{◌≡◌, ℕ, List, ◌∷◌, true, Option, Some, None, refl, ap}
 use Rattle.std.specs.Prelude.{Result, Ok, Err}
 use Rattle.bmc_base.specs.Places.{Place}
 use Rattle.bmc_text.specs.Items.{Item, Line, LineTooLong, Block, BlockTooLong, BlockShort}
@@ -14,12 +14,13 @@ use Rattle.cfg_json.specs.declared.config.ConfigFault.{ConfigFault}
 use Rattle.bmc_machine.specs.Histories.{Step, Configure, Plug, RefusedPlug, Unplug, standing}
 use Rattle.bmc_machine.specs.Indexes.{kept}
 use Rattle.bmc_machine.specs.Refusals.{config_refusal, refusal_of}
-use Rattle.bmc_machine.specs.Answers.{Answer, past_refused, answer_by, answer_step, answer_command, answer_broken, answer_config, answer}
+use Rattle.bmc_machine.specs.Answers.{past_refused, answer_by, answer_step, answer_command, answer_broken, answer_config, answer}
 use Rattle.bmc_machine.proofs.IndexLemmas.{kept_idle}
 
 -- ---- a plug that is refused
 
-pub standing_refused_plug : (past : List Step) (place : Place) (bytes : List ℕ) (refusal : Refusal) → standing (RefusedPlug place bytes refusal ∷ past) ≡ standing past
+pub standing_refused_plug : (past : List Step) (place : Place) (bytes : List ℕ) (refusal : Refusal)
+    → standing (RefusedPlug place bytes refusal ∷ past) ≡ standing past
 unfolding standing
 standing_refused_plug past place bytes refusal = refl
 
@@ -45,7 +46,8 @@ module _ (line : Refusal → List ℕ) (past : List Step) where
 
   step_refused : (step : Step) (refusal : Refusal) → IsAlike past (past_refused past step refusal)
   step_refused (Configure config) refusal = the_same
-  step_refused (Plug place bytes) refusal = record { standing = standing_refused_plug past place bytes refusal; kept = kept_refused_plug past place bytes refusal }
+  step_refused (Plug place bytes) refusal =
+      record { standing = standing_refused_plug past place bytes refusal; kept = kept_refused_plug past place bytes refusal }
   step_refused (RefusedPlug place bytes reason) refusal = the_same
   step_refused (Unplug place) refusal = the_same
 
@@ -56,7 +58,8 @@ module _ (line : Refusal → List ℕ) (past : List Step) where
       by None refused = absurd (cc)
       by (Some refusal) refused = step_refused step refusal
 
-  command_is_idle : (command : Result Command ScriptFault) → (answer_command line past command).refused ≡ true → IsAlike past (answer_command line past command).past
+  command_is_idle : (command : Result Command ScriptFault) → (answer_command line past command).refused ≡ true
+      → IsAlike past (answer_command line past command).past
   command_is_idle (Ok commands.Nothing) refused = the_same
   command_is_idle (Ok (commands.Plug place bytes)) refused = step_is_idle (Plug place bytes) refused
   command_is_idle (Ok (commands.Unplug place)) refused = step_is_idle (Unplug place) refused

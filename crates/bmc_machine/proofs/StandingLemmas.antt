@@ -2,7 +2,7 @@
 use Rattle.std.proofs.Common.{◌≡◌, ℕ, List, [], ◌∷◌, Bool, true, false, not, cond, ◌||◌, Option, None, Some, map, refl, ap, ◌∙◌, subst}
 use Rattle.std.specs.List.{AllByRecursion, IsDistinct}
 use Rattle.std.specs.List.Sorted.{IsStrictlySortedBy}
-use Rattle.std.specs.Ordering.{is_eq, is_lt, nat_cmp, ordering_reverse}
+use Rattle.std.specs.Ordering.{is_eq, is_lt, ordering_reverse}
 use Rattle.std.specs.declared.cmp.Ordering.{Ordering}
 use Rattle.std.specs.declared.cmp.Ordering.TheVariants.{Less, Equal, Greater}
 use Rattle.std.specs.Cmp.{IsTotalOrder}
@@ -24,7 +24,8 @@ abbrev pub places : List Fru → List Place
 places frus = map (λ fru. fru.place) frus
 
 -- a plug that is accepted found its place free
-free_place : (past : List Step) (place : Place) (bytes : List ℕ) → refusal_of (standing past) (Plug place bytes) ≡ None → is_present (standing past).frus place ≡ false
+free_place : (past : List Step) (place : Place) (bytes : List ℕ) → refusal_of (standing past) (Plug place bytes) ≡ None
+    → is_present (standing past).frus place ≡ false
 free_place past place bytes accepted = by (is_present (standing past).frus place) _ accepted
   where
     by : (present : Bool) (broken : Option Refusal) → cond present (Some Occupied) broken ≡ None → present ≡ false
@@ -32,7 +33,8 @@ free_place past place bytes accepted = by (is_present (standing past).frus place
     by false broken none = refl
 
 -- what holds of the place of a FRU and of those of others holds of all of them
-all_put : (Fact : Place → Type 0) (fru : Fru) (frus : List Fru) → Fact fru.place → AllByRecursion Fact (places frus) → AllByRecursion Fact (places (put fru frus))
+all_put : (Fact : Place → Type 0) (fru : Fru) (frus : List Fru) → Fact fru.place → AllByRecursion Fact (places frus)
+    → AllByRecursion Fact (places (put fru frus))
 all_put Fact fru [] fact facts = (fact, tt)
 all_put Fact fru (other ∷ frus) fact facts = by (is_lt (place_cmp fru.place other.place)) (all_put Fact fru frus fact facts.1)
   where
@@ -41,7 +43,8 @@ all_put Fact fru (other ∷ frus) fact facts = by (is_lt (place_cmp fru.place ot
     by false rest = (facts.0, rest)
 
 -- a FRU that is put in where its place is free leaves them in order
-put_ascends : (fru : Fru) (frus : List Fru) → is_present frus fru.place ≡ false → IsStrictlySortedBy place_cmp (places frus) → IsStrictlySortedBy place_cmp (places (put fru frus))
+put_ascends : (fru : Fru) (frus : List Fru) → is_present frus fru.place ≡ false → IsStrictlySortedBy place_cmp (places frus)
+    → IsStrictlySortedBy place_cmp (places (put fru frus))
 unfolding IsStrictlySortedBy
 put_ascends fru [] free ascend = (tt, tt)
 put_ascends fru (other ∷ frus) free ascend = by (place_cmp fru.place other.place) refl free (λ free. put_ascends fru frus free ascend.1)
@@ -53,9 +56,11 @@ put_ascends fru (other ∷ frus) free ascend = by (place_cmp fru.place other.pla
     by Equal is free rest = absurd (cc)
     by Greater is free rest = (all_put _ fru frus (place_total.antisymm other.place fru.place ∙ ap ordering_reverse is) ascend.0, rest free)
 
-frus_ascend_next : (past : List Step) (step : Step) → IsLegalStep past step → IsStrictlySortedBy place_cmp (places (standing past).frus) → IsStrictlySortedBy place_cmp (places (after_step (standing past) step).frus)
+frus_ascend_next : (past : List Step) (step : Step) → IsLegalStep past step → IsStrictlySortedBy place_cmp (places (standing past).frus)
+    → IsStrictlySortedBy place_cmp (places (after_step (standing past) step).frus)
 frus_ascend_next past (Configure config) legal ascend = ascend
-frus_ascend_next past (Plug place bytes) legal ascend = put_ascends (record { place = place; bytes = bytes }) (standing past).frus (free_place past place bytes legal) ascend
+frus_ascend_next past (Plug place bytes) legal ascend =
+    put_ascends (record { place = place; bytes = bytes }) (standing past).frus (free_place past place bytes legal) ascend
 frus_ascend_next past (RefusedPlug place bytes refusal) legal ascend = ascend
 frus_ascend_next past (Unplug place) legal ascend = ascending_filter (λ fru. fru.place) place_cmp (λ fru. not (is_at place fru)) (standing past).frus ascend
 

@@ -27,15 +27,19 @@ pub fn frus_by_place()
 /// A plug that is refused joins the history with its reason, and leaves the configurations, the FRUs that are present
 /// and the indexes as they are. No other step joins that is refused.
 pub fn refused_plugs_are_idle()
-    ensures standing { (past : List Step) (place : Place) (bytes : List ℕ) (refusal : Refusal) → standing (RefusedPlug place bytes refusal ∷ past) ≡ standing past }
+    ensures standing { (past : List Step) (place : Place) (bytes : List ℕ) (refusal : Refusal)
+        → standing (RefusedPlug place bytes refusal ∷ past) ≡ standing past }
     ensures kept { (past : List Step) (place : Place) (bytes : List ℕ) (refusal : Refusal) (number : ℕ)
         → kept (RefusedPlug place bytes refusal ∷ past) number ≡ kept past number }
     ensures plug { (line : Refusal → List ℕ) (past : List Step) (place : Place) (bytes : List ℕ) (refusal : Refusal)
-        → refusal_of (standing past) (Plug place bytes) ≡ Some refusal → (answer_step line past (Plug place bytes)).past ≡ RefusedPlug place bytes refusal ∷ past }
+        → refusal_of (standing past) (Plug place bytes) ≡ Some refusal
+        → (answer_step line past (Plug place bytes)).past ≡ RefusedPlug place bytes refusal ∷ past }
     ensures configuration { (line : Refusal → List ℕ) (past : List Step) (config : Config) (refusal : Refusal)
-        → refusal_of (standing past) (Configure config) ≡ Some refusal → (answer_step line past (Configure config)).past ≡ past }
+        → refusal_of (standing past) (Configure config) ≡ Some refusal
+        → (answer_step line past (Configure config)).past ≡ past }
     ensures unplug { (line : Refusal → List ℕ) (past : List Step) (place : Place) (refusal : Refusal)
-        → refusal_of (standing past) (Unplug place) ≡ Some refusal → (answer_step line past (Unplug place)).past ≡ past }
+        → refusal_of (standing past) (Unplug place) ≡ Some refusal
+        → (answer_step line past (Unplug place)).past ≡ past }
 {}
 
 /// An item that is refused leaves the configurations, the FRUs that are present and the indexes as they are.

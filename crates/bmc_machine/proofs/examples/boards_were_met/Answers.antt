@@ -1,7 +1,6 @@
 use Rattle.std.proofs.Common.{refl}
 use lib.Utf8.{encode}
 use Rattle.std.specs.Str.{chars, is_utf8}
-use Rattle.std.specs.Fmt.{digits}
 use Rattle.hex.proofs.OnLiterals.{hex_on_literals}
 use Rattle.bmc_text.specs.Items.{without_return, line_item, whole_block, whole_item, cut_most, cut}
 use Rattle.bmc_text.specs.Words.{number, block_size}
@@ -12,10 +11,7 @@ use Rattle.fru_area.specs.Walks.{first_field, walk, raw_fields}
 use Rattle.fru_area.specs.Texts.{text_of}
 use Rattle.fru_area.specs.Names.{name_text}
 use Rattle.fru_area.specs.Areas.{area_fields}
-use Rattle.bmc_report.specs.Refusals.{area_text, refusal_text}
-use Rattle.bmc_report.specs.Rows.{quoted, field_row, fru_row}
 use Rattle.fru_record.specs.Records.{fields_of_area, fields_at, fields_under, record_of}
-use Rattle.bmc_report.specs.Changes.{change_text}
 use Rattle.fru_record.specs.Lookups.{text_named}
 use Rattle.serde_json.proofs.OnLiterals.{serde_json_on_literals}
 use Rattle.cfg_json.specs.Documents.{config_in, config_of}
@@ -23,8 +19,7 @@ use Rattle.cfg_json.specs.Probes.{text_in, plain_probe_of, stands_in}
 use Rattle.bmc_machine.specs.Histories.{standing}
 use Rattle.bmc_machine.specs.Boards.{boards}
 use Rattle.bmc_machine.specs.Indexes.{kept}
-use Rattle.bmc_machine.specs.Changes.{changes_between}
-use Rattle.bmc_machine.specs.Answers.{answers, final_list}
+use Rattle.bmc_machine.specs.Answers.{answers}
 use Rattle.bmc_machine.proofs.examples.boards_were_met.Goals as goal
 
 pub returns : goal.returns
