@@ -13,35 +13,31 @@ use Rattle.cfg_json.specs.Configs.{Config}
 use Rattle.cfg_json.specs.Documents.{config_read}
 use Rattle.cfg_json.specs.declared.config.ConfigFault.{ConfigFault}
 use Rattle.bmc_machine.specs.Histories.{Step, Configure, Plug, Unplug, standing}
-use Rattle.bmc_machine.specs.Refusals.{config_refusal, refusal_of, IsLegal}
-use Rattle.bmc_machine.specs.Answers.{answer_by, answer_step, answer_command, answer_broken, answer_config, answer, answers}
+use Rattle.bmc_machine.specs.Refusals.{config_refusal, refusal_of, IsLegalStep, IsLegal}
+use Rattle.bmc_machine.specs.Answers.{past_refused, answer_by, answer_step, answer_command, answer_broken, answer_config, answer, answers}
 
 module _ (line : Refusal → List ℕ) (past : List Step) (legal : IsLegal past) where
-  -- a configuration or an unplug joins where it is not refused
-  configure_is_legal : (config : Config) → IsLegal (answer_step line past (Configure config)).past
+  -- what comes of a step, where it may follow once it is not refused, and what is left once it is
+  step_is_legal : (step : Step) → (refusal_of (standing past) step ≡ None → IsLegalStep past step)
+      → ((refusal : Refusal) → refusal_of (standing past) step ≡ Some refusal → IsLegal (past_refused past step refusal))
+      → IsLegal (answer_step line past step).past
   unfolding IsLegal
-  configure_is_legal config = by (refusal_of (standing past) (Configure config)) refl
+  step_is_legal step may_follow is_left = by (refusal_of (standing past) step) refl
     where
-      by : (refusal : Option Refusal) → refusal_of (standing past) (Configure config) ≡ refusal → IsLegal (answer_by refusal line past (Configure config)).past
-      by None accepted = (legal, accepted)
-      by (Some refusal) refused = legal
+      by : (refusal : Option Refusal) → refusal_of (standing past) step ≡ refusal → IsLegal (answer_by refusal line past step).past
+      by None accepted = (legal, may_follow accepted)
+      by (Some refusal) refused = is_left refusal refused
 
-  unplug_is_legal : (place : Place) → IsLegal (answer_step line past (Unplug place)).past
-  unfolding IsLegal
-  unplug_is_legal place = by (refusal_of (standing past) (Unplug place)) refl
-    where
-      by : (refusal : Option Refusal) → refusal_of (standing past) (Unplug place) ≡ refusal → IsLegal (answer_by refusal line past (Unplug place)).past
-      by None accepted = (legal, accepted)
-      by (Some refusal) refused = legal
+  configure_is_legal : (config : Config) → IsLegal (answer_step line past (Configure config)).past
+  configure_is_legal config = step_is_legal (Configure config) (λ accepted. accepted) (λ refusal refused. legal)
 
   -- a plug joins in any case, with the reason where it is refused
   plug_is_legal : (place : Place) (bytes : List ℕ) → IsLegal (answer_step line past (Plug place bytes)).past
   unfolding IsLegal
-  plug_is_legal place bytes = by (refusal_of (standing past) (Plug place bytes)) refl
-    where
-      by : (refusal : Option Refusal) → refusal_of (standing past) (Plug place bytes) ≡ refusal → IsLegal (answer_by refusal line past (Plug place bytes)).past
-      by None accepted = (legal, accepted)
-      by (Some refusal) refused = (legal, refused)
+  plug_is_legal place bytes = step_is_legal (Plug place bytes) (λ accepted. accepted) (λ refusal refused. (legal, refused))
+
+  unplug_is_legal : (place : Place) → IsLegal (answer_step line past (Unplug place)).past
+  unplug_is_legal place = step_is_legal (Unplug place) (λ accepted. accepted) (λ refusal refused. legal)
 
   command_is_legal : (command : Result Command ScriptFault) → IsLegal (answer_command line past command).past
   command_is_legal (Ok commands.Nothing) = legal

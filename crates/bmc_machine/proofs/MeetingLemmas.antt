@@ -102,7 +102,7 @@ level n p q = ap₂ (λ (less same : Bool). less || (same && nat_lt p q)) (not_b
     not_below n = grind (arith, nat_tests)
 
 -- how many of these boards were met before a place
-abbrev pub count_earlier : List Step → ℕ → Option Place → List (Option Place) → ℕ
+abbrev count_earlier : List Step → ℕ → Option Place → List (Option Place) → ℕ
 count_earlier past number place boards = length (filter (λ other. is_earlier (first_met past number other) (first_met past number place)) boards)
 
 module _ (step : Step) (past : List Step) (number : ℕ) (place : Option Place) where
@@ -126,7 +126,7 @@ module _ (step : Step) (past : List Step) (number : ℕ) (place : Option Place) 
   count_parts = ap length (filter-append earlier (kept past number) added) ∙ length-append (filter earlier (kept past number)) (filter earlier added)
 
   -- a board that was there before the step: those that are added are met later
-  count_old : had_board past number place ≡ true → index_in (kept past number) place ≡ 1 + count_earlier past number place (kept past number)
+  count_old : had_board past number place ≡ true → index_in (kept past number) place ≡ 1 + length (met_before past number place)
       → index_in (kept past number ++ added) place ≡ 1 + count_earlier (step ∷ past) number place (kept past number ++ added)
   count_old had before =
       let front : position_of place (kept past number ++ added) ≡ position_of place (kept past number) =
@@ -167,14 +167,14 @@ module _ (step : Step) (past : List Step) (number : ℕ) (place : Option Place) 
           ∙ level (suc (length past)) (position_of other now) (position_of place now)
 
 pub index_counts : (past : List Step) (number : ℕ) (place : Option Place) → IsLegal past → had_board past number place ≡ true
-    → index_in (kept past number) place ≡ 1 + count_earlier past number place (kept past number)
+    → index_in (kept past number) place ≡ 1 + length (met_before past number place)
 unfolding kept IsLegal
 index_counts [] number place legal had = absurd (cc)
 index_counts (step ∷ past) number place legal had = by (had_board past number place) refl (index_counts past number place legal.0)
   where
     by : (before : Bool) → had_board past number place ≡ before
-        → (had_board past number place ≡ true → index_in (kept past number) place ≡ 1 + count_earlier past number place (kept past number))
-        → index_in (kept (step ∷ past) number) place ≡ 1 + count_earlier (step ∷ past) number place (kept (step ∷ past) number)
+        → (had_board past number place ≡ true → index_in (kept past number) place ≡ 1 + length (met_before past number place))
+        → index_in (kept (step ∷ past) number) place ≡ 1 + length (met_before (step ∷ past) number place)
     by true is rest = count_old step past number place is (rest is)
     by false is rest = count_new step past number place is (boards_differ (step ∷ past) number legal) has
       where
