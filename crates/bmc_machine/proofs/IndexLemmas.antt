@@ -2,6 +2,7 @@
 use Rattle.std.proofs.Common.{◌≡◌, ℕ, ◌+◌, List, [], ◌∷◌, ◌++◌, Bool, true, false, not, cond, ◌&&◌, ◌||◌, Option, refl, sym, ap, ◌∙◌, arith, append-nil}
 use Rattle.std.specs.Option.{option_eq}
 use Rattle.std.specs.List.{list_all, list_any, position_or_len}
+use Rattle.std.proofs.lemmas.Bool.{or_right}
 use Rattle.std.proofs.lemmas.List.Folds.{list_any-append}
 use Rattle.std.proofs.lemmas.Map.Views.{any-filter_same}
 use Rattle.bmc_base.specs.Places.{Place, place_eq}
@@ -9,78 +10,46 @@ use Rattle.bmc_machine.specs.Standings.{Standing}
 use Rattle.bmc_machine.specs.Boards.{boards, has_board}
 use Rattle.bmc_machine.specs.Histories.{Step, standing}
 use Rattle.bmc_machine.specs.Indexes.{had_board, except, kept, index_in}
+use Rattle.bmc_machine.specs.Meetings.{position_of}
 use Rattle.bmc_machine.proofs.BoardLemmas.{board_same, kept_all, except_none}
 
--- among boards except those that stand elsewhere, a board is one that does not
-any_except : (stands : Option Place → Bool) (boards : List (Option Place)) (x : Option Place) → has_board (except stands boards) x ≡ (not (stands x) && has_board boards x)
-any_except stands boards x = any-filter_same (option_eq place_eq x) (λ place. not (stands place)) (not (stands x)) (λ k same. ap (λ (y : Option Place). not (stands y)) (sym (board_same x k same))) boards
+-- ---- what is kept
 
-either : (a b : Bool) → (a || (not a && b)) ≡ (b || a)
+-- among boards except those that pass a test, a board is one that does not
+any_except : (test : Option Place → Bool) (boards : List (Option Place)) (place : Option Place)
+    → has_board (except test boards) place ≡ (not (test place) && has_board boards place)
+any_except test boards place =
+    any-filter_same (option_eq place_eq place) (λ board. not (test board)) (not (test place))
+    (λ board same. ap (λ (it : Option Place). not (test it)) (sym (board_same place board same))) boards
+
+either : (before now : Bool) → (before || (not before && now)) ≡ (now || before)
 either true true = refl
 either true false = refl
 either false true = refl
 either false false = refl
 
--- what is kept is what ever stood
-pub kept_had : (past : List Step) (number : ℕ) (x : Option Place) → has_board (kept past number) x ≡ had_board past number x
+-- the boards that are kept are those that ever were
+pub kept_had : (past : List Step) (number : ℕ) (place : Option Place) → has_board (kept past number) place ≡ had_board past number place
 unfolding kept
-kept_had [] number x = refl
-kept_had (step ∷ past) number x =
-    list_any-append (option_eq place_eq x) (kept past number) _
-    ∙ ap (λ (b : Bool). b || has_board (except (had_board past number) (boards (standing (step ∷ past)) number)) x) (kept_had past number x)
-    ∙ ap (λ (b : Bool). had_board past number x || b) (any_except (had_board past number) (boards (standing (step ∷ past)) number) x)
-    ∙ either (had_board past number x) (has_board (boards (standing (step ∷ past)) number) x)
-
-alike : (f g : Option Place → Bool) → ((x : Option Place) → f x ≡ g x) → f ≡ g
-alike f g h = λ i x. h x i
+kept_had [] number place = refl
+kept_had (step ∷ past) number place =
+    list_any-append (option_eq place_eq place) (kept past number) _
+    ∙ ap (λ (is_kept : Bool). is_kept || has_board (except (had_board past number) now) place) (kept_had past number place)
+    ∙ ap (λ (is_new : Bool). had_board past number place || is_new) (any_except (had_board past number) now place)
+    ∙ either (had_board past number place) (has_board now place)
+  where
+    now : List (Option Place)
+    now = boards (standing (step ∷ past)) number
 
 -- with a step more, those are added that are not there yet
-pub kept_next : (step : Step) (past : List Step) (number : ℕ) → kept (step ∷ past) number ≡ kept past number ++ except (has_board (kept past number)) (boards (standing (step ∷ past)) number)
+pub kept_next : (step : Step) (past : List Step) (number : ℕ)
+    → kept (step ∷ past) number ≡ kept past number ++ except (has_board (kept past number)) (boards (standing (step ∷ past)) number)
 unfolding kept
 kept_next step past number =
-    ap (λ (f : Option Place → Bool). kept past number ++ except f (boards (standing (step ∷ past)) number)) (sym (alike (has_board (kept past number)) (had_board past number) (kept_had past number)))
-
--- a board that is there keeps its number where others are added
-pub position_front : (test : Option Place → Bool) (there more : List (Option Place)) → list_any test there ≡ true → position_or_len test (there ++ more) ≡ position_or_len test there
-position_front test [] more h = absurd (cc)
-position_front test (board ∷ there) more h = of (test board) h (position_front test there more)
+    ap (λ (test : Option Place → Bool). kept past number ++ except test (boards (standing (step ∷ past)) number)) (sym tests)
   where
-    of : (b : Bool) → (b || list_any test there) ≡ true → (list_any test there ≡ true → position_or_len test (there ++ more) ≡ position_or_len test there) → cond (not b) (1 + position_or_len test (there ++ more)) 0 ≡ cond (not b) (1 + position_or_len test there) 0
-    of true k e = refl
-    of false k e = ap (λ (n : ℕ). 1 + n) (e k)
-
--- the index stays whatever follows
-pub index_stays : (more past : List Step) (number : ℕ) (x : Option Place) → had_board past number x ≡ true → index_in (kept (more ++ past) number) x ≡ index_in (kept past number) x
-index_stays [] past number x h = refl
-index_stays (step ∷ more) past number x h =
-    ap (λ (boards : List (Option Place)). index_in boards x) (kept_next step (more ++ past) number)
-    ∙ ap (λ (n : ℕ). n + 1) (position_front (option_eq place_eq x) (kept (more ++ past) number) _ (kept_had (more ++ past) number x ∙ had_more more))
-    ∙ index_stays more past number x h
-  where
-    or_true : (a b : Bool) → b ≡ true → (a || b) ≡ true
-    or_true true b k = refl
-    or_true false b k = k
-
-    had_more : (more : List Step) → had_board (more ++ past) number x ≡ true
-    had_more [] = h
-    had_more (step ∷ more) = or_true _ _ (had_more more)
-
--- boards of one number are one
-pub same_position : (there : List (Option Place)) (x y : Option Place) → has_board there x ≡ true → has_board there y ≡ true → position_or_len (option_eq place_eq x) there ≡ position_or_len (option_eq place_eq y) there → x ≡ y
-same_position [] x y h k e = absurd (cc)
-same_position (board ∷ there) x y h k e = of (option_eq place_eq x board) (option_eq place_eq y board) refl refl h k e (λ h k e. same_position there x y h k e)
-  where
-    of : (a b : Bool) → option_eq place_eq x board ≡ a → option_eq place_eq y board ≡ b → (a || has_board there x) ≡ true → (b || has_board there y) ≡ true → cond (not a) (1 + position_or_len (option_eq place_eq x) there) 0 ≡ cond (not b) (1 + position_or_len (option_eq place_eq y) there) 0 → (has_board there x ≡ true → has_board there y ≡ true → position_or_len (option_eq place_eq x) there ≡ position_or_len (option_eq place_eq y) there → x ≡ y) → x ≡ y
-    of true true p q h k e rest = board_same x board p ∙ sym (board_same y board q)
-    of true false p q h k e rest = absurd (omega (arith, e))
-    of false true p q h k e rest = absurd (omega (arith, e))
-    of false false p q h k e rest = rest h k (omega (arith, e))
-
--- and so are boards of one index
-pub same_index : (past : List Step) (number : ℕ) (x y : Option Place) → had_board past number x ≡ true → had_board past number y ≡ true → index_in (kept past number) x ≡ index_in (kept past number) y → x ≡ y
-same_index past number x y h k e =
-    let position : position_or_len (option_eq place_eq x) (kept past number) ≡ position_or_len (option_eq place_eq y) (kept past number) = omega (arith, e) in
-    same_position (kept past number) x y (kept_had past number x ∙ h) (kept_had past number y ∙ k) position
+    tests : has_board (kept past number) ≡ had_board past number
+    tests = λ i place. kept_had past number place i
 
 -- all boards of the moment after a history are kept
 pub kept_now : (past : List Step) (number : ℕ) → list_all (has_board (kept past number)) (boards (standing past) number) ≡ true
@@ -95,5 +64,63 @@ pub kept_idle : (step : Step) (past : List Step) (number : ℕ) → standing (st
 kept_idle step past number same =
     kept_next step past number
     ∙ ap (λ (now : Standing). kept past number ++ except (has_board (kept past number)) (boards now number)) same
-    ∙ ap (λ (new : List (Option Place)). kept past number ++ new) (except_none (has_board (kept past number)) (boards (standing past) number) (kept_now past number))
+    ∙ ap (λ (new : List (Option Place)). kept past number ++ new)
+    (except_none (has_board (kept past number)) (boards (standing past) number) (kept_now past number))
     ∙ append-nil (kept past number)
+
+-- ---- indexes
+
+-- a board that is there keeps its position where others are added
+pub position_front : (test : Option Place → Bool) (there more : List (Option Place)) → list_any test there ≡ true
+    → position_or_len test (there ++ more) ≡ position_or_len test there
+position_front test [] more any = absurd (cc)
+position_front test (board ∷ there) more any = by (test board) any (position_front test there more)
+  where
+    by : (passes : Bool) → (passes || list_any test there) ≡ true
+        → (list_any test there ≡ true → position_or_len test (there ++ more) ≡ position_or_len test there)
+        → cond (not passes) (1 + position_or_len test (there ++ more)) 0 ≡ cond (not passes) (1 + position_or_len test there) 0
+    by true any rest = refl
+    by false any rest = ap (λ (n : ℕ). 1 + n) (rest any)
+
+had_more : (more past : List Step) (number : ℕ) (place : Option Place) → had_board past number place ≡ true → had_board (more ++ past) number place ≡ true
+had_more [] past number place had = had
+had_more (step ∷ more) past number place had = or_right _ _ (had_more more past number place had)
+
+-- the index stays whatever follows
+pub index_stays : (more past : List Step) (number : ℕ) (place : Option Place) → had_board past number place ≡ true
+    → index_in (kept (more ++ past) number) place ≡ index_in (kept past number) place
+index_stays [] past number place had = refl
+index_stays (step ∷ more) past number place had =
+    ap (λ (boards : List (Option Place)). index_in boards place) (kept_next step (more ++ past) number)
+    ∙ ap (λ (n : ℕ). n + 1) (position_front (option_eq place_eq place) (kept (more ++ past) number) _ is_kept)
+    ∙ index_stays more past number place had
+  where
+    is_kept : has_board (kept (more ++ past) number) place ≡ true
+    is_kept = kept_had (more ++ past) number place ∙ had_more more past number place had
+
+-- boards of one position are one
+pub same_position : (there : List (Option Place)) (place other : Option Place) → has_board there place ≡ true → has_board there other ≡ true
+    → position_of place there ≡ position_of other there → place ≡ other
+same_position [] place other has has_other same = absurd (cc)
+same_position (board ∷ there) place other has has_other same =
+    by (option_eq place_eq place board) (option_eq place_eq other board) refl refl has has_other same (same_position there place other)
+  where
+    -- the position, by whether the board is the first
+    position : Bool → Option Place → ℕ
+    position is_first it = cond (not is_first) (1 + position_of it there) 0
+
+    by : (one two : Bool) → option_eq place_eq place board ≡ one → option_eq place_eq other board ≡ two
+        → (one || has_board there place) ≡ true → (two || has_board there other) ≡ true → position one place ≡ position two other
+        → (has_board there place ≡ true → has_board there other ≡ true → position_of place there ≡ position_of other there → place ≡ other)
+        → place ≡ other
+    by true true is is_other has has_other same rest = board_same place board is ∙ sym (board_same other board is_other)
+    by true false is is_other has has_other same rest = absurd (omega (arith, same))
+    by false true is is_other has has_other same rest = absurd (omega (arith, same))
+    by false false is is_other has has_other same rest = rest has has_other (omega (arith, same))
+
+-- and so are boards of one index
+pub same_index : (past : List Step) (number : ℕ) (place other : Option Place) → had_board past number place ≡ true → had_board past number other ≡ true
+    → index_in (kept past number) place ≡ index_in (kept past number) other → place ≡ other
+same_index past number place other had had_other same =
+    let position : position_of place (kept past number) ≡ position_of other (kept past number) = omega (arith, same) in
+    same_position (kept past number) place other (kept_had past number place ∙ had) (kept_had past number other ∙ had_other) position

@@ -1,4 +1,10 @@
+pub mod ListLemmas
 pub mod BoardLemmas
 pub mod IndexLemmas
+pub mod StandingLemmas
+pub mod HistoryLemmas
+pub mod RefusalLemmas
+pub mod PositionLemmas
+pub mod MeetingLemmas
 pub mod Found
 pub mod Changed

@@ -1,5 +1,6 @@
 -- Scripts with known answers, built of named parts.
-use Rattle.std.specs.Prelude.{ℕ, List, ◌∷◌, ◌++◌, codes, [], decimal}
+use Rattle.std.specs.Prelude.{ℕ, List, ◌++◌, codes}
+use Rattle.bmc_base.specs.Places.{Place}
 
 -- a record with a board area: maker, product, serial number, and two empty fields
 abbrev pub riser : List ℕ
@@ -64,3 +65,17 @@ bus_1_79 = codes "1 79"
 -- a bus that is not visible
 abbrev pub bus_20_80 : List ℕ
 bus_20_80 = codes "20 80"
+
+-- the places of these
+abbrev pub place_1_79 : Place
+place_1_79 = record { bus = 1; address = 79 }
+
+abbrev pub place_1_80 : Place
+place_1_80 = record { bus = 1; address = 80 }
+
+abbrev pub place_1_81 : Place
+place_1_81 = record { bus = 1; address = 81 }
+
+-- risers at three places, of which the second is taken away before the third is plugged
+abbrev pub three_risers : List ℕ
+three_risers = config (codes "83") finds_riser ++ plug bus_1_80 riser ++ plug bus_1_81 riser ++ unplug bus_1_81 ++ plug bus_1_79 riser

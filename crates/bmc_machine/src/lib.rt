@@ -2,7 +2,11 @@
 #![tactic(auto)]
 
 mod examples;
+mod histories;
 mod indexes;
 
-pub use examples::{scripts_with_boards, scripts_with_frus};
-pub use indexes::indexes_are_kept;
+pub use examples::{boards_were_met, scripts_with_boards, scripts_with_frus};
+pub use histories::{
+    frus_by_place, histories_are_legal, refused_items_are_idle, refused_plugs_are_idle,
+};
+pub use indexes::{indexes_are_kept, indexes_count};

@@ -23,5 +23,7 @@ use Rattle.bmc_machine.specs.Answers.{answers, final_list}
 use Rattle.bmc_machine.proofs.examples.scripts_with_frus.Goals as goal
 
 pub returns : goal.returns
-unfolding encode chars digits hex_on_literals without_return line_item whole_block whole_item cut_most cut block_size hex_decoded number place_named plug_of unplug_of words_of command_of header area_at first_field walk raw_fields text_of name_text area_fields area_text refusal_text quoted field_row fru_row fields_of_area fields_at fields_under record_of boards kept changes_between standing answers final_list
-returns c = record { empty = refl; listed = refl; by_place = refl; damaged = refl; twice = refl; silent = refl; refused = refl; }
+unfolding encode chars digits hex_on_literals without_return line_item whole_block whole_item cut_most cut block_size hex_decoded number place_named
+    plug_of unplug_of words_of command_of header area_at first_field walk raw_fields text_of name_text area_fields area_text refusal_text quoted
+    field_row fru_row fields_of_area fields_at fields_under record_of boards kept changes_between standing answers final_list
+returns c = record { empty = refl; listed = refl; by_place = refl; damaged = refl; twice = refl; silent = refl; refused = refl }

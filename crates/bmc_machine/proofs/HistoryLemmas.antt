@@ -1,0 +1,72 @@
+-- Items add legal steps alone to a history.
+use Rattle.std.proofs.Common.{◌≡◌, ℕ, ◌+◌, List, [], ◌∷◌, Option, Some, None, refl}
+use Rattle.std.specs.Prelude.{Result, Ok, Err}
+use Rattle.bmc_base.specs.Places.{Place}
+use Rattle.bmc_text.specs.Items.{Item, Line, LineTooLong, Block, BlockTooLong, BlockShort}
+use Rattle.bmc_script.specs.Commands.{command_of}
+use Rattle.bmc_script.specs.declared.command.Command.{Command}
+use Rattle.bmc_script.specs.declared.command.Command.TheVariants as commands
+use Rattle.bmc_script.specs.declared.command.ScriptFault.{ScriptFault}
+use Rattle.bmc_report.specs.Refusals.{refused_line}
+use Rattle.bmc_report.specs.declared.refusal.Refusal.{Refusal}
+use Rattle.cfg_json.specs.Configs.{Config}
+use Rattle.cfg_json.specs.Documents.{config_read}
+use Rattle.cfg_json.specs.declared.config.ConfigFault.{ConfigFault}
+use Rattle.bmc_machine.specs.Histories.{Step, Configure, Plug, Unplug, standing}
+use Rattle.bmc_machine.specs.Refusals.{config_refusal, refusal_of, IsLegalStep, IsLegal}
+use Rattle.bmc_machine.specs.Answers.{past_refused, answer_by, answer_step, answer_command, answer_broken, answer_config, answer, answers}
+
+module _ (line : Refusal → List ℕ) (past : List Step) (legal : IsLegal past) where
+  -- what comes of a step, where it may follow once it is not refused, and what is left once it is
+  step_is_legal : (step : Step) → (refusal_of (standing past) step ≡ None → IsLegalStep past step)
+      → ((refusal : Refusal) → refusal_of (standing past) step ≡ Some refusal → IsLegal (past_refused past step refusal))
+      → IsLegal (answer_step line past step).past
+  unfolding IsLegal
+  step_is_legal step may_follow is_left = by (refusal_of (standing past) step) refl
+    where
+      by : (refusal : Option Refusal) → refusal_of (standing past) step ≡ refusal → IsLegal (answer_by refusal line past step).past
+      by None accepted = (legal, may_follow accepted)
+      by (Some refusal) refused = is_left refusal refused
+
+  configure_is_legal : (config : Config) → IsLegal (answer_step line past (Configure config)).past
+  configure_is_legal config = step_is_legal (Configure config) (λ accepted. accepted) (λ refusal refused. legal)
+
+  -- a plug joins in any case, with the reason where it is refused
+  plug_is_legal : (place : Place) (bytes : List ℕ) → IsLegal (answer_step line past (Plug place bytes)).past
+  unfolding IsLegal
+  plug_is_legal place bytes = step_is_legal (Plug place bytes) (λ accepted. accepted) (λ refusal refused. (legal, refused))
+
+  unplug_is_legal : (place : Place) → IsLegal (answer_step line past (Unplug place)).past
+  unplug_is_legal place = step_is_legal (Unplug place) (λ accepted. accepted) (λ refusal refused. legal)
+
+  command_is_legal : (command : Result Command ScriptFault) → IsLegal (answer_command line past command).past
+  command_is_legal (Ok commands.Nothing) = legal
+  command_is_legal (Ok (commands.Plug place bytes)) = plug_is_legal place bytes
+  command_is_legal (Ok (commands.Unplug place)) = unplug_is_legal place
+  command_is_legal (Err fault) = legal
+
+  broken_is_legal : (refusal : Option Refusal) → IsLegal (answer_broken refusal line past).past
+  broken_is_legal None = legal
+  broken_is_legal (Some refusal) = legal
+
+  config_is_legal : (config : Result Config ConfigFault) → IsLegal (answer_config line past config).past
+  config_is_legal (Ok config) = configure_is_legal config
+  config_is_legal (Err rule) = broken_is_legal (config_refusal rule)
+
+  item_is_legal : (item : Item) → IsLegal (answer line past item).past
+  item_is_legal (Line bytes) = command_is_legal (command_of bytes)
+  item_is_legal LineTooLong = legal
+  item_is_legal (Block bytes) = config_is_legal (config_read bytes)
+  item_is_legal BlockTooLong = legal
+  item_is_legal BlockShort = legal
+
+-- what items leave of a legal history is legal
+pub items_are_legal : (number : ℕ) (past : List Step) (items : List Item) → IsLegal past → IsLegal (answers number past items).past
+unfolding answers
+items_are_legal number past [] legal = legal
+items_are_legal number past (item ∷ items) legal =
+    items_are_legal (number + 1) (answer (refused_line number) past item).past items (item_is_legal (refused_line number) past legal item)
+
+pub nothing_is_legal : IsLegal []
+unfolding IsLegal
+nothing_is_legal = tt

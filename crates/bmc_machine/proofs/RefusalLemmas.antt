@@ -1,0 +1,81 @@
+-- What is refused leaves the moment and the indexes.
+use Rattle.std.proofs.Common.{◌≡◌, ℕ, List, ◌∷◌, true, Option, Some, None, refl, ap}
+use Rattle.std.specs.Prelude.{Result, Ok, Err}
+use Rattle.bmc_base.specs.Places.{Place}
+use Rattle.bmc_text.specs.Items.{Item, Line, LineTooLong, Block, BlockTooLong, BlockShort}
+use Rattle.bmc_script.specs.Commands.{command_of}
+use Rattle.bmc_script.specs.declared.command.Command.{Command}
+use Rattle.bmc_script.specs.declared.command.Command.TheVariants as commands
+use Rattle.bmc_script.specs.declared.command.ScriptFault.{ScriptFault}
+use Rattle.bmc_report.specs.declared.refusal.Refusal.{Refusal}
+use Rattle.cfg_json.specs.Configs.{Config}
+use Rattle.cfg_json.specs.Documents.{config_read}
+use Rattle.cfg_json.specs.declared.config.ConfigFault.{ConfigFault}
+use Rattle.bmc_machine.specs.Histories.{Step, Configure, Plug, RefusedPlug, Unplug, standing}
+use Rattle.bmc_machine.specs.Indexes.{kept}
+use Rattle.bmc_machine.specs.Refusals.{config_refusal, refusal_of}
+use Rattle.bmc_machine.specs.Answers.{past_refused, answer_by, answer_step, answer_command, answer_broken, answer_config, answer}
+use Rattle.bmc_machine.proofs.IndexLemmas.{kept_idle}
+
+-- ---- a plug that is refused
+
+pub standing_refused_plug : (past : List Step) (place : Place) (bytes : List ℕ) (refusal : Refusal)
+    → standing (RefusedPlug place bytes refusal ∷ past) ≡ standing past
+unfolding standing
+standing_refused_plug past place bytes refusal = refl
+
+pub kept_refused_plug : (past : List Step) (place : Place) (bytes : List ℕ) (refusal : Refusal) (number : ℕ)
+    → kept (RefusedPlug place bytes refusal ∷ past) number ≡ kept past number
+kept_refused_plug past place bytes refusal number = kept_idle (RefusedPlug place bytes refusal) past number (standing_refused_plug past place bytes refusal)
+
+-- the history after a step that is refused
+pub past_of_refused : (line : Refusal → List ℕ) (past : List Step) (step : Step) (refusal : Refusal) → refusal_of (standing past) step ≡ Some refusal
+    → (answer_step line past step).past ≡ past_refused past step refusal
+past_of_refused line past step refusal refused = ap (λ (why : Option Refusal). (answer_by why line past step).past) refused
+
+-- ---- an item that is refused
+
+-- a history after which the moment and the indexes are as after another
+pub record IsAlike (past other : List Step) : Type 0 where
+  pub standing : standing other ≡ standing past
+  pub kept : (number : ℕ) → kept other number ≡ kept past number
+
+module _ (line : Refusal → List ℕ) (past : List Step) where
+  the_same : IsAlike past past
+  the_same = record { standing = refl; kept = λ number. refl }
+
+  step_refused : (step : Step) (refusal : Refusal) → IsAlike past (past_refused past step refusal)
+  step_refused (Configure config) refusal = the_same
+  step_refused (Plug place bytes) refusal =
+      record { standing = standing_refused_plug past place bytes refusal; kept = kept_refused_plug past place bytes refusal }
+  step_refused (RefusedPlug place bytes reason) refusal = the_same
+  step_refused (Unplug place) refusal = the_same
+
+  step_is_idle : (step : Step) → (answer_step line past step).refused ≡ true → IsAlike past (answer_step line past step).past
+  step_is_idle step = by (refusal_of (standing past) step)
+    where
+      by : (refusal : Option Refusal) → (answer_by refusal line past step).refused ≡ true → IsAlike past (answer_by refusal line past step).past
+      by None refused = absurd (cc)
+      by (Some refusal) refused = step_refused step refusal
+
+  command_is_idle : (command : Result Command ScriptFault) → (answer_command line past command).refused ≡ true
+      → IsAlike past (answer_command line past command).past
+  command_is_idle (Ok commands.Nothing) refused = the_same
+  command_is_idle (Ok (commands.Plug place bytes)) refused = step_is_idle (Plug place bytes) refused
+  command_is_idle (Ok (commands.Unplug place)) refused = step_is_idle (Unplug place) refused
+  command_is_idle (Err fault) refused = the_same
+
+  broken_is_idle : (refusal : Option Refusal) → IsAlike past (answer_broken refusal line past).past
+  broken_is_idle None = the_same
+  broken_is_idle (Some refusal) = the_same
+
+  config_is_idle : (config : Result Config ConfigFault) → (answer_config line past config).refused ≡ true → IsAlike past (answer_config line past config).past
+  config_is_idle (Ok config) refused = step_is_idle (Configure config) refused
+  config_is_idle (Err rule) refused = broken_is_idle (config_refusal rule)
+
+  pub item_is_idle : (item : Item) → (answer line past item).refused ≡ true → IsAlike past (answer line past item).past
+  item_is_idle (Line bytes) refused = command_is_idle (command_of bytes) refused
+  item_is_idle LineTooLong refused = the_same
+  item_is_idle (Block bytes) refused = config_is_idle (config_read bytes) refused
+  item_is_idle BlockTooLong refused = the_same
+  item_is_idle BlockShort refused = the_same

@@ -1,0 +1,77 @@
+-- The FRUs that are present after a legal history, and their order.
+use Rattle.std.proofs.Common.{◌≡◌, ℕ, List, [], ◌∷◌, Bool, true, false, not, cond, ◌||◌, Option, None, Some, map, refl, ap, ◌∙◌, subst}
+use Rattle.std.specs.List.{AllByRecursion, IsDistinct}
+use Rattle.std.specs.List.Sorted.{IsStrictlySortedBy}
+use Rattle.std.specs.Ordering.{is_eq, is_lt, ordering_reverse}
+use Rattle.std.specs.declared.cmp.Ordering.{Ordering}
+use Rattle.std.specs.declared.cmp.Ordering.TheVariants.{Less, Equal, Greater}
+use Rattle.std.specs.Cmp.{IsTotalOrder}
+use Rattle.std.proofs.lemmas.Cmp.{nat_cmp_total, on_total, then_total}
+use Rattle.std.proofs.lemmas.Map.Keys.{IsDistinct-from_sorted}
+use Rattle.bmc_base.specs.Places.{Place, place_cmp, place_eq}
+use Rattle.bmc_report.specs.declared.refusal.Refusal.{Refusal}
+use Rattle.bmc_report.specs.declared.refusal.Refusal.TheVariants.{Occupied}
+use Rattle.bmc_machine.specs.Standings.{Fru, is_at, is_present, put}
+use Rattle.bmc_machine.specs.Histories.{Step, Configure, Plug, RefusedPlug, Unplug, after_step, standing}
+use Rattle.bmc_machine.specs.Refusals.{refusal_of, IsLegalStep, IsLegal}
+use Rattle.bmc_machine.proofs.BoardLemmas.{place_cmp_eq}
+use Rattle.bmc_machine.proofs.ListLemmas.{all_weaker, ascending_filter}
+
+pub place_total : IsTotalOrder place_cmp
+place_total = then_total (on_total (λ (place : Place). place.bus) nat_cmp_total) (on_total (λ (place : Place). place.address) nat_cmp_total)
+
+abbrev pub places : List Fru → List Place
+places frus = map (λ fru. fru.place) frus
+
+-- a plug that is accepted found its place free
+free_place : (past : List Step) (place : Place) (bytes : List ℕ) → refusal_of (standing past) (Plug place bytes) ≡ None
+    → is_present (standing past).frus place ≡ false
+free_place past place bytes accepted = by (is_present (standing past).frus place) _ accepted
+  where
+    by : (present : Bool) (broken : Option Refusal) → cond present (Some Occupied) broken ≡ None → present ≡ false
+    by true broken none = absurd (cc)
+    by false broken none = refl
+
+-- what holds of the place of a FRU and of those of others holds of all of them
+all_put : (Fact : Place → Type 0) (fru : Fru) (frus : List Fru) → Fact fru.place → AllByRecursion Fact (places frus)
+    → AllByRecursion Fact (places (put fru frus))
+all_put Fact fru [] fact facts = (fact, tt)
+all_put Fact fru (other ∷ frus) fact facts = by (is_lt (place_cmp fru.place other.place)) (all_put Fact fru frus fact facts.1)
+  where
+    by : (first : Bool) → AllByRecursion Fact (places (put fru frus)) → AllByRecursion Fact (places (cond first (fru ∷ other ∷ frus) (other ∷ put fru frus)))
+    by true rest = (fact, facts)
+    by false rest = (facts.0, rest)
+
+-- a FRU that is put in where its place is free leaves them in order
+put_ascends : (fru : Fru) (frus : List Fru) → is_present frus fru.place ≡ false → IsStrictlySortedBy place_cmp (places frus)
+    → IsStrictlySortedBy place_cmp (places (put fru frus))
+unfolding IsStrictlySortedBy
+put_ascends fru [] free ascend = (tt, tt)
+put_ascends fru (other ∷ frus) free ascend = by (place_cmp fru.place other.place) refl free (λ free. put_ascends fru frus free ascend.1)
+  where
+    by : (order : Ordering) → place_cmp fru.place other.place ≡ order → (is_eq order || is_present frus fru.place) ≡ false
+        → (is_present frus fru.place ≡ false → IsStrictlySortedBy place_cmp (places (put fru frus)))
+        → IsStrictlySortedBy place_cmp (places (cond (is_lt order) (fru ∷ other ∷ frus) (other ∷ put fru frus)))
+    by Less is free rest = ((is, all_weaker _ _ (λ place less. place_total.trans fru.place other.place place is less) _ ascend.0), ascend)
+    by Equal is free rest = absurd (cc)
+    by Greater is free rest = (all_put _ fru frus (place_total.antisymm other.place fru.place ∙ ap ordering_reverse is) ascend.0, rest free)
+
+frus_ascend_next : (past : List Step) (step : Step) → IsLegalStep past step → IsStrictlySortedBy place_cmp (places (standing past).frus)
+    → IsStrictlySortedBy place_cmp (places (after_step (standing past) step).frus)
+frus_ascend_next past (Configure config) legal ascend = ascend
+frus_ascend_next past (Plug place bytes) legal ascend =
+    put_ascends (record { place = place; bytes = bytes }) (standing past).frus (free_place past place bytes legal) ascend
+frus_ascend_next past (RefusedPlug place bytes refusal) legal ascend = ascend
+frus_ascend_next past (Unplug place) legal ascend = ascending_filter (λ fru. fru.place) place_cmp (λ fru. not (is_at place fru)) (standing past).frus ascend
+
+-- after a legal history they ascend by place
+pub frus_ascend : (past : List Step) → IsLegal past → IsStrictlySortedBy place_cmp (places (standing past).frus)
+unfolding IsLegal standing IsStrictlySortedBy
+frus_ascend [] legal = tt
+frus_ascend (step ∷ past) legal = frus_ascend_next past step legal.1 (frus_ascend past legal.0)
+
+-- so no two of them have one place
+pub frus_differ : (past : List Step) → IsLegal past → IsDistinct place_eq (places (standing past).frus)
+frus_differ past legal =
+    subst (λ (same : Place → Place → Bool). IsDistinct same (places (standing past).frus)) (λ i place other. place_cmp_eq place other i)
+    (IsDistinct-from_sorted place_cmp (places (standing past).frus) (frus_ascend past legal))

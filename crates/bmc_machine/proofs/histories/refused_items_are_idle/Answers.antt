@@ -1,0 +1,8 @@
+use Rattle.bmc_machine.proofs.RefusalLemmas.{item_is_idle}
+use Rattle.bmc_machine.proofs.histories.refused_items_are_idle.Goals as goal
+
+pub returns : goal.returns
+returns c = record {
+  standing = λ line past item refused. (item_is_idle line past item refused).standing;
+  kept = λ line past item number refused. (item_is_idle line past item refused).kept number;
+}

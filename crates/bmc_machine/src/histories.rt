@@ -1,0 +1,51 @@
+ghost use Rattle.std.specs.Prelude.{◌≡◌, ◌∷◌, true, ℕ, List, [], map, Some};
+ghost use Rattle.std.specs.List.{IsDistinct};
+ghost use Rattle.std.specs.List.Sorted.{IsStrictlySortedBy};
+ghost use Rattle.bmc_base.specs.Places.{Place, place_cmp, place_eq};
+ghost use Rattle.bmc_text.specs.Items.{Item};
+ghost use Rattle.bmc_report.specs.declared.refusal.Refusal.{Refusal};
+ghost use Rattle.cfg_json.specs.Configs.{Config};
+ghost use Rattle.bmc_machine.specs.Histories.{Step, Configure, Plug, RefusedPlug, Unplug, standing};
+ghost use Rattle.bmc_machine.specs.Indexes.{kept};
+ghost use Rattle.bmc_machine.specs.Refusals.{refusal_of, IsLegal};
+ghost use Rattle.bmc_machine.specs.Answers.{answer_step, answer, answers, answer_of, whole_answer_of};
+
+/// Each step of a history is one that may follow those before it: items leave a legal history of a legal one,
+/// and so do a whole script and the items that are whole in what was taken of one.
+pub fn histories_are_legal()
+    ensures items { (number : ℕ) (past : List Step) (items : List Item) → IsLegal past → IsLegal (answers number past items).past }
+    ensures script { (script : List ℕ) → IsLegal (answer_of script).past }
+    ensures whole { (bytes : List ℕ) → IsLegal (whole_answer_of bytes).past }
+{}
+
+/// After a legal history no two FRUs that are present have one place, and they stand in order of place.
+pub fn frus_by_place()
+    ensures one { (past : List Step) → IsLegal past → IsDistinct place_eq (map (λ fru. fru.place) (standing past).frus) }
+    ensures order { (past : List Step) → IsLegal past → IsStrictlySortedBy place_cmp (map (λ fru. fru.place) (standing past).frus) }
+{}
+
+/// A plug that is refused joins the history with its reason, and leaves the configurations, the FRUs that are present
+/// and the indexes as they are. No other step joins that is refused.
+pub fn refused_plugs_are_idle()
+    ensures standing { (past : List Step) (place : Place) (bytes : List ℕ) (refusal : Refusal)
+        → standing (RefusedPlug place bytes refusal ∷ past) ≡ standing past }
+    ensures kept { (past : List Step) (place : Place) (bytes : List ℕ) (refusal : Refusal) (number : ℕ)
+        → kept (RefusedPlug place bytes refusal ∷ past) number ≡ kept past number }
+    ensures plug { (line : Refusal → List ℕ) (past : List Step) (place : Place) (bytes : List ℕ) (refusal : Refusal)
+        → refusal_of (standing past) (Plug place bytes) ≡ Some refusal
+        → (answer_step line past (Plug place bytes)).past ≡ RefusedPlug place bytes refusal ∷ past }
+    ensures configuration { (line : Refusal → List ℕ) (past : List Step) (config : Config) (refusal : Refusal)
+        → refusal_of (standing past) (Configure config) ≡ Some refusal
+        → (answer_step line past (Configure config)).past ≡ past }
+    ensures unplug { (line : Refusal → List ℕ) (past : List Step) (place : Place) (refusal : Refusal)
+        → refusal_of (standing past) (Unplug place) ≡ Some refusal
+        → (answer_step line past (Unplug place)).past ≡ past }
+{}
+
+/// An item that is refused leaves the configurations, the FRUs that are present and the indexes as they are.
+pub fn refused_items_are_idle()
+    ensures standing { (line : Refusal → List ℕ) (past : List Step) (item : Item) → (answer line past item).refused ≡ true
+        → standing (answer line past item).past ≡ standing past }
+    ensures kept { (line : Refusal → List ℕ) (past : List Step) (item : Item) (number : ℕ) → (answer line past item).refused ≡ true
+        → kept (answer line past item).past number ≡ kept past number }
+{}
