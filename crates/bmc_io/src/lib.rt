@@ -2,6 +2,7 @@
 //! holds, real streams do not. Readers of lines and writers of texts stand on the traits alone.
 #![tactic(auto)]
 
+mod count_sink;
 mod fault;
 mod law;
 mod mem_sink;
@@ -14,6 +15,7 @@ mod std_source;
 #[cfg(test)]
 mod tests;
 
+pub use count_sink::CountSink;
 pub use fault::IoFault;
 pub use law::a_count_is_the_length;
 pub use mem_sink::MemSink;
