@@ -81,7 +81,11 @@ fn read_piece<R: Read>(
 
 // Reads to the end, or to one byte above the limit.
 #[tactic(auto, using(crate::proofs::WholesLemmas::gathered_more, crate::proofs::WholesLemmas::gathered_all, crate::proofs::WholesLemmas::gathered_longer))]
-fn read_to_limit<R: Read>(alloc: Global, reader: &mut R, limit: usize) -> Result<Whole, FileFault>
+pub(crate) fn read_to_limit<R: Read>(
+    alloc: Global,
+    reader: &mut R,
+    limit: usize,
+) -> Result<Whole, FileFault>
     ensures { IfOk result (λ whole. IsWholeOf (R.remaining reader.old) limit whole) }
 {
     let mut bytes = Vec::new(alloc);
