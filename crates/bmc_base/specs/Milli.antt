@@ -1,5 +1,5 @@
 -- The text of a number of thousandths.
-use Rattle.std.specs.Prelude.{ℕ, ℤ, pos, negsuc, suc, ◌/◌, ◌%◌, List, ◌++◌, ◌∷◌, codes}
+use Rattle.std.specs.Prelude.{ℕ, ℤ, pos, negsuc, suc, ◌/◌, ◌%◌, List, ◌++◌, codes}
 use Rattle.std.specs.Fmt.{decimal}
 
 -- the whole part, a point and three digits
