@@ -1,3 +1,3 @@
 pub mod Fronts
 pub mod ToldLemmas
-pub mod WholesLemmas
+pub mod StdFilesLemmas

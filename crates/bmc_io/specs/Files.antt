@@ -1,5 +1,6 @@
 -- What is seen of files, and what reading one of them does.
-use Rattle.std.specs.Prelude.{ℕ, nat_eq, ◌≡◌, ◌≤◌, ◌<◌, Bool, Some, List, [], ◌∷◌, ◌++◌, reverse, find, length, Option, IfSome, IsSomeAnd, Result, Ok, Err}
+use Rattle.std.specs.Prelude.{ℕ, nat_eq, ◌≡◌, ◌≤◌, ◌<◌, Bool, List, [], ◌∷◌, ◌++◌, reverse, find, length}
+use Rattle.std.specs.Prelude.{Option, Some, IfSome, IsSomeAnd, Result, Ok, Err}
 use Rattle.std.specs.Option.{option_map}
 use Rattle.std.specs.Cmp.Lexicographic.{pointwise}
 use Rattle.bmc_base.specs.Calls.{Calls, with_failure, with_success}

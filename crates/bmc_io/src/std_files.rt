@@ -3,7 +3,7 @@ ghost use Rattle.std.specs.Io.{StartsWith, appended_bytes};
 ghost use Rattle.std.specs.Io.KnownBytes.{Consumes, IsAtEnd};
 ghost use Rattle.bmc_base.specs.Calls.{no_calls};
 ghost use Rattle.bmc_io.specs.Files.{IsWhole};
-ghost use Rattle.bmc_io.specs.Wholes.{IsWholeOf};
+ghost use Rattle.bmc_io.specs.StdFiles.{IsWholeOf};
 
 use crate::failures::Failures;
 use crate::retry::read_uninterrupted;
@@ -80,7 +80,7 @@ fn read_piece<R: Read>(
 }
 
 // Reads to the end, or to one byte above the limit.
-#[tactic(auto, using(crate::proofs::WholesLemmas::gathered_more, crate::proofs::WholesLemmas::gathered_all, crate::proofs::WholesLemmas::gathered_longer))]
+#[tactic(auto, using(crate::proofs::StdFilesLemmas::gathered_more, crate::proofs::WholesLemmas::gathered_all, crate::proofs::WholesLemmas::gathered_longer))]
 pub(crate) fn read_to_limit<R: Read>(
     alloc: Global,
     reader: &mut R,

@@ -1,4 +1,4 @@
--- The bytes of a reader as a whole.
+-- What is read of a file of the system.
 use Rattle.std.specs.Prelude.{ℕ, ◌≡◌, ◌≤◌, ◌<◌, List, length, Option, IfSome}
 use Rattle.bmc_io.specs.declared.files.Whole.{Whole}
 use Rattle.bmc_io.specs.declared.files.Whole.TheVariants.{Given, Longer}
