@@ -38,7 +38,8 @@ front_stopped old mid new bytes done taken kept =
 
 -- after the first `done` bytes, the next `n`
 pub take_further : (old mid new : Told) (bytes : List ℕ) (done n : ℕ)
-    → mid ≡ added old (take done bytes) → new ≡ added mid (take n (take (length bytes - done) (drop done bytes))) → new ≡ added old (take (done + n) bytes)
+    → mid ≡ added old (take done bytes) → new ≡ added mid (take n (take (length bytes - done) (drop done bytes)))
+    → new ≡ added old (take (done + n) bytes)
 take_further old mid new bytes done n taken more =
     let further : take done bytes ++ take n (take (length bytes - done) (drop done bytes)) ≡ take (done + n) bytes =
     ap (λ rest. take done bytes ++ take n rest) (take_rest bytes done) ∙ sym (take-add done n bytes) in

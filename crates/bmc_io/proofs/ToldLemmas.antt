@@ -1,6 +1,6 @@
 -- Lemmas on what a sink tells.
 use Rattle.std.proofs.Common.{◌≡◌, ℕ, List, [], ◌++◌, length, refl, ap, append_assoc, append-nil, length-append, arith}
-use Rattle.bmc_io.specs.Told.{Told, counted, added, TellsLength}
+use Rattle.bmc_io.specs.Told.{Told, counted, added}
 use Rattle.bmc_io.specs.Told.Told.{Nothing, Count, Bytes}
 
 -- a count after two numbers more is the count after their sum
@@ -18,7 +18,3 @@ pub added_none : (told : Told) → added told [] ≡ told
 added_none Nothing = refl
 added_none (Count count) = grind arith
 added_none (Bytes old) = ap Bytes (append-nil old)
-
--- a count that starts at 0 is a length
-pub tells_length : TellsLength
-tells_length text n told = grind arith

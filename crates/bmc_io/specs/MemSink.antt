@@ -17,7 +17,7 @@ pub record MemoryOutput : Type 0 where
 
 -- how many of these bytes the next call takes
 abbrev pub taken_len : MemoryOutput → List ℕ → ℕ
-taken_len s bytes = min s.piece (min (length bytes) (s.room - length s.taken))
+taken_len sink bytes = min sink.piece (min (length bytes) (sink.room - length sink.taken))
 
 -- the next call fails, and all but the counts stays
 pub record OutputFails (old new : MemoryOutput) (result : Result ℕ IoFault) : Type 0 where

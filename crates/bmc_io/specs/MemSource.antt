@@ -25,7 +25,7 @@ piece_size pieces call room = unwrap_or (slice_get pieces (min call (length piec
 
 -- how many bytes the next call gives into this much room
 abbrev pub given_len : MemoryInput → ℕ → ℕ
-given_len s room = min (piece_size s.pieces s.next room) (min room (length s.left))
+given_len source room = min (piece_size source.pieces source.next room) (min room (length source.left))
 
 -- the next call fails, and all but the counts stays
 pub record InputFails (old new : MemoryInput) (result : Result ℕ IoFault) (buf_old buf_new : List ℕ) : Type 0 where

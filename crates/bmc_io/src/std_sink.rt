@@ -1,31 +1,14 @@
-ghost use Rattle.std.specs.Prelude.{◌≡◌, ◌≢◌, ◌<◌, length, IfErr, is_err};
-ghost use Rattle.std.specs.Io.{WritesAtMost};
+ghost use Rattle.std.specs.Prelude.{◌≡◌, ◌<◌, length, is_err};
 ghost use Rattle.std.specs.Io.KnownBytes.{WriteAppends};
-ghost use Rattle.std.specs.IoError.{error_kind};
 ghost use Rattle.bmc_base.specs.Calls.{HasCause, no_calls};
 ghost use Rattle.bmc_io.specs.Told.Told.{Nothing};
 ghost use Rattle.bmc_io.specs.Sinks.{TakesSome, WriteAdds};
 
+use crate::retry::write_uninterrupted;
 use crate::{IoFault, Sink};
 use bmc_base::Calls;
-use std::io;
-use std::io::{ErrorKind, Write};
+use std::io::Write;
 use std::marker::Model;
-
-// One write, made again while a signal interrupts it.
-fn write_uninterrupted<W: Write>(writer: &mut W, piece: &[u8]) -> io::Result<usize>
-    ensures bound { WritesAtMost result piece.now }
-    ensures bytes { WriteAppends (W.contents writer.old) (W.contents writer.new) result piece.now }
-    ensures retried { IfErr result (λ e. error_kind e ≢ ErrorKind.Interrupted) }
-{
-    'tries: for _ in 0..u64::MAX {
-        match writer.write(piece) {
-            Err(e) if e.kind() == ErrorKind::Interrupted => {}
-            answer => return answer,
-        }
-    }
-    Err(io::Error::from(ErrorKind::TimedOut))
-}
 
 /// A sink over any writer, as standard output. It counts its faults; a write that takes nothing is
 /// one. A write that a signal interrupts is made again, and is no fault. As a `Sink` it tells nothing of

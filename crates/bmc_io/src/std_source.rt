@@ -1,29 +1,11 @@
-ghost use Rattle.std.specs.Prelude.{◌≡◌, ◌≢◌, IfErr};
-ghost use Rattle.std.specs.Io.{ReadsAtMost};
-ghost use Rattle.std.specs.Io.KnownBytes.{ReadConsumes};
-ghost use Rattle.std.specs.IoError.{error_kind};
+ghost use Rattle.std.specs.Prelude.{◌≡◌};
 ghost use Rattle.bmc_base.specs.Calls.{no_calls};
 
+use crate::retry::read_uninterrupted;
 use crate::{IoFault, Source};
 use bmc_base::Calls;
-use std::io;
-use std::io::{ErrorKind, Read};
+use std::io::Read;
 use std::marker::Model;
-
-// One read, made again while a signal interrupts it.
-fn read_uninterrupted<R: Read>(reader: &mut R, buf: &mut [u8]) -> io::Result<usize>
-    ensures bound { ReadsAtMost result buf.new }
-    ensures bytes { ReadConsumes (R.remaining reader.old) (R.remaining reader.new) result buf.new }
-    ensures retried { IfErr result (λ e. error_kind e ≢ ErrorKind.Interrupted) }
-{
-    'tries: for _ in 0..u64::MAX {
-        match reader.read(buf) {
-            Err(e) if e.kind() == ErrorKind::Interrupted => {}
-            answer => return answer,
-        }
-    }
-    Err(io::Error::from(ErrorKind::TimedOut))
-}
 
 /// A source over any reader, as standard input. It counts its faults, and tells what is left as far
 /// as the reader does. A read that a signal interrupts is made again, and is no fault.

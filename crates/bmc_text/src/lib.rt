@@ -1,4 +1,5 @@
-//! Cuts a script into items, each a line with the block that it asks for, and reads hexadecimal digits.
+//! Cuts a script into items, each a line with the block that it asks for, and reads numbers and
+//! hexadecimal digits.
 #![tactic(auto)]
 
 mod buffer;

@@ -1,5 +1,5 @@
-//! Reads the header and the areas of a FRU record (IPMI FRU Information Storage Definition 1.0): where
-//! they lie, their checksums, and their fields as text.
+//! Reads the header and the areas of a FRU record (IPMI FRU Information Storage Definition 1.0):
+//! where they lie, their checksums, and their fields as text.
 #![tactic(auto)]
 
 mod area;
