@@ -1,3 +1,5 @@
+pub mod Powers
+pub mod WordsLemmas
 pub mod Newlines
 pub mod Cuts
 pub mod Gathering

@@ -1,7 +1,16 @@
-ghost use Rattle.std.specs.Prelude.{◌≡◌, ℕ, List, ◌++◌};
+ghost use Rattle.std.specs.Prelude.{◌≡◌, ◌<◌, ◌^◌, ◌*ℤ◌, ℕ, ℤ, pos, nat_abs, List, ◌++◌, Some, decimal};
+ghost use Rattle.std.specs.Fmt.{signed_decimal};
 ghost use Rattle.bmc_text.specs.Items.{Item, items_of, whole_items};
+ghost use Rattle.bmc_text.specs.Words.{number, number_digits, raw, raw_digits, decimal_units, whole_digits};
 
 /// Whatever follows bytes of a script, the items that are whole in them are the first of the script.
 pub fn whole_items_stay()
     ensures { (bytes more : List ℕ) → (others : List Item) × (items_of (bytes ++ more) ≡ whole_items bytes ++ others) }
+{}
+
+/// The text of a number is read as that number.
+pub fn numbers_are_read_back()
+    ensures number { (n : ℕ) → n < 10 ^ number_digits → number (decimal n) ≡ Some n }
+    ensures raw { (z : ℤ) → nat_abs z < 10 ^ raw_digits → raw (signed_decimal z) ≡ Some z }
+    ensures decimal { (places : ℕ) (z : ℤ) → nat_abs z < 10 ^ whole_digits → decimal_units places (signed_decimal z) ≡ Some (z *ℤ pos (10 ^ places)) }
 {}

@@ -9,10 +9,12 @@ mod law;
 mod lines;
 #[cfg(test)]
 mod pieces;
+mod numbers;
 mod words;
 
 pub use hexadecimal::{HexFault, hex_bytes};
 pub use items::{Items, NextItem};
 pub use law::whole_items_stay;
 pub use lines::{Block, Got, LineFault, Lines};
-pub use words::{block_size, read_number};
+pub use numbers::{decimal, read_number, read_raw};
+pub use words::block_size;
