@@ -1,15 +1,19 @@
--- Numbers are read back from their texts.
-use Rattle.std.proofs.Common.{◌≡◌, ◌≢◌, ◌<◌, ◌≤◌, ◌*◌, ◌^◌, ℕ, suc, List, [], ◌∷◌, length, Bool, true, false, cond, ◌&&◌, refl, sym, ap, ◌∙◌, arith, lt-ltb, le-leb, ne_eqb, rules, ltb, slice_index, take, drop, ◌+◌}
-use Rattle.std.specs.Prelude.{Option, Some, None, option_map, decimal, fold, ℤ, pos, negsuc, neg_ℤ, nat_abs, ◌*ℤ◌, ◌==◌}
+-- Words of lines, and numbers that are read back from their texts.
+use Rattle.std.proofs.Common.{◌≡◌, ◌≢◌, ◌<◌, ◌≤◌, ◌*◌, ◌^◌, ℕ, suc, List, ◌∷◌, ◌++◌, length, Bool, true, false, cond, refl, sym, ap, ◌∙◌, arith, lt-ltb, le-leb, ne_eqb, eqb-true, rules, ltb, slice_index, take, drop, ◌+◌}
+use Rattle.std.specs.Prelude.{Option, Some, None, option_map, option_and_then, position, codes, bytes_eq, decimal, fold, ℤ, pos, negsuc, neg_ℤ, nat_abs, ◌*ℤ◌, ◌==◌}
 use Rattle.std.specs.Fmt.{signed_decimal}
 use Rattle.std.specs.List.{list_all, position_or_len}
 use Rattle.std.specs.Str.Parse.{starts_with_minus}
 use Rattle.std.proofs.lemmas.Bool.{le-ltb}
+use Rattle.std.proofs.lemmas.List.{take-append-drop}
+use Rattle.std.proofs.lemmas.List.Quantifiers.{position-Some}
 use Rattle.std.proofs.lemmas.List.Sums.{position_or_len_is}
+use Rattle.std.proofs.lemmas.Slice.Eq.{bytes_eq-Decides}
+use Rattle.std.proofs.Math.Seq.{drop-cons}
 use Rattle.bmc_text.proofs.Powers.{below_power}
 use Rattle.std.proofs.lemmas.Str.Parse.{IsNumeralModel, numerals_by_fold, not_in_digits}
 use Rattle.std.proofs.lemmas.Fmt.{digits_decimal, digits_value-decimal, decimal_nonempty, length-decimal-le}
-use Rattle.bmc_text.specs.Words.{is_digit, with_digit, digits, number, number_digits, raw, raw_digits, whole_digits, signed, units, decimal_units, split_at}
+use Rattle.bmc_text.specs.Words.{is_digit, with_digit, digits, number, number_digits, raw, raw_digits, whole_digits, signed, units, decimal_units, split_at, split_space, size_of, block_size}
 
 abbrev all_digits : List ℕ → Type 0
 all_digits text = list_all is_digit text ≡ true
@@ -23,8 +27,7 @@ own = numerals_by_fold _ (search rules) read_on (search rules)
 
 digits_is : (longest : ℕ) (text : List ℕ) → 0 < length text → length text ≤ longest → all_digits text → digits longest text ≡ Some (read_on 0 text)
 unfolding digits
-digits_is longest text some few all =
-    rw (lt-ltb 0 (length text) some, le-leb (length text) longest few, all)
+digits_is longest text some few all = rw (lt-ltb 0 (length text) some, le-leb (length text) longest few, all)
 
 -- a number of so many digits at the most is read as that number
 digits-decimal : (longest n : ℕ) → 0 < longest → longest ≤ 18 → n < 10 ^ longest → digits longest (decimal n) ≡ Some n
@@ -83,3 +86,43 @@ units-decimal places z below =
     (ap (units places (decimal (nat_abs z))) (no_point (nat_abs z) fits)
     ∙ ap (option_map (λ whole. whole * 10 ^ places)) (digits-decimal whole_digits (nat_abs z) (omega arith) (omega arith) below))
     ∙ ap Some (signed_as-times z (10 ^ places))
+
+-- The block that a line asks for.
+
+abbrev is_space : ℕ → Bool
+is_space byte = byte == 32
+
+split_config : (digits : List ℕ) → split_space (codes "config " ++ digits) ≡ Some (codes "config", digits)
+split_config digits =
+    ap (λ (t : Bool). option_map (λ (at : ℕ). (take at (codes "config " ++ digits), drop (at + 1) (codes "config " ++ digits))) (cond t (Some 6) None)) (lt-ltb 6 (length (codes "config " ++ digits)) (omega arith))
+
+-- a line of the form
+pub asks_for : (line digits : List ℕ) → line ≡ codes "config " ++ digits → block_size line ≡ number digits
+unfolding block_size
+asks_for line digits e = ap (λ (bytes : List ℕ). option_and_then size_of (split_space bytes)) e ∙ ap (option_and_then size_of) (split_config digits)
+
+parts_at : (line : List ℕ) (at : ℕ) → position is_space line ≡ Some at → line ≡ take at line ++ 32 ∷ drop (at + 1) line
+parts_at line at e =
+    let found = position-Some is_space line at 0 e in
+    let next : at + 1 ≡ suc at = omega arith in
+    sym (take-append-drop at line) ∙ ap (λ (rest : List ℕ). take at line ++ rest) (drop-cons line at 0 found.0 ∙ ap (λ (b : ℕ). b ∷ drop (suc at) line) (eqb-true (slice_index line at) 32 found.1))
+    ∙ ap (λ (n : ℕ). take at line ++ 32 ∷ drop n line) (sym next)
+
+none_named : (first rest line : List ℕ) (t : Bool) → bytes_eq first (codes "config") ≡ t → line ≡ first ++ 32 ∷ rest → ((digits : List ℕ) → line ≢ codes "config " ++ digits) → cond t (number rest) None ≡ None
+none_named first rest line true e parts other =
+    let config : first ≡ codes "config" = (bytes_eq-Decides first (codes "config")).0 e in
+    absurd (other rest (parts ∙ ap (λ (word : List ℕ). word ++ 32 ∷ rest) config))
+none_named first rest line false e parts other = refl
+
+none_at : (line : List ℕ) (place : Option ℕ) → position is_space line ≡ place → ((digits : List ℕ) → line ≢ codes "config " ++ digits) → option_and_then size_of (option_map (λ (at : ℕ). (take at line, drop (at + 1) line)) place) ≡ None
+none_at line None e other = refl
+none_at line (Some at) e other = none_named (take at line) (drop (at + 1) line) line (bytes_eq (take at line) (codes "config")) refl (parts_at line at e) other
+
+-- any other line
+pub asks_for_none : (line : List ℕ) → ((digits : List ℕ) → line ≢ codes "config " ++ digits) → block_size line ≡ None
+unfolding block_size
+asks_for_none line other = none_at line (position is_space line) refl other
+
+-- a line that begins with another byte than c (99) asks for no block
+pub asks_none : (line : List ℕ) → slice_index line 0 ≢ 99 → block_size line ≡ None
+asks_none line other = asks_for_none line (λ digits e. other (ap (λ (xs : List ℕ). slice_index xs 0) e))

@@ -2,6 +2,7 @@
 //! bytes, and bytes in hexadecimal. The commands of lines stand on it.
 #![tactic(auto)]
 
+mod block;
 mod buffer;
 mod hexadecimal;
 mod items;
@@ -15,6 +16,7 @@ mod words;
 pub use hexadecimal::{HexFault, hex_bytes};
 pub use items::{Items, NextItem};
 pub use law::whole_items_stay;
-pub use lines::{Block, Got, LineFault, Lines};
+pub use block::Block;
+pub use lines::{Got, LineFault, Lines};
 pub use numbers::{decimal, read_number, read_raw};
 pub use words::block_size;

@@ -1,4 +1,4 @@
-use Rattle.bmc_text.proofs.Cuts.{whole_items-first}
+use Rattle.bmc_text.proofs.ItemsLemmas.{whole_items-first}
 use Rattle.bmc_text.proofs.law.whole_items_stay.Goals as goal
 
 pub returns : goal.returns

@@ -2,8 +2,8 @@ use Rattle.std.proofs.Common.{◌∙◌, sym}
 use Rattle.std.specs.Prelude.{Some, None, codes}
 use Rattle.std.proofs.lemmas.Bool.Decides.{Decides-eqb}
 use Rattle.std.proofs.lemmas.Slice.Eq.{strip_prefix_is}
-use Rattle.bmc_text.proofs.Asked.{asks_for, asks_for_none}
-use Rattle.bmc_text.proofs.words.block_size.Goals as goal
+use Rattle.bmc_text.proofs.WordsLemmas.{asks_for, asks_for_none}
+use Rattle.bmc_text.proofs.words.size_in_words.Goals as goal
 
 pub returns-in-Some : goal.returns-in-Some
 returns-in-Some c =

@@ -4,10 +4,10 @@ use Rattle.std.specs.Prelude.{Option, Some, None, option_and_then}
 use Rattle.std.specs.List.{before_first, after_first, position_or_len}
 use Rattle.std.proofs.lemmas.Bool.{cases_lt, lt-ltb, le-ltb}
 use Rattle.std.proofs.lemmas.List.{take_at, drop_at, take-append-le, drop-append-le, take_all, drop_all}
-use Rattle.bmc_text.specs.Buffers.{HasNoNewline}
+use Rattle.bmc_text.specs.Newlines.{HasNoNewline}
 use Rattle.bmc_text.specs.Items.{Item, is_newline, line_item, asks, behind_block, block_item, whole_block, whole_behind, whole_item, Cut, cut_off, cut_most, cut, whole_items, last_behind, last_item, items_of}
-use Rattle.bmc_text.specs.Taking.{BeginsWith}
-use Rattle.bmc_text.proofs.Newlines.{position-none, position-line, len_none, len_line, Front, NoLine, LineThen, front_of}
+use Rattle.bmc_text.specs.NextItems.{BeginsWith}
+use Rattle.bmc_text.proofs.NewlinesLemmas.{position-none, position-line, len_none, len_line, Front, NoLine, LineThen, front_of}
 
 pub whole_item-none : (raw : List ℕ) → HasNoNewline raw → whole_item raw ≡ None
 unfolding whole_item
@@ -167,6 +167,7 @@ pub begins_with : (bytes others : List ℕ) (item : Item) → whole_item bytes �
 begins_with bytes others item e = record {
   all = λ more. items_of-item (bytes ++ more) (others ++ more) item (item_more bytes others more item e);
   whole = λ more. whole_items-item (bytes ++ more) (others ++ more) item (item_more bytes others more item e);
+  shorter = item_shorter bytes others item e;
 }
 
 -- the last item of bytes with no item that is whole

@@ -1,12 +1,12 @@
 -- Newlines in bytes.
-use Rattle.std.proofs.Common.{◌≡◌, ◌≢◌, ℕ, zero, suc, ◌+◌, ◌≤◌, ◌<◌, List, [], ◌∷◌, ◌++◌, length, take, drop, slice_index, cond, not, ltb, Bool, arith, ap, sym, ◌∙◌, refl, length-append, length-take, length-drop, inl, inr, ◌-◌}
+use Rattle.std.proofs.Common.{◌≡◌, ◌≢◌, ℕ, zero, suc, ◌+◌, ◌≤◌, ◌<◌, List, [], ◌∷◌, ◌++◌, length, take, drop, slice_index, cond, not, ltb, Bool, arith, ap, sym, ◌∙◌, refl, subst, length-append, length-take, length-drop, inl, inr, ◌-◌}
 use Rattle.std.specs.Prelude.{Some, None, ◌==◌, position, ◌⊎◌}
 use Rattle.std.specs.List.{position_or_len}
 use Rattle.std.proofs.lemmas.Bool.{ne_eqb, lt-ltb, le-ltb, cases_eq, cases_lt, eq-eqb, eqb-true}
-use Rattle.std.proofs.lemmas.List.{get_or-take, get_or-drop, take-append-drop}
+use Rattle.std.proofs.lemmas.List.{get_or-take, get_or-drop, take-append-drop, take-append-le}
 use Rattle.std.proofs.Math.Seq.{drop-cons}
 use Rattle.memchr.specs.Find.{Nowhere, NoneBefore, Passes}
-use Rattle.bmc_text.specs.Buffers.{HasNoNewline, IsNewline}
+use Rattle.bmc_text.specs.Newlines.{HasNoNewline, IsNewline}
 use Rattle.bmc_text.specs.Items.{is_newline}
 
 pub HasNoNewline-nil : HasNoNewline []
@@ -30,6 +30,11 @@ pub HasNoNewline-take : (bytes : List ℕ) (at : ℕ) → IsNewline bytes at →
 HasNoNewline-take bytes at h k l =
     let below : k < at = omega (arith, length-take at bytes) in
     λ e. h.first k below (sym (get_or-take at bytes k 0 below) ∙ e)
+
+-- bytes behind a front change nothing in it
+pub HasNoNewline-front : (n : ℕ) (bytes more all : List ℕ) → bytes ++ more ≡ all → n ≤ length bytes → HasNoNewline (take n bytes) → HasNoNewline (take n all)
+HasNoNewline-front n bytes more all parts within none =
+    subst HasNoNewline (sym (take-append-le n bytes more within) ∙ ap (take n) parts) none
 
 -- bytes with a newline at that place
 pub newline_parts : (bytes : List ℕ) (at : ℕ) → IsNewline bytes at → bytes ≡ take at bytes ++ 10 ∷ drop (at + 1) bytes
