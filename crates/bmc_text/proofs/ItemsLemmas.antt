@@ -5,7 +5,7 @@ use Rattle.std.specs.List.{before_first, after_first, position_or_len}
 use Rattle.std.proofs.lemmas.Bool.{cases_lt, lt-ltb, le-ltb}
 use Rattle.std.proofs.lemmas.List.{take_at, drop_at, take-append-le, drop-append-le, take_all, drop_all}
 use Rattle.bmc_text.specs.Newlines.{HasNoNewline}
-use Rattle.bmc_text.specs.Items.{Item, is_newline, line_item, asks, behind_block, block_item, whole_block, whole_behind, whole_item, Cut, cut_off, cut_most, cut, whole_items, last_behind, last_item, items_of}
+use Rattle.bmc_text.specs.Items.{Item, is_newline, line_item, asks, behind_block, block_item, whole_block, whole_behind, whole_item, Cut, cut_off, cut_most, cut, whole_items, unfinished, last_behind, last_item, items_of}
 use Rattle.bmc_text.specs.NextItems.{BeginsWith}
 use Rattle.bmc_text.proofs.NewlinesLemmas.{position-none, position-line, len_none, len_line, Front, NoLine, LineThen, front_of}
 
@@ -53,6 +53,9 @@ behind_block-more (byte ∷ bytes) more l = with_more (is_newline byte) byte byt
 pub same_found : {a b : Item} {xs ys : List ℕ} → ◌≡◌ {A = Option (Item × List ℕ)} (Some (a, xs)) (Some (b, ys)) → (a ≡ b) × (xs ≡ ys)
 same_found {a} {b} {xs} {ys} e =
     let pair : ◌≡◌ {A = Item × List ℕ} (a, xs) (b, ys) = cc in (ap (λ (found : Item × List ℕ). found.0) pair, ap (λ (found : Item × List ℕ). found.1) pair)
+
+same_parts : (a b : Item) (xs ys : List Item) → a ∷ xs ≡ b ∷ ys → (a ≡ b) × (xs ≡ ys)
+same_parts a b xs ys e = (cc, cc)
 
 -- what a block that is whole leaves
 block_shorter : (n : ℕ) (bytes others : List ℕ) (item : Item) → whole_block n bytes ≡ Some (item, others) → length others ≤ length bytes
@@ -197,16 +200,87 @@ items_of-cut raw rest h none =
     (take_at raw (10 ∷ rest) (position_or_len is_newline (raw ++ 10 ∷ rest)) (sym at))
     (ap (λ (n : ℕ). drop (n + 1) (raw ++ 10 ∷ rest)) at ∙ behind_line raw rest)
 
-stays : (n : ℕ) (bytes more : List ℕ) → length bytes ≤ n → Begin bytes → (others : List Item) × (items_of (bytes ++ more) ≡ whole_items bytes ++ others)
-stays n bytes more l (NoItem none) = (items_of (bytes ++ more), ap (λ (items : List Item). items ++ items_of (bytes ++ more)) (sym (whole_items-none bytes none)))
+stays : (n : ℕ) (bytes more : List ℕ) → length bytes ≤ n → Begin bytes → items_of (bytes ++ more) ≡ whole_items bytes ++ items_of (unfinished bytes ++ more)
+stays n bytes more l (NoItem none) = ap (λ (c : Cut). c.items ++ items_of (c.rest ++ more)) (sym (cut-none bytes none))
 stays zero bytes more l (ItemThen item others e) = absurd (omega (arith, item_shorter bytes others item e))
 stays (suc n) bytes more l (ItemThen item others e) =
-    let later = stays n others more (omega (arith, item_shorter bytes others item e)) (begin_of others) in (
+    (begins_with bytes others item e).all more
+    ∙ ap (λ (items : List Item). item ∷ items) (stays n others more (omega (arith, item_shorter bytes others item e)) (begin_of others))
+    ∙ ap (λ (c : Cut). c.items ++ items_of (c.rest ++ more)) (sym (cut-item bytes others item e))
+
+-- whatever follows, the items that are whole come first
+pub whole_items-first : (bytes more : List ℕ) → items_of (bytes ++ more) ≡ whole_items bytes ++ items_of (unfinished bytes ++ more)
+whole_items-first bytes more = stays (length bytes) bytes more (omega arith) (begin_of bytes)
+
+items_of-nil : items_of [] ≡ []
+unfolding cut cut_most
+items_of-nil = refl
+
+-- an item that is whole at the end of bytes is all of them
+alone : (bytes : List ℕ) (item : Item) → whole_item bytes ≡ Some (item, []) → length (items_of bytes) ≡ 1
+alone bytes item whole = ap length (items_of-item bytes [] item whole ∙ ap (λ (items : List Item). item ∷ items) items_of-nil)
+
+-- A newline that follows an item which is not whole belongs to it: behind a line it ends the line, behind a block it
+-- is part of it.
+line_alone : (raw : List ℕ) (asked : Option ℕ) → HasNoNewline raw → asks (line_item raw) ≡ asked → length (items_of (raw ++ 10 ∷ [])) ≡ 1
+line_alone raw None none e =
+    alone (raw ++ 10 ∷ []) (line_item raw) (whole_item-line raw [] none ∙ ap (λ (size : Option ℕ). whole_behind (line_item raw) size []) e)
+line_alone raw (Some n) none e =
+    ap length
+    (items_of-cut raw [] none (ap (λ (size : Option ℕ). whole_behind (line_item raw) size []) e ∙ whole_block-none n [] (omega arith)))
+
+block_alone : (raw rest : List ℕ) (n : ℕ) → HasNoNewline raw → asks (line_item raw) ≡ Some n → length rest ≤ n → length (items_of (raw ++ 10 ∷ (rest ++ 10 ∷ []))) ≡ 1
+block_alone raw rest n none e few =
+    let behind = whole_item-line raw (rest ++ 10 ∷ []) none ∙ ap (λ (size : Option ℕ). whole_behind (line_item raw) size (rest ++ 10 ∷ [])) e in
+    elim (cases_lt n (length (rest ++ 10 ∷ []))) [
+      | inl more ↦
+          let all : length rest ≡ n = omega (arith, more, length-append rest (10 ∷ [])) in
+          alone (raw ++ 10 ∷ (rest ++ 10 ∷ [])) (block_item n (take n (rest ++ 10 ∷ [])))
+          (behind ∙ whole_block-some n (rest ++ 10 ∷ []) more
+          ∙ ap (λ (xs : List ℕ). Some (block_item n (take n (rest ++ 10 ∷ [])), behind_block xs)) (drop_at rest (10 ∷ []) n all))
+      | inr few_now ↦ ap length
+          (items_of-cut raw (rest ++ 10 ∷ []) none (ap (λ (size : Option ℕ). whole_behind (line_item raw) size (rest ++ 10 ∷ [])) e ∙ whole_block-none n (rest ++ 10 ∷ []) (omega arith)))
+    ]
+
+block_few : (raw rest : List ℕ) (asked : Option ℕ) → HasNoNewline raw → asks (line_item raw) ≡ asked → whole_behind (line_item raw) asked rest ≡ None
+    → length (items_of (raw ++ 10 ∷ (rest ++ 10 ∷ []))) ≡ 1
+block_few raw rest None none e cut = absurd cc
+block_few raw rest (Some n) none e cut =
+    elim (cases_lt n (length rest)) [
+      | inl more ↦ let whole = whole_block-some n rest more in absurd cc
+      | inr few ↦ block_alone raw rest n none e (omega arith)
+    ]
+
+newline_belongs : (bytes : List ℕ) → Front bytes → whole_item bytes ≡ None → length (items_of (bytes ++ 10 ∷ [])) ≡ 1
+newline_belongs bytes (NoLine none) cut = line_alone bytes (asks (line_item bytes)) none refl
+newline_belongs bytes (LineThen raw rest none parts) cut =
+    ap (λ (xs : List ℕ). length (items_of xs)) (ap (λ (xs : List ℕ). xs ++ 10 ∷ []) parts ∙ append_assoc raw (10 ∷ rest) (10 ∷ []))
+    ∙ block_few raw rest (asks (line_item raw)) none refl (sym (ap whole_item parts ∙ whole_item-line raw rest none) ∙ cut)
+
+-- where there are bytes, there is an item
+some_item : (bytes : List ℕ) → 0 < length bytes → Begin bytes → 0 < length (items_of bytes)
+some_item bytes some (NoItem none) =
+    let last = ap (λ (c : Cut). c.items ++ last_item c.rest) (cut-none bytes none) ∙ last_of bytes some in
+    omega (arith, ap length last)
+some_item bytes some (ItemThen item others e) = omega (arith, ap length (items_of-item bytes others item e))
+
+all_whole : (found : List Item) (bytes rest : List ℕ) → Begin bytes → ((more : List ℕ) → items_of (bytes ++ more) ≡ found ++ items_of (rest ++ more))
+    → (others : List Item) × (whole_items bytes ≡ found ++ others)
+all_whole [] bytes rest begin same = (whole_items bytes, refl)
+all_whole (item ∷ found) bytes rest (NoItem none) same =
+    let one = newline_belongs bytes (front_of bytes) none in
+    let more = some_item (rest ++ 10 ∷ []) (omega (arith, length-append rest (10 ∷ []))) (begin_of (rest ++ 10 ∷ [])) in
+    absurd (omega (arith, one, more, ap length (same (10 ∷ [])), length-append found (items_of (rest ++ 10 ∷ []))))
+all_whole (item ∷ found) bytes rest (ItemThen first others e) same =
+    let begins = begins_with bytes others first e in
+    let parts : (more : List ℕ) → (first ≡ item) × (items_of (others ++ more) ≡ found ++ items_of (rest ++ more)) =
+    λ more. same_parts first item (items_of (others ++ more)) (found ++ items_of (rest ++ more)) (sym (begins.all more) ∙ same more) in
+    let later = all_whole found others rest (begin_of others) (λ more. (parts more).1) in (
       later.0,
-      (begins_with bytes others item e).all more ∙ ap (λ (items : List Item). item ∷ items) later.1
-          ∙ ap (λ (items : List Item). items ++ later.0) (sym (whole_items-item bytes others item e)),
+      whole_items-item bytes others first e ∙ ap (λ (i : Item). i ∷ whole_items others) (parts []).0 ∙ ap (λ (items : List Item). item ∷ items) later.1,
     )
 
--- whatever follows, the items that are whole are the first
-pub whole_items-first : (bytes more : List ℕ) → (others : List Item) × (items_of (bytes ++ more) ≡ whole_items bytes ++ others)
-whole_items-first bytes more = stays (length bytes) bytes more (omega arith) (begin_of bytes)
+-- what comes first whatever follows, and where it ends, is whole
+pub whole_items-all : (bytes rest : List ℕ) (found : List Item) → ((more : List ℕ) → items_of (bytes ++ more) ≡ found ++ items_of (rest ++ more))
+    → (others : List Item) × (whole_items bytes ≡ found ++ others)
+whole_items-all bytes rest found same = all_whole found bytes rest (begin_of bytes) same

@@ -90,6 +90,10 @@ cut bytes = cut_most (length bytes) bytes
 abbrev pub whole_items : List ℕ → List Item
 whole_items bytes = (cut bytes).items
 
+-- the bytes behind them
+abbrev pub unfinished : List ℕ → List ℕ
+unfinished bytes = (cut bytes).rest
+
 -- the block of n bytes that the end of the script ends: it has as many bytes at the most
 abbrev pub last_block : ℕ → List ℕ → Item
 last_block n bytes = if nat_lt longest_block n then BlockTooLong else if nat_lt (length bytes) n then BlockShort else Block bytes
@@ -106,4 +110,4 @@ last_item (byte ∷ bytes) =
 
 -- the items of a script
 abbrev pub items_of : List ℕ → List Item
-items_of script = (cut script).items ++ last_item (cut script).rest
+items_of script = whole_items script ++ last_item (unfinished script)

@@ -6,7 +6,7 @@ mod block;
 mod buffer;
 mod hexadecimal;
 mod items;
-mod law;
+mod laws;
 mod lines;
 #[cfg(test)]
 mod pieces;
@@ -15,7 +15,7 @@ mod words;
 
 pub use hexadecimal::{HexFault, hex_bytes};
 pub use items::{Items, NextItem};
-pub use law::whole_items_stay;
+pub use laws::{numbers_are_read_back, whole_items_stay};
 pub use block::Block;
 pub use lines::{Got, LineFault, Lines};
 pub use numbers::{decimal, read_number, read_raw};

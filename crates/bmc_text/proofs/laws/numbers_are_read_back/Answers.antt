@@ -1,5 +1,5 @@
 use Rattle.bmc_text.proofs.WordsLemmas.{number-decimal, raw-decimal, units-decimal}
-use Rattle.bmc_text.proofs.law.numbers_are_read_back.Goals as goal
+use Rattle.bmc_text.proofs.laws.numbers_are_read_back.Goals as goal
 
 pub returns-clause-number : goal.returns-clause-number
 returns-clause-number c = number-decimal

@@ -1,3 +1,4 @@
+use bmc_base::Calls;
 use bmc_io::{IoFault, Source};
 use std::alloc::Global;
 use std::test::Fail;
