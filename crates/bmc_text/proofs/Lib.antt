@@ -1,6 +1,9 @@
-pub mod Newlines
-pub mod Cuts
-pub mod Gathering
-pub mod Asked
-pub mod Blocks
-pub mod Joins
+pub mod Powers
+pub mod WordsLemmas
+pub mod NewlinesLemmas
+pub mod ItemsLemmas
+pub mod FeedsLemmas
+pub mod FaultsLemmas
+pub mod LinesLemmas
+pub mod BlocksLemmas
+pub mod NextItemsLemmas

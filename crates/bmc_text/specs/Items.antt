@@ -3,8 +3,16 @@ use Rattle.std.specs.Prelude.{ℕ, zero, suc, ◌+◌, ◌-◌, Bool, ◌==◌, 
 use Rattle.std.specs.List.{before_first, after_first}
 use Rattle.bmc_text.specs.Words.{block_size}
 
--- a line without the carriage return at its end, a line of more than 9,000 bytes, or a line that asks for a block with
--- its block: whole, of more than 262,144 bytes, or cut short by the end of the script
+-- the most bytes of a line before its newline
+abbrev pub longest_line : ℕ
+longest_line = 9000
+
+-- the most bytes of a block that is kept
+abbrev pub longest_block : ℕ
+longest_block = 262144
+
+-- a line without the carriage return at its end, a line that is too long, or a line that asks for a block with
+-- its block: whole, too long, or cut short by the end of the script
 pub data Item : Type 0 where
   Line : List ℕ → Item
   LineTooLong : Item
@@ -21,7 +29,7 @@ is_newline byte = byte == 10
 
 -- the item of the bytes of a line alone
 unfoldable pub line_item : List ℕ → Item
-line_item line = if nat_lt 9000 (length line) then LineTooLong else Line (without_return line)
+line_item line = if nat_lt longest_line (length line) then LineTooLong else Line (without_return line)
 
 -- the size of the block that an item of a line asks for
 abbrev pub asks : Item → Option ℕ
@@ -31,6 +39,10 @@ asks (Block bytes) = None
 asks BlockTooLong = None
 asks BlockShort = None
 
+-- the size of the block that the first line of the bytes asks for
+abbrev pub asked_first : List ℕ → Option ℕ
+asked_first bytes = asks (line_item (before_first is_newline bytes))
+
 -- a newline directly behind a block belongs to it
 abbrev pub behind_block : List ℕ → List ℕ
 behind_block [] = []
@@ -38,7 +50,7 @@ behind_block (byte ∷ bytes) = if is_newline byte then bytes else byte ∷ byte
 
 -- a block of n bytes
 abbrev pub block_item : ℕ → List ℕ → Item
-block_item n bytes = if nat_lt 262144 n then BlockTooLong else Block bytes
+block_item n bytes = if nat_lt longest_block n then BlockTooLong else Block bytes
 
 -- the block of n bytes at the front and the bytes behind it, where it is whole: one byte more has to be there, since a
 -- newline would belong to it
@@ -78,9 +90,13 @@ cut bytes = cut_most (length bytes) bytes
 abbrev pub whole_items : List ℕ → List Item
 whole_items bytes = (cut bytes).items
 
--- the block of n bytes that the end of the script ends: of as many bytes at the most
+-- the bytes behind them
+abbrev pub unfinished : List ℕ → List ℕ
+unfinished bytes = (cut bytes).rest
+
+-- the block of n bytes that the end of the script ends: it has as many bytes at the most
 abbrev pub last_block : ℕ → List ℕ → Item
-last_block n bytes = if nat_lt 262144 n then BlockTooLong else if nat_lt (length bytes) n then BlockShort else Block bytes
+last_block n bytes = if nat_lt longest_block n then BlockTooLong else if nat_lt (length bytes) n then BlockShort else Block bytes
 
 abbrev pub last_behind : Item → Option ℕ → List ℕ → Item
 last_behind item None bytes = item
@@ -90,8 +106,8 @@ last_behind item (Some n) bytes = last_block n bytes
 abbrev pub last_item : List ℕ → List Item
 last_item [] = []
 last_item (byte ∷ bytes) =
-    last_behind (line_item (before_first is_newline (byte ∷ bytes))) (asks (line_item (before_first is_newline (byte ∷ bytes)))) (after_first is_newline (byte ∷ bytes)) ∷ []
+    last_behind (line_item (before_first is_newline (byte ∷ bytes))) (asked_first (byte ∷ bytes)) (after_first is_newline (byte ∷ bytes)) ∷ []
 
 -- the items of a script
 abbrev pub items_of : List ℕ → List Item
-items_of script = (cut script).items ++ last_item (cut script).rest
+items_of script = whole_items script ++ last_item (unfinished script)

@@ -1,7 +1,9 @@
 pub mod Words
 pub mod Items
+pub mod Newlines
 pub mod Feeds
-pub mod Buffers
-pub mod Reading
-pub mod Taking
+pub mod Faults
+pub mod Lines
+pub mod Blocks
+pub mod NextItems
 pub mod Hex

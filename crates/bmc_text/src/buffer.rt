@@ -1,20 +1,17 @@
-ghost use Rattle.std.specs.Prelude.{◌≡◌, ◌<◌, ◌≤◌, ◌+◌, ◌-◌, [], length, take, slice_range, IfOk, OnErr, MatchOption, MatchResult};
+ghost use Rattle.std.specs.Prelude.{◌≡◌, ◌<◌, ◌≤◌, ◌+◌, ◌-◌, length, take, slice_range, Some, IfOk, OnErr, MatchOption};
 ghost use Rattle.std.specs.Io.KnownBytes.{Keeps, Consumes, IsAtEnd};
-ghost use Rattle.bmc_base.specs.Counts.{Rose};
-ghost use Rattle.bmc_text.specs.Buffers.{HasNoNewline, IsNewline};
-ghost use Rattle.bmc_text.specs.Items.{asks, line_item, without_return};
+ghost use Rattle.bmc_base.specs.Calls.{HasCause};
+ghost use Rattle.bmc_text.specs.Feeds.{Reads};
+ghost use Rattle.bmc_text.specs.Items.{line_item};
+ghost use Rattle.bmc_text.specs.Lines.{line_got};
+ghost use Rattle.bmc_text.specs.Newlines.{HasNoNewline, IsNewline};
 
-use crate::words::block_size;
-use bmc_base::OutOfMemory;
+use crate::lines::Got;
 use bmc_io::{IoFault, Source};
 use memchr::memchr;
-use std::alloc::Global;
 
 /// The most bytes that a line has before its newline.
-pub(crate) const LONGEST: usize = 9000;
-
-/// The most bytes that a block has.
-pub(crate) const LONGEST_BLOCK: usize = 262_144;
+pub(crate) const LONGEST_LINE: usize = 9000;
 
 // The place of the first newline, where none stands before `from`.
 pub(crate) fn newline_behind(bytes: &[u8], from: usize) -> Option<usize>
@@ -26,45 +23,26 @@ pub(crate) fn newline_behind(bytes: &[u8], from: usize) -> Option<usize>
     Some(from + behind)
 }
 
-// How many bytes of a line stay without a carriage return at its end.
-#[tactic(auto, unfolding(crate::specs::Items::without_return))]
-pub(crate) fn kept_len(raw: &[u8]) -> usize
-    ensures within { result ≤ length raw.now }
-    ensures line { take result raw.now ≡ without_return raw.now }
-{
-    match raw {
-        [kept @ .., b'\r'] => kept.len(),
-        _ => raw.len(),
-    }
-}
-
-// The size of the block that a line asks for, of which these are the bytes before its newline. Most lines
-// ask for none, and the first byte tells.
+// The line of the bytes before its newline: they are too long, or a line without a carriage return at its
+// end.
 #[inline]
-#[tactic(auto, using(crate::proofs::Asked::asks_none))]
-pub(crate) fn asked_by(raw: &[u8]) -> Option<u32>
-    ensures { result ≡ asks (line_item raw.now) }
+#[tactic(auto, unfolding(crate::specs::Items::line_item, crate::specs::Items::without_return))]
+pub(crate) fn line_of(raw: &[u8]) -> (Got, &[u8])
+    ensures item { line_got result.0 result.1.now ≡ Some (line_item raw.now) }
+    ensures front { result.1.now ≡ take (length result.1.now) raw.now }
+    ensures within { length result.1.now ≤ length raw.now }
 {
-    if raw.first() != Some(&b'c') {
-        return None;
+    if raw.len() > LONGEST_LINE {
+        return (Got::LineTooLong, &[]);
     }
-    asked_in_words(raw)
-}
-
-// The same, by all bytes of the line.
-#[inline(never)]
-#[tactic(auto, unfolding(crate::specs::Items::line_item))]
-fn asked_in_words(raw: &[u8]) -> Option<u32>
-    ensures { result ≡ asks (line_item raw.now) }
-{
-    if raw.len() > LONGEST {
-        return None;
+    match raw {
+        [line @ .., b'\r'] => (Got::Line, line),
+        _ => (Got::Line, raw),
     }
-    block_size(&raw[..kept_len(raw)])
 }
 
 // Moves the bytes from `start` to `end` to the front.
-pub(crate) fn to_front(buffer: &mut [u8], start: usize, end: usize)
+fn to_front(buffer: &mut [u8], start: usize, end: usize)
     requires order { start ≤ end }
     requires within { end ≤ length buffer.old }
     ensures { take (end - start) buffer.new ≡ slice_range buffer.old start end }
@@ -75,7 +53,7 @@ pub(crate) fn to_front(buffer: &mut [u8], start: usize, end: usize)
 }
 
 // Reads a piece into the buffer from `at` on and before `stop`, and answers its length.
-pub(crate) fn read_at<S: Source>(
+fn read_at<S: Source>(
     source: &mut S,
     buffer: &mut [u8],
     at: usize,
@@ -83,20 +61,37 @@ pub(crate) fn read_at<S: Source>(
 ) -> Result<usize, IoFault>
     requires room { at < stop }
     requires within { stop ≤ length buffer.old }
-    ensures within { IfOk result (λ n. at + n ≤ stop) }
+    ensures within { IfOk result (λ count. at + count ≤ stop) }
     ensures front { take at buffer.new ≡ take at buffer.old }
-    ensures bytes { IfOk result (λ n. Consumes (S.left source.old) (S.left source.new) (slice_range buffer.new at (at + n))) }
-    ensures end { IfOk result (λ n. n ≡ 0 → IsAtEnd (S.left source.new)) }
-    ensures kept { OnErr result (Keeps (S.left source.old) (S.left source.new)) }
-    ensures cause { MatchResult result (λ _. S.faults source.new ≡ S.faults source.old) (λ _. Rose (S.faults source.old) (S.faults source.new)) }
+    ensures bytes { IfOk result (λ count. Consumes (S.seen source.old).left (S.seen source.new).left (slice_range buffer.new at (at + count))) }
+    ensures at_end { IfOk result (λ count. count ≡ 0 → IsAtEnd (S.seen source.new).left) }
+    ensures kept { OnErr result (Keeps (S.seen source.old).left (S.seen source.new).left) }
+    ensures cause { HasCause (S.seen source.old).calls (S.seen source.new).calls result }
 {
     source.read(&mut buffer[at..stop])
 }
 
-// Room for a block of `n` bytes, or none for one that is too long.
-pub(crate) fn room_for(alloc: Global, n: usize) -> Result<Vec<u8>, OutOfMemory>
-    ensures { IfOk result (λ bytes. bytes.items ≡ []) }
+// Moves the bytes from `start` to `end` to the front, reads a piece behind them and before `stop`, and
+// answers its length.
+pub(crate) fn refill<S: Source>(
+    source: &mut S,
+    buffer: &mut [u8],
+    start: usize,
+    end: usize,
+    stop: usize,
+) -> Result<usize, IoFault>
+    requires order { start ≤ end }
+    requires within { end ≤ length buffer.old }
+    requires room { end - start < stop }
+    requires stop { stop ≤ length buffer.old }
+    ensures within { IfOk result (λ count. end - start + count ≤ stop) }
+    ensures front { take (end - start) buffer.new ≡ slice_range buffer.old start end }
+    ensures reads { IfOk result (λ count. Reads (slice_range buffer.old start end) 0 count (S.seen source.old) (S.seen source.new) (λ bytes. bytes ≡ slice_range buffer.new 0 (end - start + count))) }
+    ensures at_end { IfOk result (λ count. count ≡ 0 → IsAtEnd (S.seen source.new).left) }
+    ensures kept { OnErr result (Keeps (S.seen source.old).left (S.seen source.new).left) }
+    ensures cause { HasCause (S.seen source.old).calls (S.seen source.new).calls result }
 {
-    let size = if n > LONGEST_BLOCK { 0 } else { n };
-    Ok(Vec::with_capacity(alloc, size)?)
+    to_front(buffer, start, end);
+    let count = read_at(source, buffer, end - start, stop)?;
+    Ok(count)
 }

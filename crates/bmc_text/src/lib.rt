@@ -2,17 +2,21 @@
 //! hexadecimal digits.
 #![tactic(auto)]
 
+mod block;
 mod buffer;
 mod hexadecimal;
 mod items;
-mod law;
+mod laws;
 mod lines;
 #[cfg(test)]
 mod pieces;
+mod numbers;
 mod words;
 
 pub use hexadecimal::{HexFault, hex_bytes};
 pub use items::{Items, NextItem};
-pub use law::whole_items_stay;
-pub use lines::{Block, Got, LineFault, Lines};
-pub use words::{block_size, read_number};
+pub use laws::{numbers_are_read_back, whole_items_stay};
+pub use block::Block;
+pub use lines::{Got, LineFault, Lines};
+pub use numbers::{decimal, read_number, read_raw};
+pub use words::block_size;

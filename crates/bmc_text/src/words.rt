@@ -1,28 +1,24 @@
 ghost use Rattle.std.specs.Prelude.{◌≡◌};
-ghost use Rattle.bmc_text.specs.Words.{number, block_size};
+ghost use Rattle.bmc_text.specs.Words.{block_size};
 
-/// The number of 1 to 9 decimal digits, leading zeros among them, or none where the bytes are anything
-/// else.
-#[tactic(auto, unfolding(crate::specs::Words::number))]
-pub fn read_number(digits: &[u8]) -> Option<u32>
-    ensures { result ≡ number digits.now }
-{
-    if digits.is_empty() || digits.len() > 9 {
-        return None;
-    }
-    let mut value: u32 = 0;
-    for digit in digits {
-        if !digit.is_ascii_digit() {
-            return None;
-        }
-        value = 10 * value + u32::from(*digit - b'0');
-    }
-    Some(value)
-}
+use crate::numbers::read_number;
 
 /// The size in bytes of the block that a line asks for, which has the form `config N`, or none where it
-/// asks for none.
+/// asks for none. Most lines ask for none, and their first byte tells.
+#[inline]
+#[tactic(auto, using(crate::proofs::WordsLemmas::asks_none))]
 pub fn block_size(line: &[u8]) -> Option<u32>
+    ensures { result ≡ block_size line.now }
+{
+    if line.first() != Some(&b'c') {
+        return None;
+    }
+    size_in_words(line)
+}
+
+// The same, by all bytes of the line.
+#[inline(never)]
+fn size_in_words(line: &[u8]) -> Option<u32>
     ensures { result ≡ block_size line.now }
 {
     match line.strip_prefix(b"config ") {

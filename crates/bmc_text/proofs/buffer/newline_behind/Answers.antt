@@ -1,5 +1,5 @@
 use Rattle.std.proofs.lemmas.List.{take_rest}
-use Rattle.bmc_text.proofs.Newlines.{newline-behind, no_newline-behind}
+use Rattle.bmc_text.proofs.NewlinesLemmas.{newline-behind, no_newline-behind}
 use Rattle.bmc_text.proofs.buffer.newline_behind.Goals as goal
 
 pub returns : goal.returns

@@ -1,53 +1,69 @@
-use Rattle.std.proofs.Common.{◌≡◌, ℕ, List, ap, sym, ◌∙◌, subst, true}
-use Rattle.std.specs.Prelude.{Some, None, Option, IfNone, option_and_then}
+use Rattle.std.proofs.Common.{◌++◌, ap, sym, ◌∙◌, refl}
+use Rattle.std.specs.Prelude.{Some, None}
 use Rattle.std.proofs.lemmas.Result.{err_from_is_err_and}
-use Rattle.bmc_text.specs.Items.{asks}
-use Rattle.bmc_text.specs.Reading.{line_got}
-use Rattle.bmc_text.specs.Taking.{ItemFeed, TakesNextItem, StopsItem, SpendsItem}
-use Rattle.bmc_text.specs.declared.lines.Got.TheVariants.{End}
-use Rattle.bmc_text.proofs.Joins.{seen, alone_item, block_item, stops_line, stops_in_block, goes_on, spends_got}
+use Rattle.bmc_text.specs.Feeds.{ItemFeed}
+use Rattle.bmc_text.specs.Blocks.{item_of_block}
+use Rattle.bmc_text.proofs.FeedsLemmas.{Reads-weaker, Reads-then}
+use Rattle.bmc_text.proofs.NextItemsLemmas.{seen, alone, asks_of, no_more, line_waits, block_waits, lacks_line, lacks_its_block, takes_block, takes_item, Reads-seen}
 use Rattle.bmc_text.proofs.items.Items.next.Goals as goal
 
-pub returns-in_err-got-clause-stops : goal.returns-in_err-got-clause-stops
-returns-in_err-got-clause-stops g c =
-    let same : c.next_buffered.new.self ≡ c.args.self.now = subst (λ (found : Option _). IfNone found (c.next_buffered.new.self ≡ c.args.self.now)) c.in_default.is c.in_ok-next.ensures.same in
-    let p = err_from_is_err_and c.from_residual-in_err-got.result c.from_residual-in_err-got.ensures.1 in
-    rw (p.1, p.2)
-    (subst (λ (old : ItemFeed). StopsItem c.in_err-got.field-0.0 old (seen c.next.new.self c.self.inside.block) (g.S.Source.left c.args.source.now) (g.S.Source.left c.next.new.source)) (c.self.view_is ∙ same)
-    (stops_line c.in_err-got.field-0.0 c.self.inside.block c.self.inside.block (g.S.Source.faults c.args.source.now) (g.S.Source.faults c.next.new.source) c.in_err-got.ensures.stops c.in_err-got.ensures.cause))
+pub returns-in_err-got-clause-lacks : goal.returns-in_err-got-clause-lacks
+returns-in_err-got-clause-lacks g c =
+    let fault = err_from_is_err_and c.from_residual.result c.from_residual.ensures.1 in
+    rw (fault.1, fault.2)
+    (Reads-seen c.self.view_is
+    (Reads-weaker _ c.in_err-got.ensures.lacks refl (λ bytes none. lacks_line c.in_err-got.field-0.0 bytes c.in_err-got.ensures.memory none)))
 
-pub returns-in_err-block-in-Some-asked_with-clause-stops : goal.returns-in_err-block-in-Some-asked_with-clause-stops
-returns-in_err-block-in-Some-asked_with-clause-stops g c =
-    let same : c.next_buffered.new.self ≡ c.args.self.now = subst (λ (found : Option _). IfNone found (c.next_buffered.new.self ≡ c.args.self.now)) c.in_default.is c.in_ok-next.ensures.same in
-    let p = err_from_is_err_and c.from_residual-in_err-block-in-Some-asked_with.result c.from_residual-in_err-block-in-Some-asked_with.ensures.1 in
-    let asked : option_and_then asks (line_got c.in_ok-got.got c.next.new.self.line) ≡ Some c.in-Some-asked_with.n =
-    ap (λ (line : List ℕ). option_and_then asks (line_got c.in_ok-got.got line)) (sym c.line.ensures) ∙ sym c.in-Some-asked_with.ensures in
-    let ended : c.self.inside.lines.ended ≡ true → c.in_ok-got.got ≡ End = λ e. let ok = (c.in_ok-got.ensures.after_end e).0 in cc in
-    rw (p.1, p.2)
-    (subst (λ (old : ItemFeed). StopsItem c.in_err-block-in-Some-asked_with.field-0.0 old (seen c.block.new.self c.self.inside.block) (g.S.Source.left c.args.source.now) (g.S.Source.left c.block.new.source)) (c.self.view_is ∙ same)
-    (stops_in_block c.in_err-block-in-Some-asked_with.field-0.0 c.in_ok-got.got c.block.new.self (g.S.Source.left c.block.new.source) c.self.inside.block c.self.inside.block c.in-Some-asked_with.n (g.S.Source.faults c.next.new.source) (g.S.Source.faults c.block.new.source)
-    c.in_ok-got.ensures.next asked (goes_on c.self.inside.lines.ended c.in_ok-got.got c.next.new.self.line c.in-Some-asked_with.n ended asked)
-    c.in_err-block-in-Some-asked_with.ensures.stops c.in_err-block-in-Some-asked_with.ensures.cause))
+pub returns-in_err-got-clause-waits : goal.returns-in_err-got-clause-waits
+returns-in_err-got-clause-waits g c whole =
+    c.next.ensures.waits (line_waits c.self.inside.lines c.self.inside.block c.args.self.now c.self.view_is whole) ∙ ap (λ (feed : ItemFeed). feed.read) c.self.view_is
+
+pub returns-in_err-block-in-Some-clause-lacks : goal.returns-in_err-block-in-Some-clause-lacks
+returns-in_err-block-in-Some-clause-lacks g c =
+    let fault = err_from_is_err_and c.from_residual-in_err-block-in-Some.result c.from_residual-in_err-block-in-Some.ensures.1 in
+    let asked = asks_of c.in_ok-got.got c.line.result.now c.next.new.self.line c.asked.result (Some c.in-Some.size) c.line.ensures c.asked.ensures (sym c.in-Some.is) in
+    rw (fault.1, fault.2)
+    (Reads-seen c.self.view_is
+    (Reads-then _ c.in_ok-got.ensures.next c.in_err-block-in-Some.ensures.lacks refl refl
+    (λ bytes more count took lacks. lacks_its_block c.in_err-block-in-Some.field-0.0 c.in_ok-got.got c.next.new.self.line c.in-Some.size c.next.new.self.ended bytes
+    c.next.new.self.waiting more asked took
+    (λ ended. let last = c.in_err-block-in-Some.ensures.after_end ended in (last.0, no_more c.block.new.self c.next.new.self more last.1 count)) lacks)))
+
+pub returns-in_err-block-in-Some-clause-waits : goal.returns-in_err-block-in-Some-clause-waits
+returns-in_err-block-in-Some-clause-waits g c whole =
+    let asked = asks_of c.in_ok-got.got c.line.result.now c.next.new.self.line c.asked.result (Some c.in-Some.size) c.line.ensures c.asked.ensures (sym c.in-Some.is) in
+    let lines = c.self.inside.lines in
+    let same = c.next.ensures.waits (line_waits lines c.self.inside.block c.args.self.now c.self.view_is whole) in
+    let waits = block_waits c.in_ok-got.got lines c.next.new.self c.self.inside.block c.args.self.now c.in-Some.size c.self.view_is whole c.in_ok-got.ensures.next same asked in
+    c.block.ensures.waits waits ∙ same ∙ ap (λ (feed : ItemFeed). feed.read) c.self.view_is
 
 pub returns-in-None-clause-next : goal.returns-in-None-clause-next
 returns-in-None-clause-next g c =
-    let same : c.next_buffered.new.self ≡ c.args.self.now = subst (λ (found : Option _). IfNone found (c.next_buffered.new.self ≡ c.args.self.now)) c.in_default.is c.in_ok-next.ensures.same in
-    let asked : option_and_then asks (line_got c.in_ok-got.got c.next.new.self.line) ≡ None =
-    ap (λ (line : List ℕ). option_and_then asks (line_got c.in_ok-got.got line)) (sym c.line.ensures) ∙ sym c.in-None.ensures in
-    subst (λ (old : ItemFeed). TakesNextItem c.next_of.result old (seen c.next.new.self c.self.inside.block) (g.S.Source.left c.args.source.now) (g.S.Source.left c.next.new.source)) (c.self.view_is ∙ same)
-    (alone_item c.next_of.result c.in_ok-got.got c.self.inside.block c.self.inside.block c.in_ok-got.ensures.next asked (c.next_of.ensures.item (seen c.next.new.self c.self.inside.block)))
+    let asked = asks_of c.in_ok-got.got c.line.result.now c.next.new.self.line c.asked.result None c.line.ensures c.asked.ensures (sym c.in-None.is) in
+    Reads-seen c.self.view_is
+    (Reads-weaker _ c.in_ok-got.ensures.next refl
+    (λ bytes took. takes_item _ _ c.next.new.self.ended _ bytes c.next.new.self.waiting _ (c.next_of.ensures.item (seen c.next.new.self c.self.inside.block)) refl refl
+    (alone _ c.next.new.self.ended bytes c.next.new.self.waiting asked took)))
 
-pub returns-in-None-clause-spends : goal.returns-in-None-clause-spends
-returns-in-None-clause-spends g c =
-    let same : c.next_buffered.new.self ≡ c.args.self.now = subst (λ (found : Option _). IfNone found (c.next_buffered.new.self ≡ c.args.self.now)) c.in_default.is c.in_ok-next.ensures.same in
-    subst (λ (old : ItemFeed). SpendsItem c.next_of.result old (seen c.next.new.self c.self.inside.block)) (c.self.view_is ∙ same)
-    (spends_got c.next_of.result c.in_ok-got.got c.self.inside.lines c.next.new.self c.self.inside.block c.self.inside.block (c.next_of.ensures.item (seen c.next.new.self c.self.inside.block)) c.in_ok-got.ensures.spends)
+pub returns-in-None-clause-waits : goal.returns-in-None-clause-waits
+returns-in-None-clause-waits g c whole =
+    c.next.ensures.waits (line_waits c.self.inside.lines c.self.inside.block c.args.self.now c.self.view_is whole) ∙ ap (λ (feed : ItemFeed). feed.read) c.self.view_is
 
-pub returns-in_ok-block-in-Some-asked_with-clause-next : goal.returns-in_ok-block-in-Some-asked_with-clause-next
-returns-in_ok-block-in-Some-asked_with-clause-next g c =
-    let same : c.next_buffered.new.self ≡ c.args.self.now = subst (λ (found : Option _). IfNone found (c.next_buffered.new.self ≡ c.args.self.now)) c.in_default.is c.in_ok-next.ensures.same in
-    let asked : option_and_then asks (line_got c.in_ok-got.got c.next.new.self.line) ≡ Some c.in-Some-asked_with.n =
-    ap (λ (line : List ℕ). option_and_then asks (line_got c.in_ok-got.got line)) (sym c.line.ensures) ∙ sym c.in-Some-asked_with.ensures in
-    subst (λ (old : ItemFeed). TakesNextItem c.keep.result old c.keep.new.self (g.S.Source.left c.args.source.now) (g.S.Source.left c.block.new.source)) (c.self.view_is ∙ same)
-    (block_item c.keep.result c.in_ok-got.got c.in_ok-block-in-Some-asked_with.block c.self.inside.block c.in-Some-asked_with.n c.keep.new.self c.in_ok-got.ensures.next asked
-    c.in_ok-block-in-Some-asked_with.ensures.block c.block.ensures.after_end c.keep.ensures.waiting c.keep.ensures.read c.keep.ensures.end c.keep.ensures.item)
+pub returns-in_ok-block-in-Some-clause-next : goal.returns-in_ok-block-in-Some-clause-next
+returns-in_ok-block-in-Some-clause-next g c =
+    let asked = asks_of c.in_ok-got.got c.line.result.now c.next.new.self.line c.asked.result (Some c.in-Some.size) c.line.ensures c.asked.ensures (sym c.in-Some.is) in
+    let frame = c.keep.ensures.frame in
+    Reads-seen c.self.view_is
+    (Reads-then _ c.in_ok-got.ensures.next c.in_ok-block-in-Some.ensures.block refl (ap (λ (feed : ItemFeed). feed.read) frame)
+    (λ bytes more count took block. takes_item _ (Some (item_of_block c.in_ok-block-in-Some.block)) _ c.block.new.self.ended (bytes ++ more) _ c.block.new.self.waiting
+    c.keep.ensures.item (ap (λ (feed : ItemFeed). feed.ended) frame) (ap (λ (feed : ItemFeed). feed.waiting) frame)
+    (takes_block c.in_ok-got.got c.next.new.self.line c.in-Some.size c.next.new.self.ended c.block.new.self.ended (item_of_block c.in_ok-block-in-Some.block) bytes
+    c.next.new.self.waiting more c.block.new.self.waiting asked took (λ ended. no_more c.block.new.self c.next.new.self more (c.block.ensures.after_end ended).1 count) block)))
+
+pub returns-in_ok-block-in-Some-clause-waits : goal.returns-in_ok-block-in-Some-clause-waits
+returns-in_ok-block-in-Some-clause-waits g c whole =
+    let asked = asks_of c.in_ok-got.got c.line.result.now c.next.new.self.line c.asked.result (Some c.in-Some.size) c.line.ensures c.asked.ensures (sym c.in-Some.is) in
+    let lines = c.self.inside.lines in
+    let same = c.next.ensures.waits (line_waits lines c.self.inside.block c.args.self.now c.self.view_is whole) in
+    let waits = block_waits c.in_ok-got.got lines c.next.new.self c.self.inside.block c.args.self.now c.in-Some.size c.self.view_is whole c.in_ok-got.ensures.next same asked in
+    ap (λ (feed : ItemFeed). feed.read) c.keep.ensures.frame ∙ c.block.ensures.waits waits ∙ same ∙ ap (λ (feed : ItemFeed). feed.read) c.self.view_is

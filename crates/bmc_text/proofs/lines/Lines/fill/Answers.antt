@@ -1,18 +1,40 @@
-use Rattle.std.proofs.Common.{◌≡◌, ℕ, ◌-◌, ◌+◌, List, length, take, ap, ◌∙◌, arith, slice_range}
+use Rattle.std.proofs.Common.{◌≡◌, ℕ, ◌-◌, ◌+◌, List, ◌++◌, Bool, false, length, ap, ◌∙◌, sym, arith, take, drop, slice_range, length-take, length-drop}
 use Rattle.std.proofs.lemmas.List.{take_at}
 use Rattle.bmc_text.specs.Feeds.{Feed}
-use Rattle.bmc_text.proofs.Gathering.{gathers_piece}
+use Rattle.bmc_text.proofs.FeedsLemmas.{Reads-behind}
+use Rattle.bmc_text.proofs.NewlinesLemmas.{HasNoNewline-front}
 use Rattle.bmc_text.proofs.lines.Lines.fill.Goals as goal
 
-pub returns-in-Ok-clause-gathers : goal.returns-in-Ok-clause-gathers
-returns-in-Ok-clause-gathers g c =
-    let moved : length c.to_front.new.buffer ≡ c.self.inside.buffer.len = omega (arith, c.to_front.auto.buffer, c.deref_mut.ensures.len) in
-    let size : length c.read_at.new.buffer ≡ c.self.inside.buffer.len = omega (arith, c.read_at.auto.buffer, c.deref_mut-2.ensures.len) in
-    let back = take_at c.read_at.new.buffer _ c.self.inside.buffer.len size in
-    gathers_piece _ _ _ _ c.to_front.new.buffer c.read_at.new.buffer (c.self.inside.end - c.self.inside.start) c.in-Ok.count
-    (c.to_front.ensures ∙ ap (λ (buffer : List ℕ). slice_range buffer c.self.inside.start c.self.inside.end) c.deref_mut.ensures.value ∙ ap (λ (feed : Feed). feed.waiting) c.self.view_is)
-    (c.read_at.ensures.front ∙ ap (take (c.self.inside.end - c.self.inside.start)) (c.deref_mut-2.ensures.value ∙ take_at c.to_front.new.buffer _ c.self.inside.buffer.len moved))
-    (omega (arith, size, c.in-Ok.ensures.within, c.read_at.auto.buffer, c.deref_mut-2.ensures.len))
-    c.in-Ok.ensures.bytes
-    (ap (λ (feed : Feed). feed.read + c.in-Ok.count) c.self.view_is)
-    (ap (λ (buffer : List ℕ). slice_range buffer 0 (c.self.inside.end - c.self.inside.start + c.in-Ok.count)) back)
+-- the buffer is as it was left
+same_buffer : (buffer behind : List ℕ) (len end : ℕ) → length buffer ≡ len → slice_range buffer 0 end ≡ slice_range (take len (buffer ++ behind)) 0 end
+same_buffer buffer behind len end size = ap (λ (bytes : List ℕ). slice_range bytes 0 end) (sym (take_at buffer behind len size))
+
+pub invariant_of-self : goal.invariant_of-self
+invariant_of-self g c =
+    let inside = c.self.inside in
+    let size : length c.refill-filled.new.buffer ≡ inside.buffer.len = omega (arith, c.refill-filled.auto.buffer, c.deref_mut.ensures.len) in
+    let going : inside.ended ≡ false = ap (λ (feed : Feed). feed.ended) c.self.view_is ∙ c.requires.going in
+    let was = ap (λ (buffer : List ℕ). slice_range buffer inside.start inside.end) c.deref_mut.ensures.value in
+    let reads = c.in-Ok.ensures.reads in
+    (
+      omega arith,
+      omega arith,
+      omega arith,
+      omega (arith, c.in-Ok.ensures.within),
+      omega arith,
+      omega (arith, c.in-Ok.ensures.within),
+      λ ended. absurd cc,
+      HasNoNewline-front inside.searched (slice_range inside.buffer.items inside.start inside.end) reads.piece _
+          (ap (λ (waiting : List ℕ). waiting ++ reads.piece) (sym was) ∙ reads.bytes ∙ same_buffer c.refill-filled.new.buffer _ inside.buffer.len _ size)
+          (omega (arith, length-take (inside.end - inside.start) (drop inside.start inside.buffer.items), length-drop inside.start inside.buffer.items))
+          c.self.invariant.7,
+    )
+
+pub returns-in-Ok-clause-reads : goal.returns-in-Ok-clause-reads
+returns-in-Ok-clause-reads g c =
+    let inside = c.self.inside in
+    let size : length c.refill-filled.new.buffer ≡ inside.buffer.len = omega (arith, c.refill-filled.auto.buffer, c.deref_mut.ensures.len) in
+    Reads-behind _ _ _ c.in-Ok.ensures.reads
+    (ap (λ (buffer : List ℕ). slice_range buffer inside.start inside.end) c.deref_mut.ensures.value ∙ ap (λ (feed : Feed). feed.waiting) c.self.view_is)
+    (ap (λ (feed : Feed). feed.read + c.in-Ok.more) c.self.view_is)
+    (λ bytes is. is ∙ same_buffer c.refill-filled.new.buffer _ inside.buffer.len _ size)
