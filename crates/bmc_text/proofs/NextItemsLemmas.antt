@@ -159,7 +159,7 @@ waits_whole item n false waiting rest asked line whole =
     elim (cases_lt n (length rest)) [
       | inl more ↦ more
       | inr few ↦ absurd
-            (whole (ap whole_items (sym (append-nil waiting)) ∙ lacks_block item n waiting rest [] line asked (omega (arith, few, ap length (append-nil rest)))))
+          (whole (ap whole_items (sym (append-nil waiting)) ∙ lacks_block item n waiting rest [] line asked (omega (arith, few, ap length (append-nil rest)))))
     ]
 
 waits_with_block : (got : Got) (line : List ℕ) (n : ℕ) (ended : Bool) (waiting rest : List ℕ) → option_and_then asks (line_got got line) ≡ Some n

@@ -181,7 +181,11 @@ impl Lines {
 
     // Takes a block of which no byte came yet, and a newline behind it, where the source goes on.
     #[inline(never)]
-    fn read_block<S: Source>(&mut self, source: &mut S, mut part: BlockPart) -> Result<Block, LineFault>
+    fn read_block<S: Source>(
+        &mut self,
+        source: &mut S,
+        mut part: BlockPart,
+    ) -> Result<Block, LineFault>
         requires none { HoldsFront part [] }
         requires going { self.old.ended ≡ false }
         ensures block { IfOk result (λ block. TakesBlock part.size block self.old self.new (S.seen source.old) (S.seen source.new)) }
@@ -401,5 +405,17 @@ impl Lines {
         ensures limit { IsWithin self.now.read self.now.ended }
     {
         &self.buffer[self.start..self.end]
+    }
+}
+
+#[cfg(test)]
+impl Lines {
+    // A reader that has read so many bytes, of which none waits.
+    pub(crate) fn behind(alloc: Global, read: u64) -> Result<Lines, OutOfMemory>
+        requires { read ≤ longest_script }
+    {
+        let mut lines = Lines::new(alloc)?;
+        lines.read = read;
+        Ok(lines)
     }
 }
