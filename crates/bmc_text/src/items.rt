@@ -1,10 +1,11 @@
-ghost use Rattle.std.specs.Prelude.{◌≡◌, ◌<◌, [], true, false, Ok, Some, None, IfOk, OnOk, OnErr, IfErr, IfSome, IfNone, MatchResult, option_and_then, codes, ◌∷◌};
+ghost use Rattle.std.specs.Prelude.{◌≡◌, ◌<◌, [], true, false, Ok, Some, None, IfOk, OnOk, OnErr, IfErr, IfSome, IfNone, MatchResult, option_and_then, codes};
+ghost use Rattle.std.specs.Prelude.{◌∷◌};
 ghost use Rattle.std.specs.Io.KnownBytes.{Keeps, IsAtEnd};
 ghost use Rattle.bmc_io.specs.Sources.{Input};
 ghost use Rattle.bmc_text.specs.Items as items;
 ghost use Rattle.bmc_text.specs.Items.{asks, items_of, whole_items, unfinished};
 ghost use Rattle.bmc_text.specs.Feeds.{ItemFeed, IsWithin, Reads};
-ghost use Rattle.bmc_text.specs.Faults.{HasFault};
+ghost use Rattle.bmc_text.specs.Faults.{HasReadCause};
 ghost use Rattle.bmc_text.specs.Lines.{line_got};
 ghost use Rattle.bmc_text.specs.Blocks.{item_of_block};
 ghost use Rattle.bmc_text.specs.NextItems.{item_next, TakesNextItem, LacksItem, WantsMemory};
@@ -140,10 +141,11 @@ impl Items {
         ensures next { IfOk result (λ next. TakesNextItem next self.old self.new (S.seen source.old) (S.seen source.new)) }
         ensures at_end { OnOk result ((self.old.ended ≡ true → IsAtEnd (S.seen source.old).left) → self.new.ended ≡ true → IsAtEnd (S.seen source.new).left) }
         ensures lacks { IfErr result (λ fault. Reads self.old.waiting self.old.read self.new.read (S.seen source.old) (S.seen source.new) (LacksItem fault)) }
-        ensures cause { MatchResult result (λ _. (S.seen source.new).calls.faults ≡ (S.seen source.old).calls.faults) (λ fault. HasFault fault self.new.read (S.seen source.old).calls (S.seen source.new).calls) }
+        ensures cause { HasReadCause result self.new.read (S.seen source.old).calls (S.seen source.new).calls }
         ensures limit { IsWithin self.new.read self.new.ended }
         ensures waits { (whole_items self.old.waiting ≡ [] → ⊥) → self.new.read ≡ self.old.read }
-        ensures after_end { self.old.ended ≡ true → (result ≡ Ok NextItem.End) × (self.new ≡ self.old) × Keeps (S.seen source.old).left (S.seen source.new).left }
+        ensures after_end { self.old.ended ≡ true
+            → (result ≡ Ok NextItem.End) × (self.new ≡ self.old) × Keeps (S.seen source.old).left (S.seen source.new).left }
     {
         let got = self.lines.next(source)?;
         match asked(got, self.lines.line()) {

@@ -1,4 +1,5 @@
-ghost use Rattle.std.specs.Prelude.{◌≡◌, ◌<◌, ◌≤◌, ◌^◌, ◌==◌, ◌*◌, ◌+◌, drop, pos, neg_ℤ, if◌then◌else◌, option_map, position, length, IfSome, Some, None, codes};
+ghost use Rattle.std.specs.Prelude.{◌≡◌, ◌<◌, ◌≤◌, ◌^◌, ◌==◌, ◌*◌, ◌+◌, drop, pos, neg_ℤ, if◌then◌else◌, option_map, position, length, IfSome, Some, None};
+ghost use Rattle.std.specs.Prelude.{codes};
 ghost use Rattle.std.specs.Str.Parse.{starts_with_minus};
 ghost use Rattle.bmc_text.specs.Words.{digits, number, raw, units, decimal_units, split_at, raw_digits, whole_digits};
 
