@@ -1,7 +1,7 @@
 -- Blocks that are taken of bytes.
-use Rattle.std.proofs.Common.{◌≡◌, ℕ, ◌+◌, ◌-◌, ◌≤◌, ◌<◌, List, [], ◌++◌, length, take, drop, Bool, true, cond, arith, ap, sym, ◌∙◌, refl, subst}
-use Rattle.std.proofs.Common.{length-append, length-take, length-drop, append-nil, inl, inr}
-use Rattle.std.specs.Prelude.{Option, Some, nat_lt}
+use Rattle.std.proofs.Common.{◌≡◌, ℕ, ◌-◌, ◌≤◌, ◌<◌, List, [], ◌++◌, length, take, drop, Bool, true, cond, arith, ap, sym, ◌∙◌, refl, subst}
+use Rattle.std.proofs.Common.{length-append, length-take, append-nil, inl, inr}
+use Rattle.std.specs.Prelude.{Some, nat_lt}
 use Rattle.std.proofs.lemmas.Bool.{cases_lt, lt-ltb, le-ltb}
 use Rattle.std.proofs.Math.Seq.{take-append-add, drop-append-add}
 use Rattle.bmc_text.specs.Blocks.{Part, HoldsFront, TakesBlockOf}

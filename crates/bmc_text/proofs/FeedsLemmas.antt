@@ -1,8 +1,7 @@
 -- Pieces of a source that are read one behind the other.
-use Rattle.std.proofs.Common.{◌≡◌, ℕ, ◌+◌, ◌-◌, ◌≤◌, List, [], ◌++◌, length, take, drop, slice_range, arith, ap, sym, ◌∙◌, refl, Bool, subst, length-append}
+use Rattle.std.proofs.Common.{◌≡◌, ℕ, ◌+◌, ◌-◌, ◌≤◌, List, [], ◌++◌, length, take, drop, slice_range, arith, ap, sym, ◌∙◌, refl, subst, length-append}
 use Rattle.std.proofs.Common.{length-take, length-drop, append_assoc, append-nil}
 use Rattle.std.specs.Io.KnownBytes.{Consumes}
-use Rattle.std.specs.Prelude.{Option}
 use Rattle.std.proofs.KnownBytes.{Consumes-nil, Consumes-trans}
 use Rattle.std.proofs.lemmas.List.{nil_from_length, drop-drop}
 use Rattle.std.proofs.lemmas.Slice.{between_is}

@@ -1,8 +1,8 @@
 -- A line, with the block that it asks for, as an item.
 use Rattle.std.proofs.Common.{◌≡◌, ◌≢◌, inl, inr, ℕ, ◌+◌, ◌≤◌, ◌<◌, List, [], ◌∷◌, ◌++◌, length, take, drop, Bool, true, false, arith, ap, sym, ◌∙◌, refl}
-use Rattle.std.proofs.Common.{subst, length-append, length-take, append_assoc, append-nil}
+use Rattle.std.proofs.Common.{subst, length-take, append_assoc, append-nil}
 use Rattle.std.specs.Prelude.{Option, Some, None, IsSomeAnd, option_and_then}
-use Rattle.std.specs.List.{before_first, position_or_len}
+use Rattle.std.specs.List.{position_or_len}
 use Rattle.std.proofs.lemmas.Bool.{cases_lt}
 use Rattle.std.proofs.lemmas.List.{take_at, take_all, take-take, nil_from_length}
 use Rattle.bmc_io.specs.Sources.{Input}
@@ -11,12 +11,10 @@ use Rattle.bmc_text.specs.Feeds.{Feed, ItemFeed, Reads}
 use Rattle.bmc_text.specs.Items.{Item, longest_block, is_newline, line_item, asks, asked_first, whole_block, whole_behind, whole_item, whole_items}
 use Rattle.bmc_text.specs.Items.{last_block, last_behind, items_of}
 use Rattle.bmc_text.specs.Lines.{TakesLine, TakesNext, line_got}
-use Rattle.bmc_text.specs.Blocks.{TakesBlockOf, TakesBlock, LacksBlock, item_of_block}
+use Rattle.bmc_text.specs.Blocks.{TakesBlockOf, LacksBlock}
 use Rattle.bmc_text.specs.NextItems.{item_next, TakesItem, TakesNextItem, WantsMemory, LacksItem}
-use Rattle.bmc_text.specs.declared.block.Block.{Block}
 use Rattle.bmc_text.specs.declared.items.NextItem.{NextItem}
 use Rattle.bmc_text.specs.declared.lines.Got.{Got}
-use Rattle.bmc_text.specs.declared.lines.Got.TheVariants.{End}
 use Rattle.bmc_text.specs.declared.lines.LineFault.{LineFault}
 use Rattle.bmc_text.specs.declared.lines.LineFault.TheVariants.{ReadFault, Spent, OutOfMemory}
 use Rattle.bmc_text.proofs.NewlinesLemmas.{newline_parts, HasNoNewline-take, len_none, len_line}

@@ -1,9 +1,9 @@
-use Rattle.std.proofs.Common.{◌≡◌, ◌≤◌, ◌+◌, List, ℕ, [], length, length-drop, drop, take, ap, sym, subst, ◌∙◌, arith}
+use Rattle.std.proofs.Common.{◌≤◌, ◌+◌, List, ℕ, [], length, length-drop, drop, take, ap, sym, subst, ◌∙◌, arith}
 use Rattle.std.specs.Prelude.{Some, None}
 use Rattle.std.proofs.lemmas.Result.{err_from_is_err_and}
 use Rattle.bmc_text.specs.Blocks.{item_of_block}
 use Rattle.bmc_text.specs.NextItems.{WantsMemory}
-use Rattle.bmc_text.specs.Items.{asks, line_item, whole_block, whole_items}
+use Rattle.bmc_text.specs.Items.{line_item, whole_block, whole_items}
 use Rattle.bmc_text.specs.Feeds.{ItemFeed}
 use Rattle.bmc_text.proofs.ItemsLemmas.{whole_items-none, whole_block-none}
 use Rattle.bmc_text.proofs.FeedsLemmas.{waiting_of, read_of, ended_of}

@@ -1,4 +1,4 @@
-use Rattle.std.proofs.Common.{◌≡◌, ℕ, ◌-◌, ◌+◌, List, ◌++◌, Bool, false, length, ap, ◌∙◌, sym, arith, take, drop, slice_range, length-take, length-drop}
+use Rattle.std.proofs.Common.{◌≡◌, ℕ, ◌-◌, ◌+◌, List, ◌++◌, false, length, ap, ◌∙◌, sym, arith, take, drop, slice_range, length-take, length-drop}
 use Rattle.std.proofs.lemmas.List.{take_at}
 use Rattle.bmc_text.specs.Feeds.{Feed}
 use Rattle.bmc_text.proofs.FeedsLemmas.{Reads-behind}
