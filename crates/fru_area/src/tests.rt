@@ -1,6 +1,6 @@
 use crate::{
     Area, FieldList, FieldName, FruFault, Header, area_bytes, area_sum, check_fields, field_text,
-    one_reading, read_area, read_header,
+    one_name, one_reading, read_area, read_header,
 };
 use std::alloc::Global;
 use std::process::Abort;
@@ -119,6 +119,7 @@ fn assert_fields(rt: &impl Abort, fields: &FieldList, wanted: &[(FieldName, &str
     assert_eq!(rt; fields.len(), wanted.len());
     for (field, (name, text)) in fields.iter().zip(wanted) {
         assert_eq!(rt; field.name, *name);
+        assert!(rt; field.is_named(*name) && !field.is_named(FieldName::Custom(CHASSIS, 0)));
         assert_eq!(rt; field.text.as_str(), *text);
     }
 }
@@ -136,6 +137,7 @@ const SEVEN: [FieldName; 7] = [
 #[test]
 fn named_fields(rt: HostRuntime) -> Result<(), Fail> {
     one_reading();
+    one_name();
     let [first, second, third, fourth, fifth, _, _] = SEVEN;
     let area = area_bytes(BOARD, &RECORD, 8)?;
     assert_eq!(rt; area, &RECORD[8..]);
