@@ -4,4 +4,12 @@ use Rattle.fru_area.proofs.worked.worked_six_bit.Goals as goal
 
 pub returns : goal.returns
 unfolding text_of
-returns c = record { empty = λ english. refl; ipmi = λ english. refl; one = λ english. refl; two = λ english. refl; four = λ english. refl; first = λ english. refl; last = λ english. refl }
+returns c = record {
+  empty = λ english. refl;
+  ipmi = λ english. refl;
+  one = λ english. refl;
+  two = λ english. refl;
+  four = λ english. refl;
+  first = λ english. refl;
+  last = λ english. refl;
+}
