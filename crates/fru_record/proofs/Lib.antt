@@ -1,8 +1,6 @@
-pub mod Built
-pub mod Checking
-pub mod DateTexts
-pub mod Days
-pub mod Reading
-pub mod Sizes
-pub mod Spelled
-pub mod Texts
+pub mod BuildingLemmas
+pub mod DatesLemmas
+pub mod LayoutsLemmas
+pub mod RecordsLemmas
+pub mod SpellingsLemmas
+pub mod TextRulesLemmas

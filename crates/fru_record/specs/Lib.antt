@@ -4,4 +4,5 @@ pub mod Lookups
 pub mod Spellings
 pub mod Parts
 pub mod Building
-pub mod Views
+pub mod TextRules
+pub mod Layouts

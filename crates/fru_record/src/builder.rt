@@ -4,7 +4,8 @@ ghost use Rattle.std.specs.Str.{chars, IsUtf8};
 ghost use Rattle.fru_record.specs.Parts.{HasNames, fields_of_parts, texts_of, chassis_texts, board_texts, product_texts};
 ghost use Rattle.fru_record.specs.Records.{record_of};
 ghost use Rattle.fru_record.specs.Building.{GivesBytes, build_fault, record_bytes, has_late_date, closing_byte, field_of_text, area_body, area_units, area_bytes, chassis_body, board_body, product_body, units_of, bytes_of};
-ghost use Rattle.fru_record.specs.Views.{IsLayout, IsBuildable, HasOffsets, IsWritable, AreWritable, header_start, field_head, first_char};
+ghost use Rattle.fru_record.specs.Layouts.{IsLayout, IsBuildable, HasOffsets, header_start};
+ghost use Rattle.fru_record.specs.TextRules.{IsWritable, AreWritable, field_head, first_char};
 ghost use Rattle.fru_record.specs.declared.builder.BuildFault.TheVariants.{OutOfMemory};
 
 use crate::layout::Layout;

@@ -1,6 +1,5 @@
 ghost use Rattle.std.specs.Prelude.{◌≡◌, ◌<◌, ◌+◌, ◌%◌, ◌^◌};
-ghost use Rattle.fru_record.specs.Dates.{manufacture_day, date_text};
-ghost use Rattle.fru_record.specs.Views.{IsDay};
+ghost use Rattle.fru_record.specs.Dates.{manufacture_day, date_text, IsDay};
 
 use fru_area::FieldText;
 use jiff::ToSpan;

@@ -1,7 +1,7 @@
 ghost use Rattle.std.specs.Prelude.{◌≡◌, ◌≢◌, ◌≤◌, ◌<◌, ◌+◌, ◌*◌, ◌^◌, ◌-◌, ◌||◌, ◌++◌, ℕ, List, length, min, nat_lt};
 ghost use Rattle.std.specs.List.{flat_map};
 ghost use Rattle.fru_record.specs.Building.{field_of_text, area_body, area_units, units_of, chassis_body, board_body, product_body};
-ghost use Rattle.fru_record.specs.Views.{IsLayout, offset_at};
+ghost use Rattle.fru_record.specs.Layouts.{IsLayout, offset_at};
 
 use crate::parts::{BoardPart, ChassisPart, FieldTexts, Parts, ProductPart};
 use crate::text_rule::char_count;

@@ -3,7 +3,7 @@ ghost use Rattle.std.specs.List.{list_any};
 ghost use Rattle.std.specs.Str.{chars};
 ghost use Rattle.fru_record.specs.Parts.{chassis_texts, board_texts, product_texts, texts_of};
 ghost use Rattle.fru_record.specs.Building.{is_not_latin, is_too_long, is_bad_single};
-ghost use Rattle.fru_record.specs.Views.{breaks};
+ghost use Rattle.fru_record.specs.TextRules.{breaks};
 
 use crate::parts::{BoardPart, ChassisPart, FieldTexts, Parts, ProductPart};
 
@@ -94,7 +94,7 @@ fn is_too_long(text: &str) -> bool
     char_count(text) > 63
 }
 
-#[tactic(auto, using(crate::proofs::Texts::bad_single))]
+#[tactic(auto, using(crate::proofs::TextRulesLemmas::bad_single))]
 fn is_bad_single(text: &str) -> bool
     ensures { result ≡ is_bad_single (chars text.now) }
 {

@@ -1,7 +1,7 @@
 use Rattle.std.proofs.Common.{ap, sym, ◌∙◌}
 use Rattle.fru_record.specs.Records.{record_of}
-use Rattle.fru_record.proofs.Built.{built-read}
-use Rattle.fru_record.proofs.Sizes.{IsBuildable-allowed, GivesBytes-fault}
+use Rattle.fru_record.proofs.BuildingLemmas.{built-read}
+use Rattle.fru_record.proofs.LayoutsLemmas.{IsBuildable-allowed, GivesBytes-fault}
 use Rattle.fru_record.proofs.builder.build.Goals as goal
 
 pub record_bytes-requires : goal.record_bytes-requires

@@ -1,5 +1,5 @@
 use Rattle.std.proofs.Common.{true, false, refl, sym, ◌∙◌}
-use Rattle.fru_record.proofs.Sizes.{fault-found, sizes, long_area-seen, long_record-seen}
+use Rattle.fru_record.proofs.LayoutsLemmas.{fault-found, sizes, long_area-seen, long_record-seen}
 use Rattle.fru_record.proofs.builder.first_fault.Goals as goal
 
 pub returns-then-has_late_date : goal.returns-then-has_late_date

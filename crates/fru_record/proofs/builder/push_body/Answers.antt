@@ -1,6 +1,6 @@
 use Rattle.std.specs.Str.{IsUtf8}
 use Rattle.std.proofs.lemmas.List.Elements.{All-append}
-use Rattle.fru_record.proofs.Texts.{AreWritable-append}
+use Rattle.fru_record.proofs.TextRulesLemmas.{AreWritable-append}
 use Rattle.fru_record.proofs.builder.push_body.Goals as goal
 
 pub push_texts-requires : goal.push_texts-requires

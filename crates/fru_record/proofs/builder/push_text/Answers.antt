@@ -1,5 +1,5 @@
 use Rattle.std.proofs.lemmas.Result.{on_ok_weaker}
-use Rattle.fru_record.proofs.Texts.{writable-short, writable-range, field-written}
+use Rattle.fru_record.proofs.TextRulesLemmas.{writable-short, writable-range, field-written}
 use Rattle.fru_record.proofs.builder.push_text.Goals as goal
 
 pub field_head-requires : goal.field_head-requires

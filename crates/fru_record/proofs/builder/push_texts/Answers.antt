@@ -2,7 +2,7 @@ use Rattle.std.proofs.Common.{ℕ, List, get_or, subst, ◌∙◌, arith, below_
 use Rattle.std.specs.Str.{IsUtf8}
 use Rattle.std.proofs.lemmas.Grind.{common_steps}
 use Rattle.std.proofs.lemmas.List.{get_or_default}
-use Rattle.fru_record.proofs.Texts.{IsWritable-at}
+use Rattle.fru_record.proofs.TextRulesLemmas.{IsWritable-at}
 use Rattle.fru_record.proofs.builder.push_texts.Goals as goal
 
 pub push_text-requires : goal.push_text-requires

@@ -2,7 +2,7 @@ use Rattle.std.proofs.Common.{◌++◌}
 use Rattle.std.specs.Str.{IsUtf8}
 use Rattle.std.proofs.lemmas.List.Elements.{All-append}
 use Rattle.fru_record.specs.Parts.{chassis_texts, board_texts}
-use Rattle.fru_record.proofs.Sizes.{record_bytes-written}
+use Rattle.fru_record.proofs.LayoutsLemmas.{record_bytes-written}
 use Rattle.fru_record.proofs.builder.record_bytes.Goals as goal
 
 pub returns-clause-written : goal.returns-clause-written

@@ -1,6 +1,6 @@
 use Rattle.std.proofs.Common.{sym}
 use Rattle.std.proofs.lemmas.Result.{err_from_is_err_and}
-use Rattle.fru_record.proofs.Checking.{checked-absent, checked-outside, checked-inside}
+use Rattle.fru_record.proofs.RecordsLemmas.{checked-absent, checked-outside, checked-inside}
 use Rattle.fru_record.proofs.check.check_area.Goals as goal
 
 pub returns-then-offset-eq0 : goal.returns-then-offset-eq0

@@ -1,7 +1,7 @@
 use Rattle.std.proofs.Common.{sym, arith}
 use Rattle.jiff_core.proofs.CalendarLemmas.{days_in_month_bounds}
 use Rattle.jiff.proofs.SpanFacts.{signed_arith}
-use Rattle.fru_record.proofs.DateTexts.{date_text-written}
+use Rattle.fru_record.proofs.DatesLemmas.{date_text-written}
 use Rattle.fru_record.proofs.date.date_bytes.Goals as goal
 
 pub returns : goal.returns

@@ -2,7 +2,7 @@ use Rattle.std.proofs.Common.{Ok, Err, rules}
 use Rattle.std.specs.Result.{MatchResult, IsOk}
 use Rattle.std.specs.Prelude.{Result}
 use Rattle.std.proofs.lemmas.Str.{IsUtf8-from_ascii}
-use Rattle.fru_record.proofs.DateTexts.{IsAscii-date_text}
+use Rattle.fru_record.proofs.DatesLemmas.{IsAscii-date_text}
 use Rattle.fru_record.proofs.date.date_field.Goals as goal
 
 IsOk-from_cases : {T E : Type 0} (r : Result T E) (P : T → Type 0) (Q : Type 0) (R : E → Type 0) → Q → MatchResult r P (λ e. (¬ Q) × R e) → IsOk r

@@ -1,7 +1,7 @@
 use Rattle.std.proofs.Common.{ℕ, ◌<◌, ◌≤◌, ◌/◌, arith, ◌∙◌, FitsSigned, w64}
 use Rattle.std.proofs.lemmas.Int.{to_z-of_z}
 use Rattle.jiff.proofs.SpanFacts.{signed_arith, date_add-days, can_add-days}
-use Rattle.fru_record.proofs.Days.{IsEpochDay-later, IsDay-later}
+use Rattle.fru_record.proofs.DatesLemmas.{IsEpochDay-later, IsDay-later}
 use Rattle.fru_record.proofs.date.manufacture_date.Goals as goal
 
 most_days : (minutes : ℕ) → minutes < 16777216 → minutes / 1440 ≤ 11650

@@ -1,6 +1,6 @@
 use Rattle.std.proofs.Common.{sym}
 use Rattle.std.proofs.lemmas.Result.{err_from_is_err_and}
-use Rattle.fru_record.proofs.Reading.{fields_at-absent, fields_at-fault, fields_at-present}
+use Rattle.fru_record.proofs.RecordsLemmas.{fields_at-absent, fields_at-fault, fields_at-present}
 use Rattle.fru_record.proofs.decode.fields_at.Goals as goal
 
 pub returns-then-offset-eq0 : goal.returns-then-offset-eq0

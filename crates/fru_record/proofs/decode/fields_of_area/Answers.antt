@@ -1,5 +1,5 @@
 use Rattle.std.proofs.lemmas.Result.{err_from_is_err_and}
-use Rattle.fru_record.proofs.Reading.{fields_of_area-fault, fields_of_area-ok}
+use Rattle.fru_record.proofs.RecordsLemmas.{fields_of_area-fault, fields_of_area-ok}
 use Rattle.fru_record.proofs.decode.fields_of_area.Goals as goal
 
 pub returns-in_err-named : goal.returns-in_err-named

@@ -1,7 +1,7 @@
 use Rattle.std.proofs.Common.{List, ◌++◌, Ok, sym, ◌∙◌, ap}
 use Rattle.fru_area.specs.declared.field.Field.{Field}
 use Rattle.std.proofs.lemmas.Result.{err_from_is_err_and}
-use Rattle.fru_record.proofs.Reading.{record_of-header, record_of-no_header, fields_under-no_chassis, fields_under-no_board, fields_under-no_product, fields_under-ok}
+use Rattle.fru_record.proofs.RecordsLemmas.{record_of-header, record_of-no_header, fields_under-no_chassis, fields_under-no_board, fields_under-no_product, fields_under-ok}
 use Rattle.fru_record.proofs.decode.FruRecord.decode.Goals as goal
 
 pub returns-in_err-header : goal.returns-in_err-header

@@ -27,12 +27,12 @@ use Rattle.fru_record.specs.declared.parts.Parts.{Parts}
 use Rattle.fru_record.specs.declared.parts.ChassisPart.{ChassisPart}
 use Rattle.fru_record.specs.declared.parts.BoardPart.{BoardPart}
 use Rattle.fru_record.specs.declared.parts.ProductPart.{ProductPart}
-use Rattle.fru_record.specs.Views.{IsWritable, AreWritable, breaks}
+use Rattle.fru_record.specs.TextRules.{IsWritable, AreWritable, breaks}
 use Rattle.fru_record.specs.declared.text_rule.TextRule.{TextRule}
 use Rattle.fru_record.specs.declared.text_rule.TextRule.TheVariants.{Single}
-use Rattle.fru_record.proofs.Sizes.{allowed-writable, allowed-early, allowed-short}
-use Rattle.fru_record.proofs.Spelled.{spelled-record}
-use Rattle.fru_record.proofs.Texts.{both_false, writable-short, AreWritable-append}
+use Rattle.fru_record.proofs.LayoutsLemmas.{allowed-writable, allowed-early, allowed-short}
+use Rattle.fru_record.proofs.SpellingsLemmas.{spelled-record}
+use Rattle.fru_record.proofs.TextRulesLemmas.{both_false, writable-short, AreWritable-append}
 
 -- the field that a text becomes
 abbrev pub raw_of_chars : List ℕ → Raw

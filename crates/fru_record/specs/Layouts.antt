@@ -1,26 +1,10 @@
--- What private functions hand on.
-use Rattle.std.specs.Prelude.{ℕ, ◌≡◌, ◌≤◌, ◌+◌, [], ◌∷◌, Bool, false, min, pos, List, chars, ◌==◌, if◌then◌else◌}
-use Rattle.std.specs.List.{list_any}
-use Rattle.jiff_core.specs.declared.civil.date.Date.{Date}
-use Rattle.fru_record.specs.Dates.{Day}
-use Rattle.fru_record.specs.Building.{is_not_latin, is_too_long, is_bad_single, units_of, chassis_body, board_body, product_body}
+-- Where the areas of a record that is built lie.
+use Rattle.std.specs.Prelude.{ℕ, ◌≡◌, ◌≤◌, ◌+◌, List, [], ◌∷◌, min, ◌==◌, if◌then◌else◌}
+use Rattle.fru_record.specs.Building.{units_of, chassis_body, board_body, product_body}
 use Rattle.fru_record.specs.Parts.{chassis_texts, board_texts, product_texts}
+use Rattle.fru_record.specs.TextRules.{AreWritable}
 use Rattle.fru_record.specs.declared.layout.Layout.{Layout}
 use Rattle.fru_record.specs.declared.parts.Parts.{Parts}
-use Rattle.fru_record.specs.declared.text_rule.TextRule.{TextRule}
-use Rattle.fru_record.specs.declared.text_rule.TextRule.TheVariants.{Latin, Length, Single}
-
--- the date is this day
-pub record IsDay (day : Day) (date : Date) : Type 0 where
-  pub year : date.year ≡ pos day.year
-  pub month : date.month ≡ day.month
-  pub day_of_month : date.day ≡ day.day
-
--- whether a text breaks a rule
-abbrev pub breaks : TextRule → List ℕ → Bool
-breaks Latin text = is_not_latin text
-breaks Length text = is_too_long text
-breaks Single text = is_bad_single (chars text)
 
 -- where an area with so many multiples of 8 bytes begins, behind those before it, or 0 where it is absent
 abbrev pub offset_at : ℕ → ℕ → ℕ
@@ -42,21 +26,9 @@ pub record HasOffsets (layout : Layout) : Type 0 where
 
 -- a header without its checksum
 abbrev pub header_start : Layout → List ℕ
-header_start layout = 1 ∷ 0 ∷ offset_at 1 layout.chassis ∷ offset_at (1 + layout.chassis) layout.board ∷ offset_at (1 + layout.chassis + layout.board) layout.product ∷ 0 ∷ 0 ∷ []
-
--- a text, or each of these, breaks no rule
-abbrev pub IsWritable : List ℕ → Type 0
-IsWritable text = (rule : TextRule) → breaks rule text ≡ false
-
-abbrev pub AreWritable : List (List ℕ) → Type 0
-AreWritable texts = (rule : TextRule) → list_any (breaks rule) texts ≡ false
-
--- the type and length of a field with so many characters, and the character that it writes as 0
-abbrev pub field_head : ℕ → ℕ
-field_head count = if count == 1 then 0x81 else 0xC0 + count
-
-abbrev pub first_char : ℕ → ℕ
-first_char count = if count == 1 then 32 else 0
+header_start layout =
+    1 ∷ 0 ∷ offset_at 1 layout.chassis ∷ offset_at (1 + layout.chassis) layout.board
+    ∷ offset_at (1 + layout.chassis + layout.board) layout.product ∷ 0 ∷ 0 ∷ []
 
 -- the parts have a record of these sizes, and their texts can be written
 pub record IsBuildable (parts : Parts) (layout : Layout) : Type 0 where

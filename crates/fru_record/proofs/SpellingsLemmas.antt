@@ -13,7 +13,7 @@ use Rattle.fru_area.specs.declared.header.Header.{Header}
 use Rattle.fru_area.proofs.Spelled.{Spells-raw_fields, raw_fields-Spells}
 use Rattle.fru_record.specs.Records.{names_of, fields_start, is_english, fixed_fields, fields_of_area, fields_at, fields_under, record_of, ◌>>=◌}
 use Rattle.fru_record.specs.Spellings.{SpellsArea, SpellsPart, absent, present, SpellsRecord}
-use Rattle.fru_record.proofs.Reading.{named_of, fields_of_area-ok, fields_at-absent, fields_at-placed, fields_at-present, record_of-header, fields_under-ok}
+use Rattle.fru_record.proofs.RecordsLemmas.{named_of, fields_of_area-ok, fields_at-absent, fields_at-placed, fields_at-present, record_of-header, fields_under-ok}
 
 then_parts : {X Y : Type 0} (r : Result X FruFault) (f : X → Result Y FruFault) (y : Y) → (r >>= f) ≡ Ok y → (x : X) × (r ≡ Ok x) × (f x ≡ Ok y)
 then_parts (Ok x) f y h = (x, refl, h)

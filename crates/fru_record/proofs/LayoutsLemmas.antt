@@ -5,14 +5,15 @@ use Rattle.std.specs.List.{list_any}
 use Rattle.std.proofs.lemmas.Bool.{cases_lt, lt-ltb, le-ltb, ltb-false, ne_eqb}
 use Rattle.fru_record.specs.Building.{build_fault, has_late_date, is_long_area, is_long_record, units_of, area_units, offset_of, chassis_body, board_body, product_body, GivesBytes, record_bytes, bytes_of, header_front, closing_byte}
 use Rattle.fru_record.specs.Parts.{texts_of, chassis_texts, board_texts, product_texts}
-use Rattle.fru_record.specs.Views.{IsLayout, IsBuildable, HasOffsets, AreWritable, breaks, offset_at, header_start}
+use Rattle.fru_record.specs.Layouts.{IsLayout, IsBuildable, HasOffsets, offset_at, header_start}
+use Rattle.fru_record.specs.TextRules.{AreWritable, breaks}
 use Rattle.fru_record.specs.declared.builder.BuildFault.{BuildFault}
 use Rattle.fru_record.specs.declared.builder.BuildFault.TheVariants.{DateRange, TextNotLatin, TextTooLong, OneByte, AreaTooLong, RecordTooLong, OutOfMemory}
 use Rattle.fru_record.specs.declared.layout.Layout.{Layout}
 use Rattle.fru_record.specs.declared.parts.Parts.{Parts}
 use Rattle.fru_record.specs.declared.text_rule.TextRule.{TextRule}
 use Rattle.fru_record.specs.declared.text_rule.TextRule.TheVariants.{Latin, Length, Single}
-use Rattle.fru_record.proofs.Texts.{both_false, AreWritable-append}
+use Rattle.fru_record.proofs.TextRulesLemmas.{both_false, AreWritable-append}
 
 -- the first fault, where the rules are tested
 abbrev pub fault_by : (date latin length single area whole : Bool) → Option BuildFault

@@ -1,12 +1,11 @@
 -- Texts of a record that is built.
 use Rattle.std.proofs.Common.{◌≡◌, ◌≢◌, ℕ, suc, ◌+◌, ◌-◌, ◌<◌, ◌≤◌, Bool, true, false, nat_lt, nat_eq, List, [], ◌∷◌, ◌++◌, length, map, chars, get_or, zero, refl, ap, ap₂, sym, ◌∙◌, append_assoc, arith}
-use Rattle.std.proofs.lemmas.Bool.{ne_eqb}
+use Rattle.std.proofs.lemmas.Bool.{ne_eqb, ltb-false}
 use Rattle.std.specs.Prelude.{◌||◌, ◌&&◌}
 use Rattle.std.specs.List.{list_any}
-use Rattle.std.proofs.lemmas.Bool.{ltb-false}
 use Rattle.std.proofs.lemmas.List.Folds.{list_any_at, list_any-append}
 use Rattle.fru_record.specs.Building.{is_bad_single, field_of_chars, field_of_text}
-use Rattle.fru_record.specs.Views.{breaks, IsWritable, AreWritable, field_head, first_char}
+use Rattle.fru_record.specs.TextRules.{breaks, IsWritable, AreWritable, field_head, first_char}
 use Rattle.fru_record.specs.declared.text_rule.TextRule.{TextRule}
 use Rattle.fru_record.specs.declared.text_rule.TextRule.TheVariants.{Latin, Length, Single}
 
