@@ -1,5 +1,5 @@
 -- What comes of reading and of checking a record, step by step.
-use Rattle.std.proofs.Common.{◌≡◌, ◌≢◌, ◌*◌, ℕ, List, [], ◌++◌, Result, Ok, Err, refl, ap, sym, ◌∙◌}
+use Rattle.std.proofs.Common.{◌≡◌, ◌≢◌, ◌*◌, ℕ, zero, suc, List, [], ◌∷◌, ◌++◌, Bool, true, false, cond, Option, Some, None, Result, Ok, Err, refl, ap, sym, ◌∙◌}
 use Rattle.std.proofs.lemmas.Bool.{ne_eqb}
 use Rattle.fru_area.specs.Answers.{GivesFault, checked}
 use Rattle.fru_area.specs.Areas.{area_fields, named_ok}
@@ -8,11 +8,12 @@ use Rattle.fru_area.specs.declared.fault.Area.{Area}
 use Rattle.fru_area.specs.declared.fault.Area.TheVariants.{Chassis, Board, Product}
 use Rattle.fru_area.specs.declared.fault.FruFault.{FruFault}
 use Rattle.fru_area.specs.declared.fault.FruFault.TheVariants as faults
+use Rattle.fru_area.specs.declared.name.FieldName.{FieldName}
 use Rattle.fru_area.specs.declared.field.Field.{Field}
 use Rattle.fru_area.specs.declared.header.Header.{Header}
 use Rattle.fru_record.specs.Records.{names_of, fields_start, is_english, fixed_fields, fields_of_area, fields_at, fields_under, record_of, ◌>>=◌}
 use Rattle.std.specs.Prelude.{⊤}
-use Rattle.fru_area.specs.Walks.{Raw, raw_fields}
+use Rattle.fru_area.specs.Walks.{Raw, raw_fields, walk, first_field, field_then, with_field}
 
 pub GivesFault-from : {X : Type 0} (fault : FruFault) (read : Result X FruFault) → read ≡ Err fault → GivesFault fault read
 GivesFault-from faults.OutOfMemory read e = tt
@@ -143,3 +144,85 @@ checked-inside area bytes found offset start answer ne e s a =
 
 pub checked-absent : (area : Area) (bytes : List ℕ) (offset : ℕ) → offset ≡ 0 → Ok tt ≡ checked (fields_at area bytes offset)
 checked-absent area bytes offset z = sym (ap (λ (r : Result (List Field) FruFault). checked r) (fields_at-absent area bytes offset [] z refl))
+
+-- A fault of reading names a rule, never want of memory.
+abbrev pub NamesRule : {X : Type 0} → Result X FruFault → Type 0
+NamesRule read = read ≢ Err faults.OutOfMemory
+
+NamesRule-Ok : {X : Type 0} (x : X) → NamesRule (Ok x)
+NamesRule-Ok x = λ e. absurd (cc)
+
+NamesRule-test : {X : Type 0} (broken : Bool) (fault : FruFault) (rest : Result X FruFault) → fault ≢ faults.OutOfMemory → NamesRule rest → NamesRule (cond broken (Err fault) rest)
+NamesRule-test true fault rest f r = λ e. f (cc)
+NamesRule-test false fault rest f r = r
+
+NamesRule-then : {X Y : Type 0} (read : Result X FruFault) (f : X → Result Y FruFault) → NamesRule read → ((x : X) → NamesRule (f x)) → NamesRule (read >>= f)
+NamesRule-then (Ok x) f r h = h x
+NamesRule-then (Err fault) f r h = λ e. r (cc)
+
+NamesRule-header : (bytes : List ℕ) → NamesRule (header bytes)
+unfolding header
+NamesRule-header bytes =
+    NamesRule-test _ faults.FruShort _ (λ e. absurd (cc))
+    (NamesRule-test _ faults.FruTooLong _ (λ e. absurd (cc))
+    (NamesRule-test _ faults.HeaderVersion _ (λ e. absurd (cc))
+    (NamesRule-test _ faults.HeaderChecksum _ (λ e. absurd (cc)) (NamesRule-Ok _))))
+
+NamesRule-area_at : (area : Area) (bytes : List ℕ) (s : ℕ) → NamesRule (area_at area bytes s)
+unfolding area_at
+NamesRule-area_at area bytes s =
+    NamesRule-test _ (faults.AreaOutside area) _ (λ e. absurd (cc))
+    (NamesRule-test _ (faults.AreaVersion area) _ (λ e. absurd (cc))
+    (NamesRule-test _ (faults.AreaLength area) _ (λ e. absurd (cc))
+    (NamesRule-test _ (faults.AreaChecksum area) _ (λ e. absurd (cc)) (NamesRule-Ok _))))
+
+NamesRule-mark : {X : Type 0} (is_mark : Bool) (none : X) (rest : Result X FruFault) → NamesRule rest → NamesRule (cond is_mark (Ok none) rest)
+NamesRule-mark true none rest r = λ e. absurd (cc)
+NamesRule-mark false none rest r = r
+
+NamesRule-first_field : (area : Area) (bytes : List ℕ) → NamesRule (first_field area bytes)
+unfolding first_field
+NamesRule-first_field area [] = λ e. absurd (cc)
+NamesRule-first_field area (head ∷ bytes) = NamesRule-mark _ None _ (NamesRule-test _ (faults.FieldOutside area) _ (λ e. absurd (cc)) (NamesRule-Ok _))
+
+NamesRule-with_field : (raw : Raw) (fields : Result (List Raw) FruFault) → NamesRule fields → NamesRule (with_field raw fields)
+NamesRule-with_field raw (Ok raws) h = λ e. absurd (cc)
+NamesRule-with_field raw (Err fault) h = λ e. h (cc)
+
+NamesRule-field_then : (rest_of : List ℕ → Result (List Raw) FruFault) (first : Result (Option (Raw × List ℕ)) FruFault) → NamesRule first → ((rest : List ℕ) → NamesRule (rest_of rest)) → NamesRule (field_then rest_of first)
+NamesRule-field_then rest_of (Ok None) f r = λ e. absurd (cc)
+NamesRule-field_then rest_of (Ok (Some found)) f r = NamesRule-with_field found.0 (rest_of found.1) (r found.1)
+NamesRule-field_then rest_of (Err fault) f r = λ e. f (cc)
+
+NamesRule-walk : (area : Area) (most : ℕ) (bytes : List ℕ) → NamesRule (walk area most bytes)
+unfolding walk
+NamesRule-walk area zero bytes = λ e. absurd (cc)
+NamesRule-walk area (suc most) bytes = NamesRule-field_then (walk area most) (first_field area bytes) (NamesRule-first_field area bytes) (NamesRule-walk area most)
+
+NamesRule-named : (area : Area) (english : Bool) (names : List FieldName) (raws : Result (List Raw) FruFault) → NamesRule raws → NamesRule (named_ok area english names raws)
+NamesRule-named area english names (Ok raws) h = λ e. absurd (cc)
+NamesRule-named area english names (Err fault) h = λ e. h (cc)
+
+NamesRule-fields_of_area : (area : Area) (bytes : List ℕ) → NamesRule (fields_of_area area bytes)
+unfolding fields_of_area area_fields raw_fields
+NamesRule-fields_of_area area bytes =
+    NamesRule-then (named_of area bytes) _ (NamesRule-named area _ _ _ (NamesRule-walk area _ _)) (λ fields. λ e. absurd (cc))
+
+NamesRule-present : (area : Area) (bytes : List ℕ) (s : ℕ) → NamesRule (area_at area bytes s >>= fields_of_area area)
+NamesRule-present area bytes s = NamesRule-then (area_at area bytes s) (fields_of_area area) (NamesRule-area_at area bytes s) (NamesRule-fields_of_area area)
+
+NamesRule-fields_at : (area : Area) (bytes : List ℕ) (offset : ℕ) → NamesRule (fields_at area bytes offset)
+unfolding fields_at
+NamesRule-fields_at area bytes offset = NamesRule-mark _ [] _ (NamesRule-present area bytes (8 * offset))
+
+pub NamesRule-record_of : (bytes : List ℕ) → NamesRule (record_of bytes)
+unfolding record_of fields_under
+NamesRule-record_of bytes =
+    NamesRule-then (header bytes) (fields_under bytes) (NamesRule-header bytes) (λ at.
+    NamesRule-then (fields_at Chassis bytes at.chassis) _ (NamesRule-fields_at Chassis bytes at.chassis) (λ chassis.
+    NamesRule-then (fields_at Board bytes at.board) _ (NamesRule-fields_at Board bytes at.board) (λ board.
+    NamesRule-then (fields_at Product bytes at.product) _ (NamesRule-fields_at Product bytes at.product) (λ product. λ e. absurd (cc)))))
+
+pub NamesRule-checked : {X : Type 0} (read : Result X FruFault) → NamesRule read → NamesRule (checked read)
+NamesRule-checked (Ok x) h = λ e. absurd (cc)
+NamesRule-checked (Err fault) h = λ e. h (cc)

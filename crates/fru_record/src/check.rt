@@ -5,7 +5,7 @@ ghost use Rattle.fru_record.specs.Records.{record_of, fields_start, fields_at};
 use fru_area::{Area, FruFault, area_bytes, check_fields, read_header};
 
 /// Whether the bytes spell a record, or the first rule that they break: what `FruRecord::decode` answers,
-/// without the fields and without memory.
+/// without the fields and without memory, so it never answers `OutOfMemory`.
 pub fn check_record(bytes: &[u8]) -> Result<(), FruFault>
     ensures { result ≡ checked (record_of bytes.now) }
 {

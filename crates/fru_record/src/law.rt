@@ -1,4 +1,6 @@
-ghost use Rattle.std.specs.Prelude.{◌≡◌, ◌↔◌, ℕ, List, None, Ok, IsUtf8, All};
+ghost use Rattle.std.specs.Prelude.{◌≡◌, ◌≢◌, ◌↔◌, ℕ, List, None, Ok, Err, IsUtf8, All};
+ghost use Rattle.fru_area.specs.Answers.{checked};
+ghost use Rattle.fru_area.specs.declared.fault.FruFault.TheVariants.{OutOfMemory};
 ghost use Rattle.fru_area.specs.declared.field.Field.{Field};
 ghost use Rattle.fru_record.specs.Records.{record_of};
 ghost use Rattle.fru_record.specs.Spellings.{SpellsRecord};
@@ -15,4 +17,11 @@ pub fn one_record()
 /// What is built of parts is read as exactly their fields.
 pub fn built_is_read()
     ensures { (parts : Parts) → HasNames parts → All IsUtf8 (texts_of parts) → build_fault parts ≡ None → record_of (record_bytes parts) ≡ Ok (fields_of_parts parts) }
+{}
+
+/// The fault of bytes is a rule that they break, and never want of memory: neither where a record is read
+/// of them nor where they are checked.
+pub fn faults_name_rules()
+    ensures read { (bytes : List ℕ) → record_of bytes ≢ Err OutOfMemory }
+    ensures checked { (bytes : List ℕ) → checked (record_of bytes) ≢ Err OutOfMemory }
 {}

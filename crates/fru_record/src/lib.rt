@@ -16,5 +16,5 @@ mod text_rule;
 pub use builder::{BuildFault, build};
 pub use check::check_record;
 pub use decode::FruRecord;
-pub use law::{built_is_read, one_record};
+pub use law::{built_is_read, faults_name_rules, one_record};
 pub use parts::{BoardPart, ChassisPart, FieldTexts, Parts, ProductPart};
