@@ -6,3 +6,5 @@ pub mod Parts
 pub mod Building
 pub mod TextRules
 pub mod Layouts
+pub mod WorkedRecords
+pub mod WorkedParts

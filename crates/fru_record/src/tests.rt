@@ -3,7 +3,8 @@ ghost use Rattle.fru_record.specs.Parts.{HasNames};
 
 use crate::{
     BoardPart, BuildFault, ChassisPart, FieldTexts, FruRecord, Parts, ProductPart, build,
-    built_is_read, check_record, one_record,
+    built_is_read, check_record, faults_name_rules, one_record, worked_build_faults, worked_dates,
+    worked_faults, worked_parts, worked_records,
 };
 use bmc_base::{OutOfMemory, Text};
 use fru_area::{Area, FruFault};
@@ -197,6 +198,8 @@ const RECORDS: [(&[u8], &[(&str, &str)]); 28] = records! {
 #[test]
 fn records(rt: HostRuntime) -> Result<(), Fail> {
     one_record();
+    worked_records();
+    worked_dates();
     for (bytes, wanted) in RECORDS {
         assert_record(&rt, rt.alloc(), bytes, wanted)?;
     }
@@ -232,6 +235,8 @@ const REFUSALS: [(&[u8], FruFault); 12] = refusals! {
 
 #[test]
 fn refused(rt: HostRuntime) {
+    faults_name_rules();
+    worked_faults();
     for (bytes, fault) in REFUSALS {
         assert_fault(&rt, rt.alloc(), bytes, fault);
     }
@@ -366,18 +371,33 @@ macro_rules! boards {
 
 #[test]
 fn built_boards(rt: HostRuntime) -> Result<(), Fail> {
+    worked_parts();
+    worked_build_faults();
     let alloc = rt.alloc();
-    let late = 1 << 24;
-    let rows: [(u32, &[&str], Result<&[u8], BuildFault>); 9] = boards! {
+    let rows: [(u32, &[&str], Result<&[u8], BuildFault>); 17] = boards! {
         0, &["ACM", "RSR1", "S1", "", ""] => Ok(BOARD);
-        0, &["a", "RSR1", "S1", "", ""] => Err(BuildFault::OneByte);
-        0, &["ACM", "RSR1", "S1", "", "\u{E9}"] => Err(BuildFault::OneByte);
-        0, &["ACM", "\u{100}", "S1", "", ""] => Err(BuildFault::TextNotLatin);
+        0xFF_FFFF, &["", "", "", "", ""] =>
+            Ok(b"\x01\x00\x00\x01\x00\x00\x00\xFE\x01\x02\x00\xFF\xFF\xFF\xC0\xC0\xC0\xC0\xC0\xC1\x00\x00\x00\x7F");
+        0x100_0000, &["ACM", "RSR1", "S1", "", ""] => Err(BuildFault::DateRange);
+        0, &["\u{FF}\u{FF}", "", "", "", ""] =>
+            Ok(b"\x01\x00\x00\x01\x00\x00\x00\xFE\x01\x02\x00\x00\x00\x00\xC2\xFF\xFF\xC0\xC0\xC0\xC0\xC1\x00\x7C");
+        0, &["\u{100}\u{100}", "", "", "", ""] => Err(BuildFault::TextNotLatin);
+        0, &[LONG, "", "", "", ""] =>
+            Ok(b"\x01\x00\x00\x01\x00\x00\x00\xFE\x01\x0A\x00\x00\x00\x00\xFFxxxxxxxxxxxxxxxxxxxxxxxxxxxxxxxxxxxxxxxxxxxxxxxxxxxxxxxxxxxxxxx\xC0\xC0\xC0\xC0\xC1\x00\x00\x00\x00\xAD");
         0, &["ACM", TOO_LONG, "S1", "", ""] => Err(BuildFault::TextTooLong);
+        0, &["\x1F", "", "", "", ""] => Err(BuildFault::OneByte);
+        0, &[" ", "", "", "", ""] =>
+            Ok(b"\x01\x00\x00\x01\x00\x00\x00\xFE\x01\x02\x00\x00\x00\x00\x81\x00\xC0\xC0\xC0\xC0\xC1\x00\x00\xBB");
+        0, &["_", "", "", "", ""] =>
+            Ok(b"\x01\x00\x00\x01\x00\x00\x00\xFE\x01\x02\x00\x00\x00\x00\x81\x3F\xC0\xC0\xC0\xC0\xC1\x00\x00\x7C");
+        0, &["`", "", "", "", ""] => Err(BuildFault::OneByte);
+        0, &["ACM", "RSR1", "S1", "", "\u{FF}"] => Err(BuildFault::OneByte);
+        0, &["ACM", "\u{100}", "S1", "", ""] => Err(BuildFault::TextNotLatin);
+        // rule by rule, whichever text comes first
+        0x100_0000, &["\u{100}", "", "", "", ""] => Err(BuildFault::DateRange);
         0, &[TOO_LONG, "RSR1", "\u{100}", "", ""] => Err(BuildFault::TextNotLatin);
         0, &["a", "RSR1", TOO_LONG, "", ""] => Err(BuildFault::TextTooLong);
-        late, &["\u{100}", "", "", "", ""] => Err(BuildFault::DateRange);
-        late, &["ACM", "RSR1", "S1", "", ""] => Err(BuildFault::DateRange);
+        0, &["a", "RSR1", "S1", "", ""] => Err(BuildFault::OneByte);
     };
     for (minutes, named, wanted) in rows {
         assert_eq!(rt; named.len(), 5);
@@ -429,14 +449,17 @@ fn built_sizes(rt: HostRuntime) -> Result<(), Fail> {
     Ok(())
 }
 
-// A chassis area of 2,040 bytes.
-fn long_chassis(alloc: Global) -> Result<ChassisPart, OutOfMemory>
+// A chassis area that holds 1,990 bytes and a text of so many letters.
+fn long_chassis(alloc: Global, letters: u32) -> Result<ChassisPart, OutOfMemory>
     ensures { IfOk result (λ part. length part.named ≡ 2) }
 {
     let named = texts(alloc, &[LONG, LONG])?;
     let mut custom = repeated(alloc, LONG, 29)?;
-    let last = "xxxxxxxxxxxxxxxxxxxxxxxxxxxxxxxxxxxxxxxxxxxxxxxxxx";
-    custom.push(alloc, Text::copy(alloc, last)?)?;
+    let mut last = String::new(alloc);
+    for _ in 0..letters {
+        last.push('x')?;
+    }
+    custom.push(alloc, Text::copy(alloc, &last)?)?;
     Ok(ChassisPart {
         chassis_type: 1,
         named,
@@ -444,25 +467,39 @@ fn long_chassis(alloc: Global) -> Result<ChassisPart, OutOfMemory>
     })
 }
 
+fn bare_board(alloc: Global) -> Result<BoardPart, OutOfMemory>
+    ensures { IfOk result (λ part. length part.named ≡ 5) }
+{
+    Ok(BoardPart {
+        minutes: 0,
+        named: texts(alloc, &["", "", "", "", ""])?,
+        custom: FieldTexts::new(alloc)?,
+    })
+}
+
 #[test]
 fn built_behind_long(rt: HostRuntime) -> Result<(), Fail> {
     let alloc = rt.alloc();
-    let alone = Parts {
-        chassis: Some(long_chassis(alloc)?),
-        board: None,
-        product: None,
-    };
-    let size = build(alloc, &alone).map(|bytes| bytes.as_slice().len());
-    assert_eq!(rt; size, Ok(2048));
-    let parts = Parts {
-        chassis: Some(long_chassis(alloc)?),
-        board: Some(BoardPart {
-            minutes: 0,
-            named: texts(alloc, &["", "", "", "", ""])?,
-            custom: FieldTexts::new(alloc)?,
-        }),
-        product: None,
-    };
-    assert_built(&rt, rt.alloc(), &parts, Err(BuildFault::RecordTooLong));
+    // letters, whether a board area follows, and the size of the record or the fault
+    let rows = [
+        (50, false, Ok(2048)),
+        (51, false, Err(BuildFault::AreaTooLong)),
+        (42, true, Ok(2056)),
+        (43, true, Err(BuildFault::RecordTooLong)),
+    ];
+    for (letters, followed, wanted) in rows {
+        let board = if followed {
+            Some(bare_board(alloc)?)
+        } else {
+            None
+        };
+        let parts = Parts {
+            chassis: Some(long_chassis(alloc, letters)?),
+            board,
+            product: None,
+        };
+        let size = build(alloc, &parts).map(|bytes| bytes.as_slice().len());
+        assert_eq!(rt; size, wanted, "at {letters}");
+    }
     Ok(())
 }
