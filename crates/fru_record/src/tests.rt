@@ -369,37 +369,39 @@ macro_rules! boards {
     };
 }
 
+// Minutes and named texts of a board, and its record or why there is none.
+const BOARDS: [(u32, &[&str], Result<&[u8], BuildFault>); 17] = boards! {
+    0, &["ACM", "RSR1", "S1", "", ""] => Ok(BOARD);
+    0xFF_FFFF, &["", "", "", "", ""] =>
+        Ok(b"\x01\x00\x00\x01\x00\x00\x00\xFE\x01\x02\x00\xFF\xFF\xFF\xC0\xC0\xC0\xC0\xC0\xC1\x00\x00\x00\x7F");
+    0x100_0000, &["ACM", "RSR1", "S1", "", ""] => Err(BuildFault::DateRange);
+    0, &["\u{FF}\u{FF}", "", "", "", ""] =>
+        Ok(b"\x01\x00\x00\x01\x00\x00\x00\xFE\x01\x02\x00\x00\x00\x00\xC2\xFF\xFF\xC0\xC0\xC0\xC0\xC1\x00\x7C");
+    0, &["\u{100}\u{100}", "", "", "", ""] => Err(BuildFault::TextNotLatin);
+    0, &[LONG, "", "", "", ""] =>
+        Ok(b"\x01\x00\x00\x01\x00\x00\x00\xFE\x01\x0A\x00\x00\x00\x00\xFFxxxxxxxxxxxxxxxxxxxxxxxxxxxxxxxxxxxxxxxxxxxxxxxxxxxxxxxxxxxxxxx\xC0\xC0\xC0\xC0\xC1\x00\x00\x00\x00\xAD");
+    0, &["ACM", TOO_LONG, "S1", "", ""] => Err(BuildFault::TextTooLong);
+    0, &["\x1F", "", "", "", ""] => Err(BuildFault::OneByte);
+    0, &[" ", "", "", "", ""] =>
+        Ok(b"\x01\x00\x00\x01\x00\x00\x00\xFE\x01\x02\x00\x00\x00\x00\x81\x00\xC0\xC0\xC0\xC0\xC1\x00\x00\xBB");
+    0, &["_", "", "", "", ""] =>
+        Ok(b"\x01\x00\x00\x01\x00\x00\x00\xFE\x01\x02\x00\x00\x00\x00\x81\x3F\xC0\xC0\xC0\xC0\xC1\x00\x00\x7C");
+    0, &["`", "", "", "", ""] => Err(BuildFault::OneByte);
+    0, &["ACM", "RSR1", "S1", "", "\u{FF}"] => Err(BuildFault::OneByte);
+    0, &["ACM", "\u{100}", "S1", "", ""] => Err(BuildFault::TextNotLatin);
+    // rule by rule, whichever text comes first
+    0x100_0000, &["\u{100}", "", "", "", ""] => Err(BuildFault::DateRange);
+    0, &[TOO_LONG, "RSR1", "\u{100}", "", ""] => Err(BuildFault::TextNotLatin);
+    0, &["a", "RSR1", TOO_LONG, "", ""] => Err(BuildFault::TextTooLong);
+    0, &["a", "RSR1", "S1", "", ""] => Err(BuildFault::OneByte);
+};
+
 #[test]
 fn built_boards(rt: HostRuntime) -> Result<(), Fail> {
     worked_parts();
     worked_build_faults();
     let alloc = rt.alloc();
-    let rows: [(u32, &[&str], Result<&[u8], BuildFault>); 17] = boards! {
-        0, &["ACM", "RSR1", "S1", "", ""] => Ok(BOARD);
-        0xFF_FFFF, &["", "", "", "", ""] =>
-            Ok(b"\x01\x00\x00\x01\x00\x00\x00\xFE\x01\x02\x00\xFF\xFF\xFF\xC0\xC0\xC0\xC0\xC0\xC1\x00\x00\x00\x7F");
-        0x100_0000, &["ACM", "RSR1", "S1", "", ""] => Err(BuildFault::DateRange);
-        0, &["\u{FF}\u{FF}", "", "", "", ""] =>
-            Ok(b"\x01\x00\x00\x01\x00\x00\x00\xFE\x01\x02\x00\x00\x00\x00\xC2\xFF\xFF\xC0\xC0\xC0\xC0\xC1\x00\x7C");
-        0, &["\u{100}\u{100}", "", "", "", ""] => Err(BuildFault::TextNotLatin);
-        0, &[LONG, "", "", "", ""] =>
-            Ok(b"\x01\x00\x00\x01\x00\x00\x00\xFE\x01\x0A\x00\x00\x00\x00\xFFxxxxxxxxxxxxxxxxxxxxxxxxxxxxxxxxxxxxxxxxxxxxxxxxxxxxxxxxxxxxxxx\xC0\xC0\xC0\xC0\xC1\x00\x00\x00\x00\xAD");
-        0, &["ACM", TOO_LONG, "S1", "", ""] => Err(BuildFault::TextTooLong);
-        0, &["\x1F", "", "", "", ""] => Err(BuildFault::OneByte);
-        0, &[" ", "", "", "", ""] =>
-            Ok(b"\x01\x00\x00\x01\x00\x00\x00\xFE\x01\x02\x00\x00\x00\x00\x81\x00\xC0\xC0\xC0\xC0\xC1\x00\x00\xBB");
-        0, &["_", "", "", "", ""] =>
-            Ok(b"\x01\x00\x00\x01\x00\x00\x00\xFE\x01\x02\x00\x00\x00\x00\x81\x3F\xC0\xC0\xC0\xC0\xC1\x00\x00\x7C");
-        0, &["`", "", "", "", ""] => Err(BuildFault::OneByte);
-        0, &["ACM", "RSR1", "S1", "", "\u{FF}"] => Err(BuildFault::OneByte);
-        0, &["ACM", "\u{100}", "S1", "", ""] => Err(BuildFault::TextNotLatin);
-        // rule by rule, whichever text comes first
-        0x100_0000, &["\u{100}", "", "", "", ""] => Err(BuildFault::DateRange);
-        0, &[TOO_LONG, "RSR1", "\u{100}", "", ""] => Err(BuildFault::TextNotLatin);
-        0, &["a", "RSR1", TOO_LONG, "", ""] => Err(BuildFault::TextTooLong);
-        0, &["a", "RSR1", "S1", "", ""] => Err(BuildFault::OneByte);
-    };
-    for (minutes, named, wanted) in rows {
+    for (minutes, named, wanted) in BOARDS {
         assert_eq!(rt; named.len(), 5);
         let parts = board_of(alloc, minutes, named, FieldTexts::new(alloc)?)?;
         assert_built(&rt, rt.alloc(), &parts, wanted);
