@@ -1,5 +1,6 @@
 -- The fields so far, and those of the bytes that are left.
-use Rattle.std.proofs.Common.{Bool, refl, ◌≡◌, ℕ, zero, suc, ◌+◌, ◌<◌, ◌≤◌, List, [], ◌∷◌, ◌++◌, length, Result, Ok, Err, Option, Some, None, arith, ap, sym, ◌∙◌, append_assoc, append-nil}
+use Rattle.std.proofs.Common.{Bool, refl, ◌≡◌, ℕ, zero, suc, ◌+◌, ◌<◌, ◌≤◌, List, [], ◌∷◌, ◌++◌, length, take, Result, Ok, Err, Option, Some, None, arith, ap, sym, ◌∙◌, append_assoc, append-nil}
+use Rattle.std.proofs.lemmas.List.{length-take, take-append-le}
 use Rattle.std.specs.Prelude.{⊤}
 use Rattle.fru_area.specs.declared.area.NextName.{NextName}
 use Rattle.fru_area.specs.declared.fault.Area.{Area}
@@ -7,7 +8,7 @@ use Rattle.fru_area.specs.declared.fault.FruFault.{FruFault}
 use Rattle.fru_area.specs.declared.fault.FruFault.TheVariants as faults
 use Rattle.fru_area.specs.declared.field.Field.{Field}
 use Rattle.fru_area.specs.declared.name.FieldName.{FieldName}
-use Rattle.fru_area.specs.Answers.{GivesFault, checked}
+use Rattle.fru_area.specs.Answers.{GivesFault, checked, seen}
 use Rattle.fru_area.specs.Areas.{named, named_field, named_ok, area_fields}
 use Rattle.fru_area.specs.Texts.{text_of}
 use Rattle.fru_area.specs.Views.{IsNext}
@@ -63,16 +64,22 @@ pub record GoesOn (area : Area) (english : Bool) (names : List FieldName) (numbe
   pub enough : length bytes < most
   pub comes : so_far area english names number fields (walk area most bytes) ≡ all
 
-so_far-start : (area : Area) (english : Bool) (names : List FieldName) (r : Result (List Raw) FruFault) → so_far area english names 1 [] r ≡ named_ok area english names r
-so_far-start area english names (Ok raws) = refl
-so_far-start area english names (Err fault) = refl
+so_far-start :
+    (area : Area) (english : Bool) (names : List FieldName) (fields : List Field) (r : Result (List Raw) FruFault) →
+    so_far area english names 1 fields r ≡ seen (λ more. fields ++ more) (named_ok area english names r)
+so_far-start area english names fields (Ok raws) = refl
+so_far-start area english names fields (Err fault) = refl
 
-pub GoesOn-start : (area : Area) (english : Bool) (names : List FieldName) (fields : List Field) (bytes all : List ℕ) (start : ℕ) → fields ≡ [] → bytes ≡ field_bytes all start → length bytes ≤ length all → GoesOn area english names 1 fields bytes (area_fields area english names all start)
+-- at the first field the list is as it was
+pub GoesOn-start :
+    (area : Area) (english : Bool) (names : List FieldName) (fields : List Field) (bytes all : List ℕ) (start : ℕ) →
+    bytes ≡ field_bytes all start → length bytes ≤ length all →
+    GoesOn area english names 1 fields bytes (seen (λ more. fields ++ more) (area_fields area english names all start))
 unfolding area_fields raw_fields
-GoesOn-start area english names fields bytes all start n e l = record {
+GoesOn-start area english names fields bytes all start is shorter = record {
   most = length all + 1;
   enough = omega arith;
-  comes = rw (n, e) (so_far-start area english names _);
+  comes = rw is (so_far-start area english names fields _);
 }
 
 named_next : (area : Area) (english : Bool) (names : List FieldName) (number : ℕ) (next : NextName) (raw : Raw) (raws : List Raw) → IsNext area names number next → named area english names number (raw ∷ raws) ≡ named_field english next.name raw ∷ named area english next.later.now next.number raws
@@ -115,9 +122,31 @@ gives_fault (faults.AreaChecksum a) read e = e
 gives_fault (faults.FieldOutside a) read e = e
 gives_fault (faults.NoEnd a) read e = e
 
-pub GoesOn-fault : (area : Area) (english : Bool) (names : List FieldName) (number : ℕ) (fields : List Field) (bytes : List ℕ) (all : Result (List Field) FruFault) (fault : FruFault) → first_field area bytes ≡ Err fault → GoesOn area english names number fields bytes all → GivesFault fault all
-GoesOn-fault area english names number fields bytes all fault e h = gives_fault fault all (from h.most h.enough h.comes)
+pub GoesOn-fault :
+    (area : Area) (english : Bool) (names : List FieldName) (number : ℕ) (fields : List Field) (bytes : List ℕ)
+    (all : Result (List Field) FruFault) (fault : FruFault) →
+    first_field area bytes ≡ Err fault → GoesOn area english names number fields bytes all → all ≡ Err fault
+GoesOn-fault area english names number fields bytes all fault e h = from h.most h.enough h.comes
   where
     from : (most : ℕ) → length bytes < most → so_far area english names number fields (walk area most bytes) ≡ all → all ≡ Err fault
     from zero enough comes = absurd (omega arith)
     from (suc m) enough comes = sym comes ∙ ap (so_far area english names number fields) (walk_more area m bytes _ e)
+
+-- a fault of what is appended is one of what is read
+pub GivesFault-seen :
+    {X Y : Type 0} (view : X → Y) (read : Result X FruFault) (fault : FruFault) → seen view read ≡ Err fault → GivesFault fault read
+GivesFault-seen view (Ok x) fault e = absurd (cc)
+GivesFault-seen view (Err other) fault e = let same : other ≡ fault = cc in gives_fault fault (Err other) (ap Err same)
+
+-- a list of their own has the fields that are read
+pub Gives-appended :
+    {X : Type 0} (read : Result (List X) FruFault) (old new : List X) → old ≡ [] → seen (λ more. old ++ more) read ≡ Ok new → read ≡ Ok new
+Gives-appended (Ok more) old new empty e = rw empty at e
+Gives-appended (Err fault) old new empty e = absurd (cc)
+
+-- a list with an element more begins as before
+pub front-more :
+    {X : Type 0} (old list new : List X) (item : X) → new ≡ list ++ item ∷ [] → take (length old) list ≡ old → take (length old) new ≡ old
+front-more old list new item pushed front =
+    let short : length old ≤ length list = omega (arith, length-take (length old) list, ap length front) in
+    rw pushed (take-append-le (length old) list (item ∷ []) short ∙ front)

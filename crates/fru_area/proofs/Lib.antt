@@ -1,6 +1,6 @@
 pub mod Fields
 pub mod Latin
-pub mod NameTexts
+pub mod NamesLemmas
 pub mod SixBits
 pub mod Spelled
 pub mod Units

@@ -30,6 +30,11 @@ name_text ProductAssetTag = codes "PRODUCT_ASSET_TAG"
 name_text ProductFruVersionId = codes "PRODUCT_FRU_VERSION_ID"
 name_text (Custom area number) = custom_prefix area ++ decimal number
 
+-- the number in the name of a custom field
+abbrev pub number_of : FieldName → ℕ
+number_of (Custom area number) = number
+number_of _ = 0
+
 -- The names of fields: those of the enum, and custom ones numbered from 1. An area of at most 2,040 bytes has no
 -- more.
 abbrev pub IsName : FieldName → Type 0

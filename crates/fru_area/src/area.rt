@@ -1,8 +1,8 @@
-ghost use Rattle.std.specs.Prelude.{◌≡◌, ◌+◌, ◌<◌, ◌≤◌, length, IfOk, IfSome};
+ghost use Rattle.std.specs.Prelude.{◌≡◌, ◌+◌, ◌<◌, ◌≤◌, length, take, IfOk, IfSome};
 ghost use Rattle.fru_area.specs.Headers.{area_at};
 ghost use Rattle.fru_area.specs.Walks.{raw_fields, field_bytes};
 ghost use Rattle.fru_area.specs.Areas.{area_fields};
-ghost use Rattle.fru_area.specs.Answers.{Gives, checked, seen};
+ghost use Rattle.fru_area.specs.Answers.{Appends, Gives, checked, seen};
 ghost use Rattle.fru_area.specs.Walks.{first_field};
 ghost use Rattle.fru_area.specs.Views.{found_view, IsNext};
 
@@ -106,8 +106,40 @@ fn next_name(area: Area, names: &[FieldName], number: u16) -> NextName<'_>
     }
 }
 
-/// The fields of a whole area with its checksum, from byte `start` on. The first N get the names,
-/// further ones are custom fields from 1. `FieldOutside` or `NoEnd` is the first rule that is broken.
+/// Appends the fields of a whole area with its checksum, from byte `start` on. The first N get the
+/// names, further ones are custom fields from 1. `FieldOutside` or `NoEnd` is the first rule that is
+/// broken. What stood in the list stays in front, and behind it may stand fields of the area even then.
+pub fn append_area<const N: usize>(
+    list: &mut FieldList,
+    alloc: Global,
+    area: Area,
+    bytes: &[u8],
+    start: usize,
+    english: bool,
+    names: [FieldName; N],
+) -> Result<(), FruFault>
+    requires room { start < length bytes.now }
+    requires short { length bytes.now ≤ 2040 }
+    ensures fields { Appends result list.old list.new (area_fields area english names.entry bytes.now start) }
+    ensures front { take (length list.old) list.new ≡ list.old }
+{
+    let mut rest = field_bytes(bytes, start);
+    let mut names = &names[..];
+    let mut number = 1;
+    while let Some(raw) = raw_field(area, rest)? {
+        let next = next_name(area, names, number);
+        let name = next.name;
+        let text = field_text(raw.kind, english, raw.bytes);
+        list.push(alloc, Field { name, text })?;
+        names = next.later;
+        number = next.number;
+        rest = raw.rest;
+    }
+    Ok(())
+}
+
+/// The fields of a whole area with its checksum, from byte `start` on, in a list of their own, as
+/// `append_area` gives them.
 pub fn read_area<const N: usize>(
     alloc: Global,
     area: Area,
@@ -121,18 +153,7 @@ pub fn read_area<const N: usize>(
     ensures { Gives result (area_fields area english names.entry bytes.now start) }
 {
     let mut fields = FieldList::new(alloc)?;
-    let mut rest = field_bytes(bytes, start);
-    let mut names = &names[..];
-    let mut number = 1;
-    while let Some(raw) = raw_field(area, rest)? {
-        let next = next_name(area, names, number);
-        let name = next.name;
-        let text = field_text(raw.kind, english, raw.bytes);
-        fields.push(alloc, Field { name, text })?;
-        names = next.later;
-        number = next.number;
-        rest = raw.rest;
-    }
+    append_area(&mut fields, alloc, area, bytes, start, english, names)?;
     Ok(fields)
 }
 

@@ -1,4 +1,5 @@
-ghost use Rattle.std.specs.Prelude.{◌≡◌, ◌≤◌, ◌<◌, ◌+◌, ◌∷◌, ◌++◌, [], length, encode_utf8, IfSome, IfNone, IfOk, OnOk, OnErr};
+ghost use Rattle.std.specs.Prelude.{◌≡◌, ◌≤◌, ◌<◌, ◌+◌, ◌∷◌, ◌++◌, [], length, encode_utf8, IfSome, IfNone, IfOk, OnOk, OnErr, IsTrue, ◌↔◌, bytes_eq};
+ghost use Rattle.fru_area.specs.Names.{name_text};
 
 use crate::FieldName;
 use arrayvec::ArrayString;
@@ -92,6 +93,18 @@ impl FieldText {
 pub struct Field {
     pub name: FieldName,
     pub text: FieldText,
+}
+
+impl Field {
+    /// Whether the field has this name. It compares no text, as each name has a text of its own.
+    pub fn is_named(&self, name: FieldName) -> bool
+        ensures same { IsTrue result ↔ (self.now.name ≡ name) }
+        ensures text { result ≡ bytes_eq (name_text self.now.name) (name_text name) }
+    {
+        // the range of its number, by which its text is its own
+        let _number = name.number();
+        self.name.is(name)
+    }
 }
 
 /// Fields, in the order of the record.

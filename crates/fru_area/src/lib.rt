@@ -13,10 +13,10 @@ mod name;
 mod tests;
 mod text;
 
-pub use area::{area_bytes, check_fields, read_area};
+pub use area::{append_area, area_bytes, check_fields, read_area};
 pub use fault::{Area, FruFault};
 pub use field::{Field, FieldList, FieldText};
 pub use header::{Header, area_sum, read_header};
-pub use law::one_reading;
+pub use law::{one_name, one_reading};
 pub use name::FieldName;
 pub use text::field_text;

@@ -1,5 +1,5 @@
-ghost use Rattle.std.specs.Prelude.{◌≡◌, ◌≤◌, ◌++◌, ℕ, length, decimal, Some, IfSome, IfNone, IsTrue, ◌↔◌};
-ghost use Rattle.fru_area.specs.Names.{name_text, custom_prefix, IsName};
+ghost use Rattle.std.specs.Prelude.{◌≡◌, ◌≤◌, ◌<◌, ◌^◌, ◌++◌, ℕ, length, decimal, Some, IfSome, IfNone, IsTrue, ◌↔◌};
+ghost use Rattle.fru_area.specs.Names.{name_text, number_of, custom_prefix, IsName};
 ghost use Rattle.fru_area.specs.Views.{number_text, IsFixed, LacksNumber};
 ghost use Rattle.fru_area.specs.declared.name.FieldName.{FieldName};
 
@@ -53,6 +53,24 @@ impl FieldName {
             .or(read_custom(Area::Chassis, text))
             .or(read_custom(Area::Board, text))
             .or(read_custom(Area::Product, text))
+    }
+
+    // Whether two names are one.
+    pub(crate) fn is(self, other: FieldName) -> bool
+        ensures { IsTrue result ↔ (self ≡ other) }
+    {
+        self == other
+    }
+
+    // The number of a custom field, or zero.
+    pub(crate) fn number(self) -> u16
+        ensures exact { result ≡ number_of self }
+        ensures range { result < 2 ^ 16 }
+    {
+        match self {
+            FieldName::Custom(_, number) => number,
+            _ => 0,
+        }
     }
 
     // The name, but for the number of a custom field.

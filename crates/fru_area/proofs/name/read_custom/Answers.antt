@@ -1,7 +1,7 @@
 use Rattle.std.proofs.Common.{◌≡◌, ◌≤◌, ◌++◌, ℕ, decimal, sym, ap, ◌∙◌, arith}
 use Rattle.std.proofs.lemmas.Slice.Eq.{bytes_eq-Decides}
 use Rattle.fru_area.specs.Names.{custom_prefix}
-use Rattle.fru_area.proofs.NameTexts.{parsed_number, name_text-custom}
+use Rattle.fru_area.proofs.NamesLemmas.{parsed_number, name_text-custom}
 use Rattle.fru_area.proofs.name.read_custom.Goals as goal
 
 pub returns-in_err-number-clause-none : goal.returns-in_err-number-clause-none
