@@ -1,6 +1,7 @@
 pub mod BuildingLemmas
 pub mod DatesLemmas
 pub mod LayoutsLemmas
+pub mod LookupsLemmas
 pub mod RecordsLemmas
 pub mod SpellingsLemmas
 pub mod TextRulesLemmas

@@ -1,7 +1,7 @@
 -- What comes of reading and of checking a record, step by step.
-use Rattle.std.proofs.Common.{◌≡◌, ◌≢◌, ◌*◌, ℕ, zero, suc, List, [], ◌∷◌, ◌++◌, Bool, true, false, cond, Option, Some, None, Result, Ok, Err, refl, ap, sym, ◌∙◌}
+use Rattle.std.proofs.Common.{◌≡◌, ◌≢◌, ◌*◌, ℕ, zero, suc, List, [], ◌∷◌, ◌++◌, Bool, true, false, cond, Option, Some, None, Result, Ok, Err, refl, ap, sym, ◌∙◌, append_assoc, append-nil}
 use Rattle.std.proofs.lemmas.Bool.{ne_eqb}
-use Rattle.fru_area.specs.Answers.{GivesFault, checked}
+use Rattle.fru_area.specs.Answers.{Appends, GivesFault, checked, seen}
 use Rattle.fru_area.specs.Areas.{area_fields, named_ok}
 use Rattle.fru_area.specs.Headers.{header, area_at}
 use Rattle.fru_area.specs.declared.fault.Area.{Area}
@@ -46,9 +46,21 @@ GivesFault-then (faults.NoEnd a) read f h = ap (λ r. r >>= f) h
 abbrev pub named_of : Area → List ℕ → Result (List Field) FruFault
 named_of area bytes = area_fields area (is_english area bytes) (names_of area) bytes (fields_start area)
 
-pub fields_of_area-fault : (area : Area) (bytes : List ℕ) (fault : FruFault) → GivesFault fault (named_of area bytes) → GivesFault fault (fields_of_area area bytes)
+inner : {X : Type 0} (x y : X) → (let r : Result X FruFault = Ok x in r ≡ Ok y) → x ≡ y
+inner x y e = cc
+
+-- a list to which what reading gives was appended
+pub appended : {X : Type 0} (old new : List X) (read : Result (List X) FruFault) → seen (λ (more : List X). old ++ more) read ≡ Ok new → (more : List X) × (read ≡ Ok more) × (new ≡ old ++ more)
+appended old new (Ok more) h = (more, refl, sym (inner (old ++ more) new h))
+appended old new (Err fault) h = absurd (cc)
+
+pub Appends-fields : (area : Area) (bytes : List ℕ) (answer : Result ⊤ FruFault) (old mid new : List Field) → mid ≡ old ++ fixed_fields area bytes → Appends answer mid new (named_of area bytes)
+    → Appends answer old new (fields_of_area area bytes)
 unfolding fields_of_area
-fields_of_area-fault area bytes fault h = GivesFault-then fault (named_of area bytes) (λ fields. Ok (fixed_fields area bytes ++ fields)) h
+Appends-fields area bytes (Err fault) old mid new m h = GivesFault-then fault (named_of area bytes) (λ fields. Ok (fixed_fields area bytes ++ fields)) h
+Appends-fields area bytes (Ok done) old mid new m h =
+    let read = appended mid new (named_of area bytes) h in
+    rw (read.1) (ap Ok (sym (read.2 ∙ ap (λ (list : List Field). list ++ read.0) m ∙ append_assoc old (fixed_fields area bytes) read.0)))
 
 pub fields_of_area-ok : (area : Area) (bytes : List ℕ) (fixed named all : List Field) → fixed ≡ fixed_fields area bytes → named_of area bytes ≡ Ok named → all ≡ fixed ++ named → fields_of_area area bytes ≡ Ok all
 unfolding fields_of_area
@@ -67,6 +79,9 @@ fields_at-fault area bytes offset fault ne e = GivesFault-from fault _ (fields_a
 
 pub fields_at-present : (area : Area) (bytes found : List ℕ) (offset : ℕ) → offset ≢ 0 → area_at area bytes (8 * offset) ≡ Ok found → fields_at area bytes offset ≡ fields_of_area area found
 fields_at-present area bytes found offset ne e = fields_at-placed area bytes offset ne ∙ ap (λ (r : Result (List ℕ) FruFault). r >>= fields_of_area area) e
+
+pub Appends-absent : (area : Area) (bytes : List ℕ) (offset : ℕ) (old : List Field) → offset ≡ 0 → Appends (Ok tt) old old (fields_at area bytes offset)
+Appends-absent area bytes offset old z = rw (fields_at-absent area bytes offset [] z refl) (ap Ok (append-nil old))
 
 -- where the header is whole, and where the areas before one are
 pub record_of-header : (bytes : List ℕ) (at : Header) → header bytes ≡ Ok at → record_of bytes ≡ fields_under bytes at
@@ -144,6 +159,17 @@ checked-inside area bytes found offset start answer ne e s a =
 
 pub checked-absent : (area : Area) (bytes : List ℕ) (offset : ℕ) → offset ≡ 0 → Ok tt ≡ checked (fields_at area bytes offset)
 checked-absent area bytes offset z = sym (ap (λ (r : Result (List Field) FruFault). checked r) (fields_at-absent area bytes offset [] z refl))
+
+-- a record whose areas were appended in turn
+pub record_of-appended : (bytes : List ℕ) (at : Header) (a b c : ⊤) (none first second all : List Field) → header bytes ≡ Ok at → none ≡ []
+    → Appends (Ok a) none first (fields_at Chassis bytes at.chassis) → Appends (Ok b) first second (fields_at Board bytes at.board)
+    → Appends (Ok c) second all (fields_at Product bytes at.product) → record_of bytes ≡ Ok all
+record_of-appended bytes at a b c none first second all e n chassis board product =
+    let one = appended none first (fields_at Chassis bytes at.chassis) chassis in
+    let two = appended first second (fields_at Board bytes at.board) board in
+    let three = appended second all (fields_at Product bytes at.product) product in
+    record_of-header bytes at e ∙ fields_under-ok bytes at one.0 two.0 three.0 one.1 two.1 three.1
+    ∙ ap Ok (sym (three.2 ∙ ap (λ (list : List Field). list ++ three.0) (two.2 ∙ ap (λ (list : List Field). list ++ two.0) (one.2 ∙ ap (λ (list : List Field). list ++ one.0) n))))
 
 -- A fault of reading names a rule, never want of memory.
 abbrev pub NamesRule : {X : Type 0} → Result X FruFault → Type 0

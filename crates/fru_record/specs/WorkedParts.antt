@@ -1,7 +1,6 @@
 -- Parts of records, and the bytes that are built of them.
 use Rattle.std.specs.Prelude.{ℕ, List, [], ◌∷◌, ◌++◌, codes, replicate, Option, Some, None}
 use Rattle.fru_record.specs.declared.parts.Parts.{Parts}
-use Rattle.fru_record.specs.declared.parts.ChassisPart.{ChassisPart}
 use Rattle.fru_record.specs.declared.parts.BoardPart.{BoardPart}
 
 -- all three areas

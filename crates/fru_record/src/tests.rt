@@ -7,7 +7,7 @@ use crate::{
     worked_faults, worked_parts, worked_records,
 };
 use bmc_base::{OutOfMemory, Text};
-use fru_area::{Area, FruFault};
+use fru_area::{Area, FieldName, FruFault};
 use std::alloc::Global;
 use std::process::Abort;
 use std::test::Fail;
@@ -287,24 +287,39 @@ fn long_records(rt: HostRuntime) -> Result<(), Fail> {
     Ok(())
 }
 
+fn assert_text(rt: &impl Abort, given: Option<&str>, wanted: Option<&str>, name: &str) {
+    match (given, wanted) {
+        (Some(given), Some(wanted)) => assert_eq!(rt; given, wanted, "at {name}"),
+        (None, None) => {}
+        _ => assert!(rt; false, "at {name}"),
+    }
+}
+
 #[test]
 fn fields_by_name(rt: HostRuntime) -> Result<(), Fail> {
     let record = FruRecord::decode(rt.alloc(), WHOLE)?;
+    let names = [
+        (FieldName::BoardSerialNumber, Some("S1")),
+        (FieldName::Custom(Area::Board, 1), Some("Z")),
+        (FieldName::BoardPartNumber, Some("")),
+        (FieldName::Custom(Area::Board, 2), None),
+        (FieldName::Custom(Area::Product, 1), None),
+    ];
+    for (name, text) in names {
+        assert_text(&rt, record.field_named(name), text, "a name");
+    }
     let rows = [
         ("BOARD_SERIAL_NUMBER", Some("S1")),
         ("BOARD_INFO_AM1", Some("Z")),
         ("BOARD_PART_NUMBER", Some("")),
         ("BOARD_INFO_AM2", None),
+        ("BOARD_INFO_AM01", None),
         ("BOARD_INFO_AM", None),
         ("board_info_am1", None),
         ("", None),
     ];
     for (name, text) in rows {
-        match (record.field(name), text) {
-            (Some(given), Some(text)) => assert_eq!(rt; given, text),
-            (None, None) => {}
-            _ => assert!(rt; false, "at {name}"),
-        }
+        assert_text(&rt, record.field(name), text, name);
     }
     Ok(())
 }
