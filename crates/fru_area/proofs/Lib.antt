@@ -4,3 +4,4 @@ pub mod NamesLemmas
 pub mod SixBits
 pub mod Spelled
 pub mod Units
+pub mod PositionsLemmas

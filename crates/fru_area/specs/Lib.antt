@@ -1,5 +1,6 @@
 pub mod Headers
 pub mod Walks
+pub mod Positions
 pub mod Texts
 pub mod Names
 pub mod Areas

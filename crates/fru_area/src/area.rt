@@ -1,11 +1,12 @@
 ghost use Rattle.std.specs.Prelude.{◌≡◌, ◌+◌, ◌<◌, ◌≤◌, length, take, IfOk, IfSome};
-ghost use Rattle.fru_area.specs.Headers.{area_at};
+ghost use Rattle.fru_area.specs.Headers.{area_at, unit, longest_area, last_start};
 ghost use Rattle.fru_area.specs.Walks.{raw_fields, field_bytes};
 ghost use Rattle.fru_area.specs.Areas.{area_fields};
 ghost use Rattle.fru_area.specs.Answers.{Appends, Gives, checked, seen};
 ghost use Rattle.fru_area.specs.Walks.{first_field};
 ghost use Rattle.fru_area.specs.Views.{found_view, IsNext};
 
+use crate::header::{FORMAT_VERSION, UNIT};
 use crate::{Area, Field, FieldList, FieldName, FruFault, area_sum, field_text};
 use std::alloc::Global;
 
@@ -13,18 +14,18 @@ use std::alloc::Global;
 /// `AreaVersion`, `AreaLength`, `AreaChecksum`. It takes no memory.
 #[tactic(auto, unfolding(crate::specs::Headers::area_at))]
 pub fn area_bytes(area: Area, bytes: &[u8], start: usize) -> Result<&[u8], FruFault>
-    requires { start ≤ 2040 }
+    requires { start ≤ last_start }
     ensures exact { seen (λ found. found.now) result ≡ area_at area bytes.now start }
-    ensures size { IfOk result (λ found. (8 ≤ length found.now) × (length found.now ≤ 2040)) }
+    ensures size { IfOk result (λ found. (unit ≤ length found.now) × (length found.now ≤ longest_area)) }
 {
-    if bytes.len() < start + 8 {
+    if bytes.len() < start + UNIT {
         return Err(FruFault::AreaOutside(area));
     }
-    let len = 8 * usize::from(bytes[start + 1]);
+    let len = UNIT * usize::from(bytes[start + 1]);
     if bytes.len() < start + len {
         return Err(FruFault::AreaOutside(area));
     }
-    if bytes[start] != 1 {
+    if bytes[start] != FORMAT_VERSION {
         return Err(FruFault::AreaVersion(area));
     }
     if len == 0 {
@@ -119,7 +120,7 @@ pub fn append_area<const N: usize>(
     names: [FieldName; N],
 ) -> Result<(), FruFault>
     requires room { start < length bytes.now }
-    requires short { length bytes.now ≤ 2040 }
+    requires short { length bytes.now ≤ longest_area }
     ensures fields { Appends result list.old list.new (area_fields area english names.entry bytes.now start) }
     ensures front { take (length list.old) list.new ≡ list.old }
 {
@@ -149,7 +150,7 @@ pub fn read_area<const N: usize>(
     names: [FieldName; N],
 ) -> Result<FieldList, FruFault>
     requires room { start < length bytes.now }
-    requires short { length bytes.now ≤ 2040 }
+    requires short { length bytes.now ≤ longest_area }
     ensures { Gives result (area_fields area english names.entry bytes.now start) }
 {
     let mut fields = FieldList::new(alloc)?;

@@ -3,6 +3,18 @@ ghost use Rattle.fru_area.specs.Headers.{checksum, header};
 
 use crate::FruFault;
 
+/// The version of the format, and of each area.
+pub(crate) const FORMAT_VERSION: u8 = 1;
+
+// The bytes of a common header, and so of the shortest record.
+const HEADER_LEN: usize = 8;
+
+// The most bytes of a record.
+const LONGEST_RECORD: usize = 4096;
+
+/// Offsets and lengths of areas count multiples of so many bytes.
+pub(crate) const UNIT: usize = 8;
+
 /// Where the areas begin, in multiples of 8 bytes; 0 where an area is absent (FRU definition 1.0,
 /// section 8).
 #[derive(Clone, Copy, Debug, PartialEq, Eq)]
@@ -34,16 +46,16 @@ pub fn area_sum(bytes: &[u8]) -> u8
 pub fn read_header(bytes: &[u8]) -> Result<Header, FruFault>
     ensures { result ≡ header bytes.now }
 {
-    if bytes.len() < 8 {
+    if bytes.len() < HEADER_LEN {
         return Err(FruFault::FruShort);
     }
-    if bytes.len() > 4096 {
+    if bytes.len() > LONGEST_RECORD {
         return Err(FruFault::FruTooLong);
     }
-    if bytes[0] != 1 {
+    if bytes[0] != FORMAT_VERSION {
         return Err(FruFault::HeaderVersion);
     }
-    if area_sum(&bytes[..8]) != 0 {
+    if area_sum(&bytes[..HEADER_LEN]) != 0 {
         return Err(FruFault::HeaderChecksum);
     }
     Ok(Header {

@@ -17,6 +17,6 @@ pub use area::{append_area, area_bytes, check_fields, read_area};
 pub use fault::{Area, FruFault};
 pub use field::{Field, FieldList, FieldText};
 pub use header::{Header, area_sum, read_header};
-pub use law::{one_name, one_reading};
+pub use law::{one_name, one_reading, reading_by_positions};
 pub use name::FieldName;
 pub use text::field_text;
