@@ -132,11 +132,13 @@ placed area before body after offset raws fields at spelled is =
     let units : get_or (before ++ area_bytes body ++ after) (8 * offset + 1) 0 ≡ area_units body = index-middle before (area_bytes body) after (8 * offset) 1 at (omega arith) in
     let range : slice_range (before ++ area_bytes body ++ after) (8 * offset) (area_end (before ++ area_bytes body ++ after) (8 * offset)) ≡ area_bytes body = ap (λ (n : ℕ). slice_range (before ++ area_bytes body ++ after) (8 * offset) (8 * offset + 8 * n)) units ∙ range-middle before (area_bytes body) after (8 * offset) (8 * area_units body) at long in
     record {
-      head = omega arith;
-      inside = omega arith;
-      version = version;
-      size = omega arith;
-      sum = ap checksum range ∙ closing_sum (area_front body);
+      placed = record {
+        head = omega arith;
+        inside = omega arith;
+        version = version;
+        size = omega arith;
+        sum = ap checksum range ∙ closing_sum (area_front body);
+      };
       raws = raws;
       spelled = subst (λ (bytes : List ℕ). Spells (field_bytes bytes (fields_start area)) raws) (sym range) spelled;
       named_so = is ∙ ap (λ (bytes : List ℕ). fixed_fields area bytes ++ named area (is_english area bytes) (names_of area) 1 raws) (sym range);
@@ -215,10 +217,7 @@ spelled-built parts u w early most =
     let behind_board : length (head ++ bytes_of chassis ++ bytes_of board) ≡ 8 * (1 + units_of chassis + units_of board) = omega (arith, length-append (head ++ bytes_of chassis) (bytes_of board), length-bytes_of board) in
     let whole : length (head ++ bytes_of chassis ++ bytes_of board ++ bytes_of product) ≡ 8 * (1 + units_of chassis + units_of board + units_of product) = omega (arith, length-append (head ++ bytes_of chassis ++ bytes_of board) (bytes_of product), length-bytes_of product) in
     record {
-      least = omega (arith, whole);
-      most = omega (arith, whole);
-      version = refl;
-      sum = closing_sum front;
+      header = record { least = omega (arith, whole); limit = omega (arith, whole); version = refl; sum = closing_sum front };
       chassis = chassis_fields parts.chassis;
       board = board_fields parts.board;
       product = product_fields parts.product;

@@ -5,7 +5,7 @@ use Rattle.std.specs.List.{list_any}
 use Rattle.std.proofs.lemmas.Bool.{cases_lt, lt-ltb, le-ltb, ltb-false, ne_eqb}
 use Rattle.fru_record.specs.Building.{build_fault, has_late_date, is_long_area, is_long_record, units_of, area_units, offset_of, chassis_body, board_body, product_body, GivesBytes, record_bytes, bytes_of, header_front, closing_byte}
 use Rattle.fru_record.specs.Parts.{texts_of, chassis_texts, board_texts, product_texts}
-use Rattle.fru_record.specs.Layouts.{IsLayout, IsBuildable, HasOffsets, offset_at, header_start}
+use Rattle.fru_record.specs.Layouts.{is_long_layout, IsLayout, IsBuildable, HasOffsets, offset_at, header_start}
 use Rattle.fru_record.specs.TextRules.{AreWritable, breaks}
 use Rattle.fru_record.specs.declared.builder.BuildFault.{BuildFault}
 use Rattle.fru_record.specs.declared.builder.BuildFault.TheVariants.{DateRange, TextNotLatin, TextTooLong, OneByte, AreaTooLong, RecordTooLong, OutOfMemory}
@@ -87,7 +87,7 @@ exact : (parts : Parts) (layout : Layout) → IsLayout parts layout → layout.c
 exact parts layout h c b p = record { chassis = capped_exact _ _ h.chassis c; board = capped_exact _ _ h.board b; product = capped_exact _ _ h.product p }
 
 abbrev pub long_by : (chassis board product : ℕ) → Bool
-long_by chassis board product = nat_lt 255 (offset_at (1 + chassis) board) || nat_lt 255 (offset_at (1 + chassis + board) product) || nat_lt 4096 (8 * (1 + chassis + board + product))
+long_by chassis board product = is_long_layout (record { chassis = chassis; board = board; product = product })
 
 long_by-bodies : (chassis board product : Option (List ℕ)) → long_by (units_of chassis) (units_of board) (units_of product) ≡ is_long_record chassis board product
 long_by-bodies chassis board product = rw (offset_of-at (1 + units_of chassis) board, offset_of-at (1 + units_of chassis + units_of board) product) refl

@@ -6,7 +6,6 @@ use Rattle.std.proofs.lemmas.List.Elements.{All-cons, All-append}
 use Rattle.std.proofs.lemmas.Slice.Eq.{bytes_eq-Decides}
 use Rattle.std.specs.Bool.{Decides}
 use Rattle.fru_area.specs.Areas.{named}
-use Rattle.fru_area.specs.Headers.{area_end}
 use Rattle.fru_area.specs.Names.{name_text, IsName}
 use Rattle.fru_area.specs.Walks.{Raw, Spells, ended, field, field_bytes}
 use Rattle.fru_area.specs.declared.fault.Area.{Area}
@@ -17,7 +16,7 @@ use Rattle.fru_area.specs.declared.field.Field.{Field}
 use Rattle.fru_record.specs.Dates.{minutes_of, date_text}
 use Rattle.fru_record.specs.Lookups.{text_named, AreNamed}
 use Rattle.fru_record.specs.Records.{names_of, fields_start, is_english, fixed_fields, record_of}
-use Rattle.fru_record.specs.Spellings.{SpellsArea, SpellsPart, absent, present}
+use Rattle.fru_record.specs.Spellings.{area_from, SpellsArea, SpellsPart, absent, present}
 use Rattle.fru_record.proofs.SpellingsLemmas.{record-spelled}
 
 none_of : {X : Type 0} (P : X → Type 0) → All P []
@@ -65,10 +64,10 @@ AreNamed-fixed Product bytes = none_of (λ (field : Field). IsName field.name)
 
 AreNamed-area : (area : Area) (bytes : List ℕ) (s : ℕ) (fields : List Field) → slice_index bytes (s + 1) < 256 → SpellsArea area bytes s fields → AreNamed fields
 AreNamed-area area bytes s fields byte spelled =
-    let english = is_english area (slice_range bytes s (area_end bytes s)) in
+    let english = is_english area (area_from bytes s) in
     let fewer = length-Spells _ spelled.raws spelled.spelled in
     let most = length-fields bytes s (8 * slice_index bytes (s + 1)) (fields_start area) in
-    rw spelled.named_so (AreNamed-append (fixed_fields area (slice_range bytes s (area_end bytes s))) (named area english (names_of area) 1 spelled.raws)
+    rw spelled.named_so (AreNamed-append (fixed_fields area (area_from bytes s)) (named area english (names_of area) 1 spelled.raws)
     (AreNamed-fixed area _) (AreNamed-named area english (names_of area) 1 spelled.raws (AreNames-area area) (omega arith) (omega arith)))
 
 AreNamed-part : (area : Area) (bytes : List ℕ) (offset : ℕ) (fields : List Field) → ((k : ℕ) → slice_index bytes k < 256) → SpellsPart area bytes offset fields → AreNamed fields

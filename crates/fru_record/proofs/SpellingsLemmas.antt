@@ -1,9 +1,9 @@
 -- What is read of a record is what its bytes spell.
-use Rattle.std.proofs.Common.{◌≡◌, ◌≢◌, ◌≤◌, ◌+◌, ◌*◌, ℕ, List, [], ◌++◌, length, take, Bool, true, false, not, cond, eq-eqb, nat_eq, nat_lt, slice_index, slice_range, Result, Ok, Err, refl, ap, sym, ◌∙◌}
+use Rattle.std.proofs.Common.{◌≡◌, ◌≢◌, ◌+◌, ◌*◌, ℕ, List, [], ◌++◌, length, take, Bool, true, false, not, cond, eq-eqb, nat_eq, nat_lt, slice_index, slice_range, Result, Ok, Err, refl, ap, sym, ◌∙◌}
 use Rattle.std.proofs.lemmas.Bool.{eqb-true, ne_eqb, ltb-false, le-ltb}
 use Rattle.std.specs.Prelude.{◌||◌}
 use Rattle.fru_area.specs.Areas.{named, named_ok, area_fields}
-use Rattle.fru_area.specs.Headers.{header, area_at, area_end, checksum}
+use Rattle.fru_area.specs.Headers.{unit, header_len, longest_record, header, area_at, area_end, checksum}
 use Rattle.fru_area.specs.Walks.{Raw, Spells, raw_fields, field_bytes}
 use Rattle.fru_area.specs.declared.fault.Area.{Area}
 use Rattle.fru_area.specs.declared.fault.Area.TheVariants.{Chassis, Board, Product}
@@ -12,7 +12,7 @@ use Rattle.fru_area.specs.declared.field.Field.{Field}
 use Rattle.fru_area.specs.declared.header.Header.{Header}
 use Rattle.fru_area.proofs.Spelled.{Spells-raw_fields, raw_fields-Spells}
 use Rattle.fru_record.specs.Records.{names_of, fields_start, is_english, fixed_fields, fields_of_area, fields_at, fields_under, record_of, ◌>>=◌}
-use Rattle.fru_record.specs.Spellings.{SpellsArea, SpellsPart, absent, present, SpellsRecord}
+use Rattle.fru_record.specs.Spellings.{area_from, HasHeader, HasArea, SpellsArea, SpellsPart, absent, present, SpellsRecord}
 use Rattle.fru_record.proofs.RecordsLemmas.{named_of, fields_of_area-ok, fields_at-absent, fields_at-placed, fields_at-present, record_of-header, fields_under-ok}
 
 then_parts : {X Y : Type 0} (r : Result X FruFault) (f : X → Result Y FruFault) (y : Y) → (r >>= f) ≡ Ok y → (x : X) × (r ≡ Ok x) × (f x ≡ Ok y)
@@ -42,12 +42,6 @@ inner x y e = cc
 abbrev header_of : List ℕ → Header
 header_of bytes = record { chassis = slice_index bytes 2; board = slice_index bytes 3; product = slice_index bytes 4; multi = slice_index bytes 5 }
 
-pub record HasHeader (bytes : List ℕ) : Type 0 where
-  least : 8 ≤ length bytes
-  most : length bytes ≤ 4096
-  version : slice_index bytes 0 ≡ 1
-  sum : checksum (take 8 bytes) ≡ 0
-
 HasHeader-read : (bytes : List ℕ) (at : Header) → header bytes ≡ Ok at → HasHeader bytes × (at ≡ header_of bytes)
 unfolding header
 HasHeader-read bytes at h =
@@ -57,28 +51,26 @@ HasHeader-read bytes at h =
     let sum = kept (not (nat_eq (checksum (take 8 bytes)) 0)) _ _ _ version.1 in (
       record {
         least = ltb-false (length bytes) 8 short.0;
-        most = ltb-false 4096 (length bytes) long.0;
+        limit = ltb-false 4096 (length bytes) long.0;
         version = eqb-true (slice_index bytes 0) 1 (true-not _ version.0);
         sum = eqb-true (checksum (take 8 bytes)) 0 (true-not _ sum.0);
       },
       sym (inner (header_of bytes) at sum.1),
     )
 
-pub read-HasHeader : (bytes : List ℕ) → 8 ≤ length bytes → length bytes ≤ 4096 → slice_index bytes 0 ≡ 1 → checksum (take 8 bytes) ≡ 0 → header bytes ≡ Ok (header_of bytes)
+read-HasHeader : (bytes : List ℕ) → HasHeader bytes → header bytes ≡ Ok (header_of bytes)
 unfolding header
-read-HasHeader bytes least most version sum =
-    rw (le-ltb (length bytes) 8 least, le-ltb 4096 (length bytes) most, eq-eqb (slice_index bytes 0) 1 version, eq-eqb (checksum (take 8 bytes)) 0 sum) refl
+read-HasHeader bytes h =
+    rw (
+      le-ltb (length bytes) header_len h.least,
+      le-ltb longest_record (length bytes) h.limit,
+      eq-eqb (slice_index bytes 0) 1 h.version,
+      eq-eqb (checksum (take header_len bytes)) 0 h.sum,
+    ) refl
 
-pub record IsArea (bytes : List ℕ) (s : ℕ) : Type 0 where
-  head : s + 8 ≤ length bytes
-  inside : area_end bytes s ≤ length bytes
-  version : slice_index bytes s ≡ 1
-  size : slice_index bytes (s + 1) ≢ 0
-  sum : checksum (slice_range bytes s (area_end bytes s)) ≡ 0
-
-IsArea-read : (area : Area) (bytes found : List ℕ) (s : ℕ) → area_at area bytes s ≡ Ok found → IsArea bytes s × (found ≡ slice_range bytes s (area_end bytes s))
+HasArea-read : (area : Area) (bytes found : List ℕ) (s : ℕ) → area_at area bytes s ≡ Ok found → HasArea bytes s × (found ≡ slice_range bytes s (area_end bytes s))
 unfolding area_at
-IsArea-read area bytes found s h =
+HasArea-read area bytes found s h =
     let outside = kept (nat_lt (length bytes) (s + 8) || nat_lt (length bytes) (area_end bytes s)) _ _ _ h in
     let ends = both_false (nat_lt (length bytes) (s + 8)) (nat_lt (length bytes) (area_end bytes s)) outside.0 in
     let version = kept (not (nat_eq (slice_index bytes s) 1)) _ _ _ outside.1 in
@@ -94,10 +86,16 @@ IsArea-read area bytes found s h =
       sym (inner (slice_range bytes s (area_end bytes s)) found sum.1),
     )
 
-pub read-IsArea : (area : Area) (bytes : List ℕ) (s : ℕ) → s + 8 ≤ length bytes → area_end bytes s ≤ length bytes → slice_index bytes s ≡ 1 → slice_index bytes (s + 1) ≢ 0 → checksum (slice_range bytes s (area_end bytes s)) ≡ 0 → area_at area bytes s ≡ Ok (slice_range bytes s (area_end bytes s))
+read-HasArea : (area : Area) (bytes : List ℕ) (s : ℕ) → HasArea bytes s → area_at area bytes s ≡ Ok (area_from bytes s)
 unfolding area_at
-read-IsArea area bytes s head inside version size sum =
-    rw (le-ltb (length bytes) (s + 8) head, le-ltb (length bytes) (area_end bytes s) inside, eq-eqb (slice_index bytes s) 1 version, ne_eqb (slice_index bytes (s + 1)) 0 size, eq-eqb (checksum (slice_range bytes s (area_end bytes s))) 0 sum) refl
+read-HasArea area bytes s h =
+    rw (
+      le-ltb (length bytes) (s + unit) h.head,
+      le-ltb (length bytes) (area_end bytes s) h.inside,
+      eq-eqb (slice_index bytes s) 1 h.version,
+      ne_eqb (slice_index bytes (s + 1)) 0 h.size,
+      eq-eqb (checksum (area_from bytes s)) 0 h.sum,
+    ) refl
 
 named_parts : (area : Area) (bytes : List ℕ) (fields : List Field) (r : Result (List Raw) FruFault) → named_ok area (is_english area bytes) (names_of area) r ≡ Ok fields → (raws : List Raw) × (r ≡ Ok raws) × (fields ≡ named area (is_english area bytes) (names_of area) 1 raws)
 named_parts area bytes fields (Ok raws) h = (raws, refl, sym (inner (named area (is_english area bytes) (names_of area) 1 raws) fields h))
@@ -124,14 +122,10 @@ part_read area bytes offset fields true z h =
 part_read area bytes offset fields false z h =
     let ne = unequal offset 0 z in
     let t = then_parts (area_at area bytes (8 * offset)) (fields_of_area area) fields (sym (fields_at-placed area bytes offset ne) ∙ h) in
-    let a = IsArea-read area bytes t.0 (8 * offset) t.1 in
+    let a = HasArea-read area bytes t.0 (8 * offset) t.1 in
     let p = area_parts area (slice_range bytes (8 * offset) (area_end bytes (8 * offset))) fields (rw a.1 at t.2) in
     present offset fields ne (record {
-      head = a.0.head;
-      inside = a.0.inside;
-      version = a.0.version;
-      size = a.0.size;
-      sum = a.0.sum;
+      placed = a.0;
       raws = p.0;
       spelled = p.1;
       named_so = p.2;
@@ -139,7 +133,7 @@ part_read area bytes offset fields false z h =
 
 read_area_part : (area : Area) (bytes : List ℕ) (offset : ℕ) (fields : List Field) → offset ≢ 0 → SpellsArea area bytes (8 * offset) fields → fields_at area bytes offset ≡ Ok fields
 read_area_part area bytes offset fields ne a =
-    fields_at-present area bytes _ offset ne (read-IsArea area bytes (8 * offset) a.head a.inside a.version a.size a.sum)
+    fields_at-present area bytes _ offset ne (read-HasArea area bytes (8 * offset) a.placed)
     ∙ area_whole area (slice_range bytes (8 * offset) (area_end bytes (8 * offset))) a.raws a.spelled
     ∙ ap Ok (sym a.named_so)
 
@@ -157,10 +151,7 @@ record-spelled bytes fields h =
     let b = then_parts (fields_at Board bytes (slice_index bytes 3)) _ fields c.2 in
     let p = then_parts (fields_at Product bytes (slice_index bytes 4)) _ fields b.2 in
     record {
-      least = hd.0.least;
-      most = hd.0.most;
-      version = hd.0.version;
-      sum = hd.0.sum;
+      header = hd.0;
       chassis = c.0;
       board = b.0;
       product = p.0;
@@ -172,7 +163,7 @@ record-spelled bytes fields h =
 
 pub spelled-record : (bytes : List ℕ) (fields : List Field) → SpellsRecord bytes fields → record_of bytes ≡ Ok fields
 spelled-record bytes fields s =
-    record_of-header bytes (header_of bytes) (read-HasHeader bytes s.least s.most s.version s.sum)
+    record_of-header bytes (header_of bytes) (read-HasHeader bytes s.header)
     ∙ fields_under-ok bytes (header_of bytes) s.chassis s.board s.product (read_part Chassis bytes _ _ s.chassis_part) (read_part Board bytes _ _ s.board_part) (read_part Product bytes _ _ s.product_part)
     ∙ ap Ok (sym s.joined)
 

@@ -1,6 +1,6 @@
 -- A whole FRU record (FRU definition 1.0, sections 8 and 10 to 13): its fields, or the first broken rule.
 use Rattle.std.specs.Prelude.{ℕ, ◌*◌, Bool, true, ◌==◌, ◌||◌, if◌then◌else◌, List, [], ◌∷◌, ◌++◌, decimal, slice_index, Result, Ok, Err}
-use Rattle.fru_area.specs.Headers.{header, area_at}
+use Rattle.fru_area.specs.Headers.{unit, header, area_at}
 use Rattle.fru_area.specs.Areas.{area_fields}
 use Rattle.fru_area.specs.declared.fault.Area.{Area}
 use Rattle.fru_area.specs.declared.fault.Area.TheVariants.{Chassis, Board, Product}
@@ -47,9 +47,9 @@ fields_of_area area bytes = do
   fields ← area_fields area (is_english area bytes) (names_of area) bytes (fields_start area)
   Ok (fixed_fields area bytes ++ fields)
 
--- the fields of the area that begins at this offset, in multiples of 8 bytes; at 0 it is absent
+-- the fields of the area that begins at this offset, in units; at 0 it is absent
 unfoldable pub fields_at : Area → List ℕ → ℕ → Result (List Field) FruFault
-fields_at area bytes offset = if offset == 0 then Ok [] else area_at area bytes (8 * offset) >>= fields_of_area area
+fields_at area bytes offset = if offset == 0 then Ok [] else area_at area bytes (unit * offset) >>= fields_of_area area
 
 -- the fields of the areas under a header
 unfoldable pub fields_under : List ℕ → Header → Result (List Field) FruFault

@@ -1,7 +1,7 @@
 -- The rules of a text that is written as a field, one by one.
 use Rattle.std.specs.Prelude.{ℕ, ◌≡◌, ◌+◌, Bool, false, List, chars, ◌==◌, if◌then◌else◌}
 use Rattle.std.specs.List.{list_any}
-use Rattle.fru_record.specs.Building.{is_not_latin, is_too_long, is_bad_single}
+use Rattle.fru_record.specs.Building.{first_six_bit, is_not_latin, is_too_long, is_bad_single}
 use Rattle.fru_record.specs.declared.text_rule.TextRule.{TextRule}
 use Rattle.fru_record.specs.declared.text_rule.TextRule.TheVariants.{Latin, Length, Single}
 
@@ -23,4 +23,4 @@ abbrev pub field_head : ℕ → ℕ
 field_head count = if count == 1 then 0x81 else 0xC0 + count
 
 abbrev pub first_char : ℕ → ℕ
-first_char count = if count == 1 then 32 else 0
+first_char count = if count == 1 then first_six_bit else 0

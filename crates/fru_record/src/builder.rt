@@ -3,14 +3,16 @@ ghost use Rattle.std.specs.List.{flat_map, All};
 ghost use Rattle.std.specs.Str.{chars, IsUtf8};
 ghost use Rattle.fru_record.specs.Parts.{HasNames, fields_of_parts, texts_of, chassis_texts, board_texts, product_texts};
 ghost use Rattle.fru_record.specs.Records.{record_of};
-ghost use Rattle.fru_record.specs.Building.{GivesBytes, build_fault, record_bytes, has_late_date, closing_byte, field_of_text, area_body, area_units, area_bytes, chassis_body, board_body, product_body, units_of, bytes_of};
+ghost use Rattle.fru_record.specs.Building.{most_units, longest_text, GivesBytes, build_fault, record_bytes, has_late_date, closing_byte};
+ghost use Rattle.fru_record.specs.Building.{field_of_text, area_body, area_units, area_bytes, chassis_body, board_body, product_body, units_of, bytes_of};
 ghost use Rattle.fru_record.specs.Layouts.{IsLayout, IsBuildable, HasOffsets, header_start};
 ghost use Rattle.fru_record.specs.TextRules.{IsWritable, AreWritable, field_head, first_char};
 ghost use Rattle.fru_record.specs.declared.builder.BuildFault.TheVariants.{OutOfMemory};
 
-use crate::layout::Layout;
+use crate::date::MINUTES_LIMIT;
+use crate::layout::{Layout, UNIT};
 use crate::parts::{BoardPart, ChassisPart, FieldTexts, Parts, ProductPart};
-use crate::text_rule::{TextRule, char_count, parts_break};
+use crate::text_rule::{FIRST_SIX_BIT, TextRule, char_count, parts_break};
 use bmc_base::{Bytes, Text};
 use fru_area::area_sum;
 use std::alloc::{AllocError, Global};
@@ -100,7 +102,7 @@ fn has_late_date(board: &Option<BoardPart>) -> bool
     ensures { result ≡ has_late_date board.now }
 {
     match board {
-        Some(part) => part.minutes >= 1 << 24,
+        Some(part) => part.minutes >= MINUTES_LIMIT,
         None => false,
     }
 }
@@ -140,7 +142,7 @@ fn push_chassis(
 ) -> Result<(), AllocError>
     requires texts { AreWritable (chassis_texts part.now) }
     requires units { units ≡ units_of (chassis_body part.now) }
-    requires short { units ≤ 255 }
+    requires short { units ≤ most_units }
     ensures written { OnOk result (bytes.new.items ≡ bytes.old.items ++ bytes_of (chassis_body part.now)) }
     ensures utf8 { OnOk result (All IsUtf8 (chassis_texts part.now)) }
 {
@@ -156,7 +158,7 @@ fn push_chassis(
 fn push_board(bytes: &mut Vec<u8>, units: usize, part: &Option<BoardPart>) -> Result<(), AllocError>
     requires texts { AreWritable (board_texts part.now) }
     requires units { units ≡ units_of (board_body part.now) }
-    requires short { units ≤ 255 }
+    requires short { units ≤ most_units }
     ensures written { OnOk result (bytes.new.items ≡ bytes.old.items ++ bytes_of (board_body part.now)) }
     ensures utf8 { OnOk result (All IsUtf8 (board_texts part.now)) }
 {
@@ -179,7 +181,7 @@ fn push_product(
 ) -> Result<(), AllocError>
     requires texts { AreWritable (product_texts part.now) }
     requires units { units ≡ units_of (product_body part.now) }
-    requires short { units ≤ 255 }
+    requires short { units ≤ most_units }
     ensures written { OnOk result (bytes.new.items ≡ bytes.old.items ++ bytes_of (product_body part.now)) }
     ensures utf8 { OnOk result (All IsUtf8 (product_texts part.now)) }
 {
@@ -189,7 +191,7 @@ fn push_product(
     }
 }
 
-// A whole area of so many multiples of 8 bytes.
+// A whole area of so many units.
 fn push_area(
     bytes: &mut Vec<u8>,
     units: usize,
@@ -199,7 +201,7 @@ fn push_area(
 ) -> Result<(), AllocError>
     requires texts { AreWritable (named.now ++ custom.now) }
     requires units { units ≡ area_units (area_body fixed.now (named.now ++ custom.now)) }
-    requires short { units ≤ 255 }
+    requires short { units ≤ most_units }
     ensures written { OnOk result (bytes.new.items ≡ bytes.old.items ++ area_bytes (area_body fixed.now (named.now ++ custom.now))) }
     ensures utf8 { OnOk result (All IsUtf8 (named.now ++ custom.now)) }
 {
@@ -207,7 +209,7 @@ fn push_area(
     bytes.push(1)?;
     bytes.push(units as u8)?;
     push_body(bytes, fixed, named, custom)?;
-    bytes.resize(start + 8 * units - 1, 0)?;
+    bytes.resize(start + UNIT * units - 1, 0)?;
     let closing = closing_byte(&bytes[start..]);
     bytes.push(closing)?;
     Ok(())
@@ -255,7 +257,7 @@ fn push_text(bytes: &mut Vec<u8>, text: &str) -> Result<(), AllocError>
 
 // The type and length of a field with so many characters.
 fn field_head(count: usize) -> u8
-    requires { count ≤ 63 }
+    requires { count ≤ longest_text }
     ensures { result ≡ field_head count }
 {
     if count == 1 { 0x81 } else { 0xC0 + count as u8 }
@@ -265,7 +267,7 @@ fn field_head(count: usize) -> u8
 fn first_char(count: usize) -> u32
     ensures { result ≡ first_char count }
 {
-    if count == 1 { 32 } else { 0 }
+    if count == 1 { FIRST_SIX_BIT } else { 0 }
 }
 
 // The characters of a text, from this one on.

@@ -1,13 +1,16 @@
 ghost use Rattle.std.specs.Prelude.{◌≡◌, ◌<◌, ◌+◌, ◌%◌, ◌^◌};
-ghost use Rattle.fru_record.specs.Dates.{manufacture_day, date_text, IsDay};
+ghost use Rattle.fru_record.specs.Dates.{minutes_limit, manufacture_day, date_text, IsDay};
 
 use fru_area::FieldText;
 use jiff::ToSpan;
 use jiff::civil::{Date, date};
 
+// The first minute that 24 bits do not hold.
+pub(crate) const MINUTES_LIMIT: u32 = 1 << 24;
+
 /// The date of minutes since 1996-01-01 00:00, as `YYYY-MM-DD HH:MM`. The civil date is jiff's.
 pub fn date_field(minutes: u32) -> FieldText
-    requires { minutes < 2 ^ 24 }
+    requires { minutes < minutes_limit }
     ensures { result ≡ date_text minutes }
 {
     let text = date_bytes(manufacture_date(minutes), minutes);
@@ -16,7 +19,7 @@ pub fn date_field(minutes: u32) -> FieldText
 
 // The text of a date and of the time of its minutes.
 fn date_bytes(date: Date, minutes: u32) -> [u8; 16]
-    requires short { minutes < 2 ^ 24 }
+    requires short { minutes < minutes_limit }
     requires same { IsDay (manufacture_day minutes) date }
     ensures { result ≡ date_text minutes }
 {
@@ -47,7 +50,7 @@ fn date_bytes(date: Date, minutes: u32) -> [u8; 16]
 
 // The day of minutes since 1996-01-01 00:00.
 fn manufacture_date(minutes: u32) -> Date
-    requires { minutes < 2 ^ 24 }
+    requires { minutes < minutes_limit }
     ensures { IsDay (manufacture_day minutes) result }
 {
     let days = i64::from(minutes / 1440);

@@ -1,12 +1,14 @@
 ghost use Rattle.std.specs.Prelude.{◌≡◌, ◌≤◌, ◌<◌, ◌^◌, ◌==◌, ◌||◌, length, option_map, option_copied, option_to_list, bytes_eq, find, OnOk, ◌++◌};
 ghost use Rattle.fru_area.specs.Answers.{Appends, Gives};
 ghost use Rattle.fru_area.specs.Areas.{area_fields};
+ghost use Rattle.fru_area.specs.Headers.{unit, longest_area};
 ghost use Rattle.fru_area.specs.Names.{name_text};
-ghost use Rattle.fru_record.specs.Dates.{minutes_of};
+ghost use Rattle.fru_record.specs.Dates.{minutes_limit, minutes_of};
 ghost use Rattle.fru_record.specs.Records.{record_of, names_of, fields_start, is_english, fixed_fields, fields_of_area, fields_at};
 ghost use Rattle.fru_record.specs.Lookups.{text_named};
 
 use crate::date::date_field;
+use crate::layout::UNIT;
 use bmc_base::OutOfMemory;
 use fru_area::{
     Area, Field, FieldList, FieldName, FieldText, FruFault, append_area, area_bytes, read_header,
@@ -83,7 +85,7 @@ fn field_named(fields: &[Field], name: FieldName) -> Option<&Field>
     fields.iter().find(|field| field.is_named(name))
 }
 
-// Appends the fields of the area that begins at this offset, in multiples of 8 bytes; at 0 it is absent.
+// Appends the fields of the area that begins at this offset, in units; at 0 it is absent.
 fn append_at(
     list: &mut FieldList,
     alloc: Global,
@@ -96,7 +98,7 @@ fn append_at(
     if offset == 0 {
         return Ok(());
     }
-    let found = area_bytes(area, bytes, 8 * usize::from(offset))?;
+    let found = area_bytes(area, bytes, UNIT * usize::from(offset))?;
     append_fields(list, alloc, area, found)
 }
 
@@ -107,8 +109,8 @@ fn append_fields(
     area: Area,
     bytes: &[u8],
 ) -> Result<(), FruFault>
-    requires long { 8 ≤ length bytes.now }
-    requires short { length bytes.now ≤ 2040 }
+    requires long { unit ≤ length bytes.now }
+    requires short { length bytes.now ≤ longest_area }
     ensures { Appends result list.old list.new (fields_of_area area bytes.now) }
 {
     append_fixed(list, alloc, area, bytes)?;
@@ -122,7 +124,7 @@ fn append_fixed(
     area: Area,
     bytes: &[u8],
 ) -> Result<(), OutOfMemory>
-    requires { 8 ≤ length bytes.now }
+    requires { unit ≤ length bytes.now }
     ensures { OnOk result (list.new ≡ list.old ++ fixed_fields area bytes.now) }
 {
     match fixed_field(area, bytes) {
@@ -133,7 +135,7 @@ fn append_fixed(
 
 // The one field that stands at a fixed place: the chassis type, or the date of a board, if it has one.
 fn fixed_field(area: Area, bytes: &[u8]) -> Option<Field>
-    requires { 8 ≤ length bytes.now }
+    requires { unit ≤ length bytes.now }
     ensures { option_to_list result ≡ fixed_fields area bytes.now }
 {
     match area {
@@ -154,9 +156,9 @@ fn fixed_field(area: Area, bytes: &[u8]) -> Option<Field>
 
 // The minutes of a board area, the low byte first.
 fn minutes(area: &[u8]) -> u32
-    requires { 8 ≤ length area.now }
+    requires { unit ≤ length area.now }
     ensures exact { result ≡ minutes_of area.now }
-    ensures most { result < 2 ^ 24 }
+    ensures limit { result < minutes_limit }
 {
     u32::from(area[3]) + 256 * u32::from(area[4]) + 65536 * u32::from(area[5])
 }
@@ -191,8 +193,8 @@ fn append_named(
     area: Area,
     bytes: &[u8],
 ) -> Result<(), FruFault>
-    requires long { 8 ≤ length bytes.now }
-    requires short { length bytes.now ≤ 2040 }
+    requires long { unit ≤ length bytes.now }
+    requires short { length bytes.now ≤ longest_area }
     ensures { Appends result list.old list.new (area_fields area (is_english area bytes.now) (names_of area) bytes.now (fields_start area)) }
 {
     match area {
