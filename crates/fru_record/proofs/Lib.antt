@@ -1,5 +1,6 @@
 pub mod BuildingLemmas
 pub mod DatesLemmas
+pub mod FieldFaultsLemmas
 pub mod LayoutsLemmas
 pub mod LookupsLemmas
 pub mod RecordsLemmas

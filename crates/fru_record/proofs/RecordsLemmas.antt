@@ -1,5 +1,5 @@
 -- What comes of reading and of checking a record, step by step.
-use Rattle.std.proofs.Common.{◌≡◌, ◌≢◌, ◌*◌, ℕ, zero, suc, List, [], ◌∷◌, ◌++◌, Bool, true, false, cond, Option, Some, None, Result, Ok, Err, refl, ap, sym, ◌∙◌, append_assoc, append-nil}
+use Rattle.std.proofs.Common.{◌≡◌, ◌≢◌, ◌*◌, ℕ, zero, suc, List, [], ◌∷◌, ◌++◌, Bool, true, false, cond, Option, Some, None, Result, Ok, Err, refl, ap, sym, subst, ◌∙◌, append_assoc, append-nil}
 use Rattle.std.proofs.lemmas.Bool.{ne_eqb}
 use Rattle.fru_area.specs.Answers.{Appends, GivesFault, checked, seen}
 use Rattle.fru_area.specs.Areas.{area_fields, named_ok}
@@ -171,84 +171,139 @@ record_of-appended bytes at a b c none first second all e n chassis board produc
     record_of-header bytes at e ∙ fields_under-ok bytes at one.0 two.0 three.0 one.1 two.1 three.1
     ∙ ap Ok (sym (three.2 ∙ ap (λ (list : List Field). list ++ three.0) (two.2 ∙ ap (λ (list : List Field). list ++ two.0) (one.2 ∙ ap (λ (list : List Field). list ++ one.0) n))))
 
--- A fault of reading names a rule, never want of memory.
-abbrev pub NamesRule : {X : Type 0} → Result X FruFault → Type 0
-NamesRule read = read ≢ Err faults.OutOfMemory
+-- each fault that reading can name is such a one
+abbrev pub Faults : {X : Type 0} → (FruFault → Type 0) → Result X FruFault → Type 0
+Faults P read = (fault : FruFault) → read ≡ Err fault → P fault
 
-NamesRule-Ok : {X : Type 0} (x : X) → NamesRule (Ok x)
-NamesRule-Ok x = λ e. absurd (cc)
+-- the faults of a header, and those of an area, of which some come before its fields are read
+abbrev pub IsOfHeader : FruFault → Type 0
+IsOfHeader faults.FruShort = ⊤
+IsOfHeader faults.FruTooLong = ⊤
+IsOfHeader faults.HeaderVersion = ⊤
+IsOfHeader faults.HeaderChecksum = ⊤
+IsOfHeader _ = ⊥
 
-NamesRule-test : {X : Type 0} (broken : Bool) (fault : FruFault) (rest : Result X FruFault) → fault ≢ faults.OutOfMemory → NamesRule rest → NamesRule (cond broken (Err fault) rest)
-NamesRule-test true fault rest f r = λ e. f (cc)
-NamesRule-test false fault rest f r = r
+abbrev pub IsOfPlace : Area → FruFault → Type 0
+IsOfPlace area (faults.AreaOutside other) = area ≡ other
+IsOfPlace area (faults.AreaVersion other) = area ≡ other
+IsOfPlace area (faults.AreaLength other) = area ≡ other
+IsOfPlace area (faults.AreaChecksum other) = area ≡ other
+IsOfPlace area _ = ⊥
 
-NamesRule-then : {X Y : Type 0} (read : Result X FruFault) (f : X → Result Y FruFault) → NamesRule read → ((x : X) → NamesRule (f x)) → NamesRule (read >>= f)
-NamesRule-then (Ok x) f r h = h x
-NamesRule-then (Err fault) f r h = λ e. r (cc)
+abbrev pub IsOfFields : Area → FruFault → Type 0
+IsOfFields area (faults.FieldOutside other) = area ≡ other
+IsOfFields area (faults.NoEnd other) = area ≡ other
+IsOfFields area fault = IsOfPlace area fault
 
-NamesRule-header : (bytes : List ℕ) → NamesRule (header bytes)
+err_same : {X : Type 0} (fault other : FruFault) → (let read : Result X FruFault = Err fault in read ≡ Err other) → fault ≡ other
+err_same fault other e = cc
+
+Faults-Ok : {X : Type 0} (P : FruFault → Type 0) (x : X) → Faults P (Ok x)
+Faults-Ok P x = λ fault e. absurd (cc)
+
+Faults-Err : {X Y : Type 0} (P : FruFault → Type 0) (fault : FruFault) → (let read : Result X FruFault = Err fault in Faults P read) → (let read : Result Y FruFault = Err fault in Faults P read)
+Faults-Err P fault h = λ other e. subst P (err_same fault other e) (h fault refl)
+
+Faults-test : {X : Type 0} (P : FruFault → Type 0) (broken : Bool) (fault : FruFault) (rest : Result X FruFault) → P fault → Faults P rest → Faults P (cond broken (Err fault) rest)
+Faults-test P true fault rest p r = λ other e. subst P (err_same fault other e) p
+Faults-test P false fault rest p r = r
+
+Faults-mark : {X : Type 0} (P : FruFault → Type 0) (is_mark : Bool) (none : X) (rest : Result X FruFault) → Faults P rest → Faults P (cond is_mark (Ok none) rest)
+Faults-mark P true none rest r = Faults-Ok P none
+Faults-mark P false none rest r = r
+
+Faults-then : {X Y : Type 0} (P : FruFault → Type 0) (read : Result X FruFault) (f : X → Result Y FruFault) → Faults P read → ((x : X) → Faults P (f x)) → Faults P (read >>= f)
+Faults-then P (Ok x) f r h = h x
+Faults-then P (Err fault) f r h = Faults-Err P fault r
+
+pub Faults-header : (bytes : List ℕ) → Faults IsOfHeader (header bytes)
 unfolding header
-NamesRule-header bytes =
-    NamesRule-test _ faults.FruShort _ (λ e. absurd (cc))
-    (NamesRule-test _ faults.FruTooLong _ (λ e. absurd (cc))
-    (NamesRule-test _ faults.HeaderVersion _ (λ e. absurd (cc))
-    (NamesRule-test _ faults.HeaderChecksum _ (λ e. absurd (cc)) (NamesRule-Ok _))))
+Faults-header bytes =
+    Faults-test IsOfHeader _ faults.FruShort _ tt
+    (Faults-test IsOfHeader _ faults.FruTooLong _ tt
+    (Faults-test IsOfHeader _ faults.HeaderVersion _ tt
+    (Faults-test IsOfHeader _ faults.HeaderChecksum _ tt (Faults-Ok IsOfHeader _))))
 
-NamesRule-area_at : (area : Area) (bytes : List ℕ) (s : ℕ) → NamesRule (area_at area bytes s)
+pub Faults-area_at : (area : Area) (bytes : List ℕ) (s : ℕ) → Faults (IsOfPlace area) (area_at area bytes s)
 unfolding area_at
-NamesRule-area_at area bytes s =
-    NamesRule-test _ (faults.AreaOutside area) _ (λ e. absurd (cc))
-    (NamesRule-test _ (faults.AreaVersion area) _ (λ e. absurd (cc))
-    (NamesRule-test _ (faults.AreaLength area) _ (λ e. absurd (cc))
-    (NamesRule-test _ (faults.AreaChecksum area) _ (λ e. absurd (cc)) (NamesRule-Ok _))))
+Faults-area_at area bytes s =
+    Faults-test (IsOfPlace area) _ (faults.AreaOutside area) _ refl
+    (Faults-test (IsOfPlace area) _ (faults.AreaVersion area) _ refl
+    (Faults-test (IsOfPlace area) _ (faults.AreaLength area) _ refl
+    (Faults-test (IsOfPlace area) _ (faults.AreaChecksum area) _ refl (Faults-Ok (IsOfPlace area) _))))
 
-NamesRule-mark : {X : Type 0} (is_mark : Bool) (none : X) (rest : Result X FruFault) → NamesRule rest → NamesRule (cond is_mark (Ok none) rest)
-NamesRule-mark true none rest r = λ e. absurd (cc)
-NamesRule-mark false none rest r = r
-
-NamesRule-first_field : (area : Area) (bytes : List ℕ) → NamesRule (first_field area bytes)
+Faults-first_field : (area : Area) (bytes : List ℕ) → Faults (IsOfFields area) (first_field area bytes)
 unfolding first_field
-NamesRule-first_field area [] = λ e. absurd (cc)
-NamesRule-first_field area (head ∷ bytes) = NamesRule-mark _ None _ (NamesRule-test _ (faults.FieldOutside area) _ (λ e. absurd (cc)) (NamesRule-Ok _))
+Faults-first_field area [] = λ other e. subst (IsOfFields area) (err_same (faults.NoEnd area) other e) refl
+Faults-first_field area (head ∷ bytes) =
+    Faults-mark (IsOfFields area) _ None _ (Faults-test (IsOfFields area) _ (faults.FieldOutside area) _ refl (Faults-Ok (IsOfFields area) _))
 
-NamesRule-with_field : (raw : Raw) (fields : Result (List Raw) FruFault) → NamesRule fields → NamesRule (with_field raw fields)
-NamesRule-with_field raw (Ok raws) h = λ e. absurd (cc)
-NamesRule-with_field raw (Err fault) h = λ e. h (cc)
+Faults-with_field : (P : FruFault → Type 0) (raw : Raw) (fields : Result (List Raw) FruFault) → Faults P fields → Faults P (with_field raw fields)
+Faults-with_field P raw (Ok raws) h = Faults-Ok P (raw ∷ raws)
+Faults-with_field P raw (Err fault) h = h
 
-NamesRule-field_then : (rest_of : List ℕ → Result (List Raw) FruFault) (first : Result (Option (Raw × List ℕ)) FruFault) → NamesRule first → ((rest : List ℕ) → NamesRule (rest_of rest)) → NamesRule (field_then rest_of first)
-NamesRule-field_then rest_of (Ok None) f r = λ e. absurd (cc)
-NamesRule-field_then rest_of (Ok (Some found)) f r = NamesRule-with_field found.0 (rest_of found.1) (r found.1)
-NamesRule-field_then rest_of (Err fault) f r = λ e. f (cc)
+Faults-field_then : (P : FruFault → Type 0) (rest_of : List ℕ → Result (List Raw) FruFault) (first : Result (Option (Raw × List ℕ)) FruFault) → Faults P first → ((rest : List ℕ) → Faults P (rest_of rest)) → Faults P (field_then rest_of first)
+Faults-field_then P rest_of (Ok None) f r = Faults-Ok P []
+Faults-field_then P rest_of (Ok (Some found)) f r = Faults-with_field P found.0 (rest_of found.1) (r found.1)
+Faults-field_then P rest_of (Err fault) f r = Faults-Err P fault f
 
-NamesRule-walk : (area : Area) (most : ℕ) (bytes : List ℕ) → NamesRule (walk area most bytes)
+Faults-walk : (area : Area) (most : ℕ) (bytes : List ℕ) → Faults (IsOfFields area) (walk area most bytes)
 unfolding walk
-NamesRule-walk area zero bytes = λ e. absurd (cc)
-NamesRule-walk area (suc most) bytes = NamesRule-field_then (walk area most) (first_field area bytes) (NamesRule-first_field area bytes) (NamesRule-walk area most)
+Faults-walk area zero bytes = λ other e. subst (IsOfFields area) (err_same (faults.NoEnd area) other e) refl
+Faults-walk area (suc most) bytes =
+    Faults-field_then (IsOfFields area) (walk area most) (first_field area bytes) (Faults-first_field area bytes) (Faults-walk area most)
 
-NamesRule-named : (area : Area) (english : Bool) (names : List FieldName) (raws : Result (List Raw) FruFault) → NamesRule raws → NamesRule (named_ok area english names raws)
-NamesRule-named area english names (Ok raws) h = λ e. absurd (cc)
-NamesRule-named area english names (Err fault) h = λ e. h (cc)
+Faults-named : (P : FruFault → Type 0) (area : Area) (english : Bool) (names : List FieldName) (raws : Result (List Raw) FruFault) → Faults P raws → Faults P (named_ok area english names raws)
+Faults-named P area english names (Ok raws) h = Faults-Ok P _
+Faults-named P area english names (Err fault) h = Faults-Err P fault h
 
-NamesRule-fields_of_area : (area : Area) (bytes : List ℕ) → NamesRule (fields_of_area area bytes)
+Faults-fields_of_area : (area : Area) (bytes : List ℕ) → Faults (IsOfFields area) (fields_of_area area bytes)
 unfolding fields_of_area area_fields raw_fields
-NamesRule-fields_of_area area bytes =
-    NamesRule-then (named_of area bytes) _ (NamesRule-named area _ _ _ (NamesRule-walk area _ _)) (λ fields. λ e. absurd (cc))
+Faults-fields_of_area area bytes =
+    Faults-then (IsOfFields area) (named_of area bytes) _ (Faults-named (IsOfFields area) area _ _ _ (Faults-walk area _ _)) (λ fields. Faults-Ok (IsOfFields area) _)
 
-NamesRule-present : (area : Area) (bytes : List ℕ) (s : ℕ) → NamesRule (area_at area bytes s >>= fields_of_area area)
-NamesRule-present area bytes s = NamesRule-then (area_at area bytes s) (fields_of_area area) (NamesRule-area_at area bytes s) (NamesRule-fields_of_area area)
+-- a fault of an area's place is one of the area
+of_place : (area : Area) (fault : FruFault) → IsOfPlace area fault → IsOfFields area fault
+of_place area (faults.FieldOutside other) h = absurd h
+of_place area (faults.NoEnd other) h = absurd h
+of_place area faults.FruShort h = h
+of_place area faults.FruTooLong h = h
+of_place area faults.HeaderVersion h = h
+of_place area faults.HeaderChecksum h = h
+of_place area (faults.AreaOutside other) h = h
+of_place area (faults.AreaVersion other) h = h
+of_place area (faults.AreaLength other) h = h
+of_place area (faults.AreaChecksum other) h = h
+of_place area faults.OutOfMemory h = h
 
-NamesRule-fields_at : (area : Area) (bytes : List ℕ) (offset : ℕ) → NamesRule (fields_at area bytes offset)
+pub Faults-fields_at : (area : Area) (bytes : List ℕ) (offset : ℕ) → Faults (IsOfFields area) (fields_at area bytes offset)
 unfolding fields_at
-NamesRule-fields_at area bytes offset = NamesRule-mark _ [] _ (NamesRule-present area bytes (8 * offset))
+Faults-fields_at area bytes offset =
+    Faults-mark (IsOfFields area) _ [] _
+    (Faults-then (IsOfFields area) (area_at area bytes (8 * offset)) (fields_of_area area) (λ fault e. of_place area fault (Faults-area_at area bytes (8 * offset) fault e))
+    (Faults-fields_of_area area))
 
-pub NamesRule-record_of : (bytes : List ℕ) → NamesRule (record_of bytes)
+-- A fault of a record names a rule, never want of memory.
+abbrev pub NamesRule : FruFault → Type 0
+NamesRule fault = fault ≢ faults.OutOfMemory
+
+names_rule : (P : FruFault → Type 0) → (P faults.OutOfMemory → ⊥) → (fault : FruFault) → P fault → NamesRule fault
+names_rule P none fault h e = none (subst P e h)
+
+NamesRule-fields_at : (area : Area) (bytes : List ℕ) (offset : ℕ) → Faults NamesRule (fields_at area bytes offset)
+NamesRule-fields_at area bytes offset = λ fault e. names_rule (IsOfFields area) (λ h. h) fault (Faults-fields_at area bytes offset fault e)
+
+NamesRule-record_of : (bytes : List ℕ) → Faults NamesRule (record_of bytes)
 unfolding record_of fields_under
 NamesRule-record_of bytes =
-    NamesRule-then (header bytes) (fields_under bytes) (NamesRule-header bytes) (λ at.
-    NamesRule-then (fields_at Chassis bytes at.chassis) _ (NamesRule-fields_at Chassis bytes at.chassis) (λ chassis.
-    NamesRule-then (fields_at Board bytes at.board) _ (NamesRule-fields_at Board bytes at.board) (λ board.
-    NamesRule-then (fields_at Product bytes at.product) _ (NamesRule-fields_at Product bytes at.product) (λ product. λ e. absurd (cc)))))
+    Faults-then NamesRule (header bytes) (fields_under bytes) (λ fault e. names_rule IsOfHeader (λ h. h) fault (Faults-header bytes fault e)) (λ at.
+    Faults-then NamesRule (fields_at Chassis bytes at.chassis) _ (NamesRule-fields_at Chassis bytes at.chassis) (λ chassis.
+    Faults-then NamesRule (fields_at Board bytes at.board) _ (NamesRule-fields_at Board bytes at.board) (λ board.
+    Faults-then NamesRule (fields_at Product bytes at.product) _ (NamesRule-fields_at Product bytes at.product) (λ product. Faults-Ok NamesRule _))))
 
-pub NamesRule-checked : {X : Type 0} (read : Result X FruFault) → NamesRule read → NamesRule (checked read)
-NamesRule-checked (Ok x) h = λ e. absurd (cc)
-NamesRule-checked (Err fault) h = λ e. h (cc)
+pub record_of-rule : (bytes : List ℕ) → record_of bytes ≢ Err faults.OutOfMemory
+record_of-rule bytes = λ e. NamesRule-record_of bytes faults.OutOfMemory e refl
+
+pub checked-rule : {X : Type 0} (read : Result X FruFault) → read ≢ Err faults.OutOfMemory → checked read ≢ Err faults.OutOfMemory
+checked-rule (Ok x) h = λ e. absurd (cc)
+checked-rule (Err fault) h = λ e. h (cc)

@@ -32,17 +32,17 @@ both_false : (a b : Bool) → (a || b) ≡ false → (a ≡ false) × (b ≡ fal
 both_false true b h = absurd (cc)
 both_false false b h = (refl, h)
 
-unequal : (m n : ℕ) → nat_eq m n ≡ false → m ≢ n
+pub unequal : (m n : ℕ) → nat_eq m n ≡ false → m ≢ n
 unequal m n e h = let yes : nat_eq m n ≡ true = rw h (eq-eqb n n refl) in absurd (cc)
 
 inner : {X : Type 0} (x y : X) → (let r : Result X FruFault = Ok x in r ≡ Ok y) → x ≡ y
 inner x y e = cc
 
 -- the header of bytes that keep its rules
-abbrev header_of : List ℕ → Header
+abbrev pub header_of : List ℕ → Header
 header_of bytes = record { chassis = slice_index bytes 2; board = slice_index bytes 3; product = slice_index bytes 4; multi = slice_index bytes 5 }
 
-HasHeader-read : (bytes : List ℕ) (at : Header) → header bytes ≡ Ok at → HasHeader bytes × (at ≡ header_of bytes)
+pub HasHeader-read : (bytes : List ℕ) (at : Header) → header bytes ≡ Ok at → HasHeader bytes × (at ≡ header_of bytes)
 unfolding header
 HasHeader-read bytes at h =
     let short = kept (nat_lt (length bytes) 8) _ _ _ h in
@@ -58,7 +58,7 @@ HasHeader-read bytes at h =
       sym (inner (header_of bytes) at sum.1),
     )
 
-read-HasHeader : (bytes : List ℕ) → HasHeader bytes → header bytes ≡ Ok (header_of bytes)
+pub read-HasHeader : (bytes : List ℕ) → HasHeader bytes → header bytes ≡ Ok (header_of bytes)
 unfolding header
 read-HasHeader bytes h =
     rw (
@@ -68,7 +68,7 @@ read-HasHeader bytes h =
       eq-eqb (checksum (take header_len bytes)) 0 h.sum,
     ) refl
 
-HasArea-read : (area : Area) (bytes found : List ℕ) (s : ℕ) → area_at area bytes s ≡ Ok found → HasArea bytes s × (found ≡ slice_range bytes s (area_end bytes s))
+pub HasArea-read : (area : Area) (bytes found : List ℕ) (s : ℕ) → area_at area bytes s ≡ Ok found → HasArea bytes s × (found ≡ slice_range bytes s (area_end bytes s))
 unfolding area_at
 HasArea-read area bytes found s h =
     let outside = kept (nat_lt (length bytes) (s + 8) || nat_lt (length bytes) (area_end bytes s)) _ _ _ h in
@@ -86,7 +86,7 @@ HasArea-read area bytes found s h =
       sym (inner (slice_range bytes s (area_end bytes s)) found sum.1),
     )
 
-read-HasArea : (area : Area) (bytes : List ℕ) (s : ℕ) → HasArea bytes s → area_at area bytes s ≡ Ok (area_from bytes s)
+pub read-HasArea : (area : Area) (bytes : List ℕ) (s : ℕ) → HasArea bytes s → area_at area bytes s ≡ Ok (area_from bytes s)
 unfolding area_at
 read-HasArea area bytes s h =
     rw (
@@ -114,7 +114,7 @@ area_whole area bytes raws s =
     fields_of_area-ok area bytes (fixed_fields area bytes) (named area (is_english area bytes) (names_of area) 1 raws) _ refl
     (ap (named_ok area (is_english area bytes) (names_of area)) (raw_fields-Spells area bytes (fields_start area) raws s)) refl
 
-part_read : (area : Area) (bytes : List ℕ) (offset : ℕ) (fields : List Field) (none : Bool) → nat_eq offset 0 ≡ none → fields_at area bytes offset ≡ Ok fields → SpellsPart area bytes offset fields
+pub part_read : (area : Area) (bytes : List ℕ) (offset : ℕ) (fields : List Field) (none : Bool) → nat_eq offset 0 ≡ none → fields_at area bytes offset ≡ Ok fields → SpellsPart area bytes offset fields
 part_read area bytes offset fields true z h =
     let zero_offset : offset ≡ 0 = eqb-true offset 0 z in
     let none : fields ≡ [] = inner fields [] (sym h ∙ fields_at-absent area bytes offset [] zero_offset refl) in

@@ -2,6 +2,7 @@ pub mod Dates
 pub mod Records
 pub mod Lookups
 pub mod Spellings
+pub mod FieldFaults
 pub mod Parts
 pub mod Building
 pub mod TextRules

@@ -3,8 +3,8 @@ ghost use Rattle.fru_record.specs.Parts.{HasNames};
 
 use crate::{
     BoardPart, BuildFault, ChassisPart, FieldTexts, FruRecord, Parts, ProductPart, build,
-    built_is_read, check_record, faults_name_rules, one_record, worked_build_faults, worked_dates,
-    worked_faults, worked_parts, worked_records,
+    built_is_read, check_record, faults_name_rules, field_faults_by_positions, one_record,
+    worked_build_faults, worked_dates, worked_faults, worked_parts, worked_records,
 };
 use bmc_base::{OutOfMemory, Text};
 use fru_area::{Area, FieldName, FruFault};
@@ -236,6 +236,7 @@ const REFUSALS: [(&[u8], FruFault); 12] = refusals! {
 #[test]
 fn refused(rt: HostRuntime) {
     faults_name_rules();
+    field_faults_by_positions();
     worked_faults();
     for (bytes, fault) in REFUSALS {
         assert_fault(&rt, rt.alloc(), bytes, fault);
