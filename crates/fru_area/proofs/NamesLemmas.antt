@@ -1,5 +1,6 @@
 -- Which texts are names of fields.
-use Rattle.std.proofs.Common.{◌≡◌, ℕ, zero, suc, ◌+◌, ◌/◌, ◌^◌, ◌<◌, ◌≤◌, ◌⊎◌, inl, inr, Bool, true, false, nat_eq, bytes_eq, IsTrue, ◌↔◌, List, [], ◌∷◌, ◌++◌, length, drop, get_or, decimal, Option, Some, None, Result, Ok, refl, sym, ap, ◌∙◌, arith, find}
+use Rattle.std.proofs.Common.{◌≡◌, ℕ, zero, suc, ◌+◌, ◌/◌, ◌^◌, ◌<◌, ◌≤◌, ◌⊎◌, inl, inr, Bool, true, false, nat_eq, bytes_eq, IsTrue, ◌↔◌, List, []}
+use Rattle.std.proofs.Common.{◌∷◌, ◌++◌, length, drop, get_or, decimal, Option, Some, None, Result, Ok, refl, sym, ap, ◌∙◌, arith, find}
 use Rattle.std.specs.Fmt.{digits, digits_onto}
 use Rattle.std.specs.Str.Parse.{digits_value}
 use Rattle.std.specs.List.{starts_with}
@@ -12,29 +13,36 @@ use Rattle.std.proofs.lemmas.Slice.Eq.{bytes_eq-Decides}
 use Rattle.std.proofs.lemmas.List.{append_cancel_left}
 use Rattle.std.proofs.lemmas.Fmt.{parse-decimal, decimal_is_IsNumeral_wide, length-decimal-le}
 use Rattle.fru_area.specs.declared.name.FieldName.{FieldName}
-use Rattle.fru_area.specs.declared.name.FieldName.TheVariants.{ChassisType, ChassisPartNumber, ChassisSerialNumber, BoardManufactureDate, BoardManufacturer, BoardProductName, BoardSerialNumber, BoardPartNumber, BoardFruVersionId, ProductManufacturer, ProductProductName, ProductPartNumber, ProductVersion, ProductSerialNumber, ProductAssetTag, ProductFruVersionId, Custom}
+use Rattle.fru_area.specs.declared.name.FieldName.TheVariants.{ChassisType, ChassisPartNumber, ChassisSerialNumber, BoardManufactureDate}
+use Rattle.fru_area.specs.declared.name.FieldName.TheVariants.{BoardManufacturer, BoardProductName, BoardSerialNumber, BoardPartNumber}
+use Rattle.fru_area.specs.declared.name.FieldName.TheVariants.{BoardFruVersionId, ProductManufacturer, ProductProductName, ProductPartNumber}
+use Rattle.fru_area.specs.declared.name.FieldName.TheVariants.{ProductVersion, ProductSerialNumber, ProductAssetTag, ProductFruVersionId, Custom}
 use Rattle.fru_area.specs.declared.fault.Area.{Area}
 use Rattle.fru_area.specs.declared.fault.Area.TheVariants.{Chassis, Board, Product}
 use Rattle.fru_area.specs.declared.name.TheConstants.{FIXED}
-use Rattle.fru_area.specs.Names.{name_text, custom_prefix, IsName, number_of}
-use Rattle.fru_area.specs.Views.{IsFixed, LacksNumber}
+use Rattle.fru_area.specs.Names.{name_text, custom_prefix, last_custom, IsName, IsFixed, LacksNumber, number_of}
 
 -- the number that is read behind the prefix is the one that is written there
-pub parsed_number : {E : Type 0} (front prefix text digits : List ℕ) (x number : ℕ) (r : Result ℕ E) (o : Option ℕ) → front ≡ prefix → text ≡ front ++ drop x text → digits ≡ drop x text → ParsesUnsigned 16 10 digits r → o ≡ result_ok r → number ≤ 2040 → prefix ++ decimal number ≡ text → o ≡ Some number
-parsed_number front prefix text digits x number r o p t d h e most same =
-    let split : prefix ++ decimal number ≡ prefix ++ digits = same ∙ t ∙ rw (p, d) refl in
-    let is : digits ≡ decimal number = sym (append_cancel_left prefix (decimal number) digits split) in
-    let value : r ≡ Ok number = parse-decimal 16 number digits r (omega arith) (omega arith) is h in
-    rw (e, value) refl
+pub parsed_number :
+    {E : Type 0} (front prefix text digits : List ℕ) (cut number : ℕ) (parsed : Result ℕ E) (value : Option ℕ) → front ≡ prefix →
+    text ≡ front ++ drop cut text → digits ≡ drop cut text → ParsesUnsigned 16 10 digits parsed → value ≡ result_ok parsed → number ≤ last_custom →
+    prefix ++ decimal number ≡ text → value ≡ Some number
+parsed_number front prefix text digits cut number parsed value is_prefix split behind parses is_value limit same =
+    let both : prefix ++ decimal number ≡ prefix ++ digits = same ∙ split ∙ rw (is_prefix, behind) refl in
+    let written : digits ≡ decimal number = sym (append_cancel_left prefix (decimal number) digits both) in
+    let read : parsed ≡ Ok number = parse-decimal 16 number digits parsed (omega arith) (omega arith) written parses in
+    rw (is_value, read) refl
 
-pub or_found : {X : Type 0} (P : X → Type 0) (a b r : Option X) → r ≡ option_or a b → IfSome a P → IfSome b P → IfSome r P
-or_found P None b r e h k = rw e k
-or_found P (Some x) b r e h k = rw e h
+pub or_found :
+    {X : Type 0} (P : X → Type 0) (one other either : Option X) → either ≡ option_or one other → IfSome one P → IfSome other P → IfSome either P
+or_found P None other either is found other_found = rw is other_found
+or_found P (Some x) other either is found other_found = rw is found
 
-pub or_none : {X : Type 0} (P Q : Type 0) (a b r : Option X) → r ≡ option_or a b → IfNone a P → IfNone b Q → IfNone r (P × Q)
-or_none P Q None None r e h k = rw e (h, k)
-or_none P Q None (Some y) r e h k = rw e tt
-or_none P Q (Some x) b r e h k = rw e tt
+pub or_none :
+    {X : Type 0} (P Q : Type 0) (one other either : Option X) → either ≡ option_or one other → IfNone one P → IfNone other Q → IfNone either (P × Q)
+or_none P Q None None either is none other_none = rw is (none, other_none)
+or_none P Q None (Some x) either is none other_none = rw is tt
+or_none P Q (Some x) other either is none other_none = rw is tt
 
 pub name_text-custom : (area : Area) (number : ℕ) → name_text (Custom area number) ≡ custom_prefix area ++ decimal number
 unfolding name_text
@@ -79,29 +87,38 @@ no_name text fixed chassis board product = name_cases (λ name. IsName name → 
     (λ name is_fixed is_name same. fixed name is_fixed same)
     (λ area number is_name same. lacks_number text chassis board product area number is_name.0 is_name.1 same)
 
-pub IfNone_names : {X : Type 0} (r : Option X) (text : List ℕ) → IfNone r (((((n : FieldName) → IsFixed n → name_text n ≡ text → ⊥) × LacksNumber (custom_prefix Chassis) text) × LacksNumber (custom_prefix Board) text) × LacksNumber (custom_prefix Product) text) → IfNone r ((n : FieldName) → IsName n → name_text n ≡ text → ⊥)
-IfNone_names None text h = no_name text h.0.0.0 h.0.0.1 h.0.1 h.1
-IfNone_names (Some x) text h = h
+-- where nothing was found in any part, the text is no name
+pub IfNone_names :
+    {X : Type 0} (found : Option X) (text : List ℕ) →
+    IfNone found
+    (((((name : FieldName) → IsFixed name → name_text name ≡ text → ⊥) × LacksNumber (custom_prefix Chassis) text)
+    × LacksNumber (custom_prefix Board) text)
+    × LacksNumber (custom_prefix Product) text) →
+    IfNone found ((name : FieldName) → IsName name → name_text name ≡ text → ⊥)
+IfNone_names None text parts = no_name text parts.0.0.0 parts.0.0.1 parts.0.1 parts.1
+IfNone_names (Some x) text parts = parts
 
 -- the table holds each name without a number
-pub no_fixed : (text : List ℕ) (i : ℕ) → 16 ≤ i → ((k : ℕ) → k < i → name_text (get_or FIXED k ChassisType) ≡ text → ⊥) → (n : FieldName) → IsFixed n → name_text n ≡ text → ⊥
-no_fixed text i l m (Custom area number) h e = h
-no_fixed text i l m ChassisType h e = m 0 (omega arith) e
-no_fixed text i l m ChassisPartNumber h e = m 1 (omega arith) e
-no_fixed text i l m ChassisSerialNumber h e = m 2 (omega arith) e
-no_fixed text i l m BoardManufactureDate h e = m 3 (omega arith) e
-no_fixed text i l m BoardManufacturer h e = m 4 (omega arith) e
-no_fixed text i l m BoardProductName h e = m 5 (omega arith) e
-no_fixed text i l m BoardSerialNumber h e = m 6 (omega arith) e
-no_fixed text i l m BoardPartNumber h e = m 7 (omega arith) e
-no_fixed text i l m BoardFruVersionId h e = m 8 (omega arith) e
-no_fixed text i l m ProductManufacturer h e = m 9 (omega arith) e
-no_fixed text i l m ProductProductName h e = m 10 (omega arith) e
-no_fixed text i l m ProductPartNumber h e = m 11 (omega arith) e
-no_fixed text i l m ProductVersion h e = m 12 (omega arith) e
-no_fixed text i l m ProductSerialNumber h e = m 13 (omega arith) e
-no_fixed text i l m ProductAssetTag h e = m 14 (omega arith) e
-no_fixed text i l m ProductFruVersionId h e = m 15 (omega arith) e
+pub no_fixed :
+    (text : List ℕ) (done : ℕ) → 16 ≤ done → ((k : ℕ) → k < done → name_text (get_or FIXED k ChassisType) ≡ text → ⊥) →
+    (name : FieldName) → IsFixed name → name_text name ≡ text → ⊥
+no_fixed text done all missed (Custom area number) fixed same = fixed
+no_fixed text done all missed ChassisType fixed same = missed 0 (omega arith) same
+no_fixed text done all missed ChassisPartNumber fixed same = missed 1 (omega arith) same
+no_fixed text done all missed ChassisSerialNumber fixed same = missed 2 (omega arith) same
+no_fixed text done all missed BoardManufactureDate fixed same = missed 3 (omega arith) same
+no_fixed text done all missed BoardManufacturer fixed same = missed 4 (omega arith) same
+no_fixed text done all missed BoardProductName fixed same = missed 5 (omega arith) same
+no_fixed text done all missed BoardSerialNumber fixed same = missed 6 (omega arith) same
+no_fixed text done all missed BoardPartNumber fixed same = missed 7 (omega arith) same
+no_fixed text done all missed BoardFruVersionId fixed same = missed 8 (omega arith) same
+no_fixed text done all missed ProductManufacturer fixed same = missed 9 (omega arith) same
+no_fixed text done all missed ProductProductName fixed same = missed 10 (omega arith) same
+no_fixed text done all missed ProductPartNumber fixed same = missed 11 (omega arith) same
+no_fixed text done all missed ProductVersion fixed same = missed 12 (omega arith) same
+no_fixed text done all missed ProductSerialNumber fixed same = missed 13 (omega arith) same
+no_fixed text done all missed ProductAssetTag fixed same = missed 14 (omega arith) same
+no_fixed text done all missed ProductFruVersionId fixed same = missed 15 (omega arith) same
 
 -- the front of a name's text, up to its number
 front_of : FieldName → List ℕ

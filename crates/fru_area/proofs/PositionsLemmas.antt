@@ -1,15 +1,17 @@
 -- What is read of an area at each position that fields lead to.
-use Rattle.std.proofs.Common.{◌≡◌, ◌≢◌, ℕ, zero, suc, ◌+◌, ◌-◌, ◌/◌, ◌%◌, ◌<◌, ◌≤◌, ◌⊎◌, inl, inr, List, [], ◌∷◌, length, take, drop, Result, Ok, Err, Some, None, IsOk, refl, sym, ap, subst, ◌∙◌, arith, length-drop, drop-cons}
+use Rattle.std.proofs.Common.{◌≡◌, ℕ, zero, suc, ◌+◌, ◌-◌, ◌<◌, ◌≤◌, ◌⊎◌, inl, inr, List, [], ◌∷◌, length, take, drop, Result, Ok, Err, Some, IsOk}
+use Rattle.std.proofs.Common.{refl, sym, ap, subst, ◌∙◌, arith, length-drop, drop-cons}
 use Rattle.std.specs.Prelude.{slice_index}
 use Rattle.std.proofs.lemmas.List.{length-take, drop-take, drop-drop}
-use Rattle.std.proofs.lemmas.Bool.{cases_lt, cases_eq, ne_eqb, lt-ltb, le-ltb}
+use Rattle.std.proofs.lemmas.Bool.{cases_lt, cases_eq}
 use Rattle.fru_area.specs.declared.fault.Area.{Area}
 use Rattle.fru_area.specs.declared.fault.FruFault.{FruFault}
 use Rattle.fru_area.specs.declared.fault.FruFault.TheVariants.{FieldOutside, NoEnd}
 use Rattle.fru_area.specs.Answers.{checked}
-use Rattle.fru_area.specs.Positions.{checksum_at, field_end, Reaches, first, next, HasFieldOutside, LacksEnd, HasEnd}
-use Rattle.fru_area.specs.Walks.{Raw, first_field, raw_fields, field_bytes}
-use Rattle.fru_area.proofs.Fields.{SoundSoFar, SoundSoFar-start, SoundSoFar-field, SoundSoFar-end, SoundSoFar-fault}
+use Rattle.fru_area.specs.Positions.{checksum_at, IsFieldAt, field_end, Reaches, first, next, HasFieldOutside, LacksEnd, HasEnd}
+use Rattle.fru_area.specs.Walks.{Raw, end_mark, len_of, first_field, with_field, raw_fields, field_bytes}
+use Rattle.fru_area.proofs.WalksLemmas.{raw_at, first_field-fits, first_field-outside, first_field-mark, first_field-none, GoesOn, GoesOn-start}
+use Rattle.fru_area.proofs.WalksLemmas.{GoesOn-field, GoesOn-end, GoesOn-fault}
 
 length-field_bytes_at : (bytes : List ℕ) (at : ℕ) → length (field_bytes bytes at) ≡ checksum_at bytes - at
 length-field_bytes_at bytes at = simp (length-take, length-drop) (omega arith)
@@ -35,45 +37,34 @@ field_bytes-at_checksum bytes =
     let none : checksum_at bytes - checksum_at bytes ≡ 0 = omega arith in
     rw none refl
 
--- a type/length byte and the bytes behind it
-abbrev raw_at : ℕ → List ℕ → Raw
-raw_at head bytes = record { kind = head / 64; bytes = take (head % 64) bytes }
+-- a field in front is no fault
+pub checked-with_field : (raw : Raw) (read : Result (List Raw) FruFault) → checked (with_field raw read) ≡ checked read
+checked-with_field raw (Ok raws) = refl
+checked-with_field raw (Err fault) = refl
 
-first_field-fits :
-    (area : Area) (head : ℕ) (bytes : List ℕ) → head ≢ 0xC1 → head % 64 ≤ length bytes →
-    first_field area (head ∷ bytes) ≡ Ok (Some (raw_at head bytes, drop (head % 64) bytes))
-unfolding first_field
-first_field-fits area head bytes not_mark fits = rw (ne_eqb head 0xC1 not_mark, le-ltb (length bytes) (head % 64) fits) refl
-
-first_field-outside :
-    (area : Area) (head : ℕ) (bytes : List ℕ) → head ≢ 0xC1 → length bytes < head % 64 → first_field area (head ∷ bytes) ≡ Err (FieldOutside area)
-unfolding first_field
-first_field-outside area head bytes not_mark over = rw (ne_eqb head 0xC1 not_mark, lt-ltb (length bytes) (head % 64) over) refl
-
-first_field-mark : (area : Area) (bytes : List ℕ) → first_field area (0xC1 ∷ bytes) ≡ Ok None
-unfolding first_field
-first_field-mark area bytes = refl
-
-first_field-none : (area : Area) → first_field area [] ≡ Err (NoEnd area)
-unfolding first_field
-first_field-none area = refl
-
--- what is read of the bytes from each position that fields lead to decides what is read of all
-sound_at :
-    (area : Area) (bytes : List ℕ) (start at : ℕ) → Reaches bytes start at →
-    SoundSoFar area (field_bytes bytes at) (checked (raw_fields area bytes start))
-sound_at area _ _ _ (first bytes start) =
-    SoundSoFar-start area (field_bytes bytes start) bytes start refl (omega (arith, length-field_bytes_at bytes start))
-sound_at area _ _ _ (next bytes start at reached field fits) =
+-- the field that stands at a position, where its bytes are those of the area
+first_field-at :
+    (area : Area) (bytes : List ℕ) (at : ℕ) → IsFieldAt bytes at → field_end bytes at ≤ checksum_at bytes →
+    first_field area (field_bytes bytes at) ≡ Ok (Some (raw_at (slice_index bytes at) (field_bytes bytes (at + 1)), field_bytes bytes (field_end bytes at)))
+first_field-at area bytes at field fits =
     let head = slice_index bytes at in
-    let later = length-field_bytes_at bytes (at + 1) in
-    let read =
-        ap (first_field area) (field_bytes-front bytes at field.inside)
-        ∙ first_field-fits area head (field_bytes bytes (at + 1)) field.not_mark (omega (arith, later, fits))
-        ∙ ap (λ (rest : List ℕ). Ok (Some (raw_at head (field_bytes bytes (at + 1)), rest))) (drop-field_bytes bytes (at + 1) (head % 64) fits) in
+    let later = field_bytes bytes (at + 1) in
+    let inside : len_of head ≤ length later = omega (arith, length-field_bytes_at bytes (at + 1), fits) in
+    ap (first_field area) (field_bytes-front bytes at field.inside)
+    ∙ first_field-fits area head later field.not_mark inside
+    ∙ ap (λ (rest : List ℕ). Ok (Some (raw_at head later, rest))) (drop-field_bytes bytes (at + 1) (len_of head) fits)
+
+-- what is read from each position that fields lead to decides what is read of all
+goes_on_at :
+    (area : Area) (bytes : List ℕ) (start at : ℕ) → Reaches bytes start at →
+    GoesOn area (field_bytes bytes at) checked (checked (raw_fields area bytes start))
+goes_on_at area _ _ _ (first bytes start) =
+    GoesOn-start area (field_bytes bytes start) bytes start checked _ refl (omega (arith, length-field_bytes_at bytes start)) refl
+goes_on_at area _ _ _ (next bytes start at reached field fits) =
     let shorter : length (field_bytes bytes (field_end bytes at)) < length (field_bytes bytes at) =
-        omega (arith, length-field_bytes_at bytes at, length-field_bytes_at bytes (field_end bytes at), field.inside) in
-    SoundSoFar-field area (field_bytes bytes at) (field_bytes bytes (field_end bytes at)) _ _ read shorter (sound_at area bytes start at reached)
+    omega (arith, length-field_bytes_at bytes at, length-field_bytes_at bytes (field_end bytes at), field.inside) in
+    GoesOn-field area (field_bytes bytes at) (field_bytes bytes (field_end bytes at)) _ checked checked _ (first_field-at area bytes at field fits) shorter
+    (checked-with_field _) (goes_on_at area bytes start at reached)
 
 checked-err : (r : Result (List Raw) FruFault) (fault : FruFault) → Err fault ≡ checked r → r ≡ Err fault
 checked-err (Ok raws) fault e = absurd (cc)
@@ -86,25 +77,26 @@ checked-ok (Err other) e = absurd (cc)
 pub read-outside :
     (area : Area) (bytes : List ℕ) (start : ℕ) → HasFieldOutside bytes start → raw_fields area bytes start ≡ Err (FieldOutside area)
 read-outside area bytes start has =
-    let head = slice_index bytes has.at in
-    let later = length-field_bytes_at bytes (has.at + 1) in
+    let later = field_bytes bytes (has.at + 1) in
+    let over : length later < len_of (slice_index bytes has.at) =
+    omega (arith, length-field_bytes_at bytes (has.at + 1), has.outside, has.field.inside) in
     let read =
-        ap (first_field area) (field_bytes-front bytes has.at has.field.inside)
-        ∙ first_field-outside area head (field_bytes bytes (has.at + 1)) has.field.not_mark (omega (arith, later, has.outside, has.field.inside)) in
-    checked-err _ _ (SoundSoFar-fault area (field_bytes bytes has.at) _ (FieldOutside area) read (sound_at area bytes start has.at has.reached))
+    ap (first_field area) (field_bytes-front bytes has.at has.field.inside)
+    ∙ first_field-outside area (slice_index bytes has.at) later has.field.not_mark over in
+    checked-err _ _ (GoesOn-fault area (field_bytes bytes has.at) checked _ (FieldOutside area) read (goes_on_at area bytes start has.at has.reached))
 
 pub read-no_end : (area : Area) (bytes : List ℕ) (start : ℕ) → LacksEnd bytes start → raw_fields area bytes start ≡ Err (NoEnd area)
 read-no_end area bytes start reached =
     let read = ap (first_field area) (field_bytes-at_checksum bytes) ∙ first_field-none area in
-    checked-err _ _ (SoundSoFar-fault area (field_bytes bytes (checksum_at bytes)) _ (NoEnd area) read (sound_at area bytes start (checksum_at bytes) reached))
+    let on = goes_on_at area bytes start (checksum_at bytes) reached in
+    checked-err _ _ (GoesOn-fault area (field_bytes bytes (checksum_at bytes)) checked _ (NoEnd area) read on)
 
 pub read-whole : (area : Area) (bytes : List ℕ) (start : ℕ) → HasEnd bytes start → IsOk (raw_fields area bytes start)
 read-whole area bytes start has =
     let read =
-        ap (first_field area) (field_bytes-front bytes has.at has.inside)
-        ∙ ap (λ (head : ℕ). first_field area (head ∷ field_bytes bytes (has.at + 1))) has.mark
-        ∙ first_field-mark area (field_bytes bytes (has.at + 1)) in
-    checked-ok _ (SoundSoFar-end area (field_bytes bytes has.at) _ read (sound_at area bytes start has.at has.reached))
+    ap (first_field area) (field_bytes-front bytes has.at has.inside)
+    ∙ first_field-mark area (slice_index bytes has.at) (field_bytes bytes (has.at + 1)) has.mark in
+    checked-ok _ (GoesOn-end area (field_bytes bytes has.at) checked _ read (goes_on_at area bytes start has.at has.reached))
 
 -- fields lead to one of the three
 abbrev Decided : List ℕ → ℕ → Type 0
@@ -118,15 +110,16 @@ decided_from (suc more) bytes start at enough fits reached =
   where
     of :
         (at < checksum_at bytes) ⊎ (checksum_at bytes ≤ at) →
-        (checksum_at bytes < field_end bytes at + more → field_end bytes at ≤ checksum_at bytes → Reaches bytes start (field_end bytes at) → Decided bytes start) →
+        (checksum_at bytes < field_end bytes at + more → field_end bytes at ≤ checksum_at bytes → Reaches bytes start (field_end bytes at) →
+        Decided bytes start) →
         Decided bytes start
     of (inr end) later =
         let same : at ≡ checksum_at bytes = omega arith in
         inr (inl (subst (Reaches bytes start) same reached))
-    of (inl inside) later = with_byte (cases_eq (slice_index bytes at) 0xC1) (cases_lt (checksum_at bytes) (field_end bytes at))
+    of (inl inside) later = with_byte (cases_eq (slice_index bytes at) end_mark) (cases_lt (checksum_at bytes) (field_end bytes at))
       where
         with_byte :
-            (slice_index bytes at ≡ 0xC1) ⊎ (slice_index bytes at ≡ 0xC1 → ⊥) →
+            (slice_index bytes at ≡ end_mark) ⊎ (slice_index bytes at ≡ end_mark → ⊥) →
             (checksum_at bytes < field_end bytes at) ⊎ (field_end bytes at ≤ checksum_at bytes) → Decided bytes start
         with_byte (inl mark) size = inr (inr (record { at = at; reached = reached; inside = inside; mark = mark }))
         with_byte (inr not_mark) (inl outside) =

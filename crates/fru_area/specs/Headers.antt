@@ -1,8 +1,10 @@
 -- The common header of a FRU, and an information area as a whole (FRU definition 1.0, sections 8 and 10 to 12).
-use Rattle.std.specs.Prelude.{ℕ, ◌+◌, ◌*◌, ◌%◌, ◌==◌, ◌||◌, not, nat_lt, if◌then◌else◌, List, length, take, sum, slice_index, slice_range, Result, Ok, Err}
+use Rattle.std.specs.Prelude.{ℕ, ◌+◌, ◌*◌, ◌%◌, ◌==◌, ◌||◌, not, nat_lt, if◌then◌else◌, List, length, take, sum, slice_index, slice_range, Result, Ok}
+use Rattle.std.specs.Prelude.{Err}
 use Rattle.fru_area.specs.declared.fault.Area.{Area}
 use Rattle.fru_area.specs.declared.fault.FruFault.{FruFault}
-use Rattle.fru_area.specs.declared.fault.FruFault.TheVariants.{FruShort, FruTooLong, HeaderVersion, HeaderChecksum, AreaOutside, AreaVersion, AreaLength, AreaChecksum}
+use Rattle.fru_area.specs.declared.fault.FruFault.TheVariants.{FruShort, FruTooLong, HeaderVersion, HeaderChecksum, AreaOutside, AreaVersion}
+use Rattle.fru_area.specs.declared.fault.FruFault.TheVariants.{AreaLength, AreaChecksum}
 use Rattle.fru_area.specs.declared.header.Header.{Header}
 
 -- the version of the format, and of each area

@@ -1,14 +1,17 @@
-ghost use Rattle.std.specs.Prelude.{◌≡◌, ◌+◌, ◌<◌, ◌≤◌, length, take, IfOk, IfSome};
+ghost use Rattle.std.specs.Prelude.{◌≡◌, ◌+◌, ◌^◌, ◌<◌, ◌≤◌, length, take, IfOk, IfSome};
 ghost use Rattle.fru_area.specs.Headers.{area_at, unit, longest_area, last_start};
-ghost use Rattle.fru_area.specs.Walks.{raw_fields, field_bytes};
+ghost use Rattle.fru_area.specs.Walks.{first_field, raw_fields, field_bytes, last_kind, longest_field};
 ghost use Rattle.fru_area.specs.Areas.{area_fields};
 ghost use Rattle.fru_area.specs.Answers.{Appends, Gives, checked, seen};
-ghost use Rattle.fru_area.specs.Walks.{first_field};
-ghost use Rattle.fru_area.specs.Views.{found_view, IsNext};
+ghost use Rattle.fru_area.specs.NextNames.{IsNext};
+ghost use Rattle.fru_area.specs.RawFields.{found_view};
 
 use crate::header::{FORMAT_VERSION, UNIT};
 use crate::{Area, Field, FieldList, FieldName, FruFault, area_sum, field_text};
 use std::alloc::Global;
+
+// Stands in place of a type/length byte and ends the fields.
+const END_MARK: u8 = 0xC1;
 
 /// The area that begins at a byte, whole, or the first of its rules that is broken: `AreaOutside`,
 /// `AreaVersion`, `AreaLength`, `AreaChecksum`. It takes no memory.
@@ -60,12 +63,12 @@ struct RawField<'a> {
 fn raw_field(area: Area, bytes: &[u8]) -> Result<Option<RawField<'_>>, FruFault>
     ensures exact { seen found_view result ≡ first_field area bytes.now }
     ensures smaller { IfOk result (λ found. IfSome found (λ raw. length raw.rest.now < length bytes.now)) }
-    ensures short { IfOk result (λ found. IfSome found (λ raw. (raw.kind ≤ 3) × (length raw.bytes.now ≤ 63))) }
+    ensures short { IfOk result (λ found. IfSome found (λ raw. (raw.kind ≤ last_kind) × (length raw.bytes.now ≤ longest_field))) }
 {
     let Some((head, after)) = bytes.split_first() else {
         return Err(FruFault::NoEnd(area));
     };
-    if *head == 0xC1 {
+    if *head == END_MARK {
         return Ok(None);
     }
     let count = usize::from(*head % 64);
@@ -89,9 +92,9 @@ struct NextName<'a> {
 }
 
 fn next_name(area: Area, names: &[FieldName], number: u16) -> NextName<'_>
-    requires { number < 65535 }
+    requires { number + 1 < 2 ^ 16 }
     ensures named { IsNext area names.now number result }
-    ensures most { result.number ≤ number + 1 }
+    ensures limit { result.number ≤ number + 1 }
 {
     match names.split_first() {
         Some((name, later)) => NextName {

@@ -1,5 +1,6 @@
 ghost use Rattle.std.specs.Prelude.{◌≡◌, ◌≤◌, ◌<◌, ◌+◌, ◌∷◌, ◌++◌, [], length, encode_utf8, IfSome, IfNone, IfOk, OnOk, OnErr, IsTrue, ◌↔◌, bytes_eq};
 ghost use Rattle.fru_area.specs.Names.{name_text};
+ghost use Rattle.fru_area.specs.Texts.{longest_text};
 
 use crate::FieldName;
 use arrayvec::ArrayString;
@@ -7,27 +8,31 @@ use bmc_base::OutOfMemory;
 use std::alloc::Global;
 use std::marker::Model;
 
+// The most bytes of the text of a field.
+const LONGEST_TEXT: usize = 128;
+
 /// The text of a field: at most 128 bytes of UTF-8, held without the heap.
 #[derive(Drop)]
 pub struct FieldText {
-    text: ArrayString<128>,
+    text: ArrayString<LONGEST_TEXT>,
 }
 
 impl Model for FieldText {
     ghost use Rattle.std.specs.Prelude.{ℕ, List, ◌≤◌, length};
+    ghost use Rattle.fru_area.specs.Texts.{longest_text};
 
     ghost Value = { List ℕ };
 
     ghost view = { λ t. t.text.bytes };
 
-    ghost invariant = { λ t. length t.text.bytes ≤ 128 };
+    ghost invariant = { λ t. length t.text.bytes ≤ longest_text };
 }
 
 impl FieldText {
     /// The text, or none above 128 bytes. It takes no memory.
     pub fn new(text: &str) -> Option<FieldText>
         ensures found { IfSome result (λ t. t ≡ text.now) }
-        ensures none { IfNone result (128 < length text.now) }
+        ensures none { IfNone result (longest_text < length text.now) }
     {
         let mut held = ArrayString::new();
         match held.try_push_str(text) {
@@ -56,7 +61,7 @@ impl FieldText {
 
     // A text at the end.
     pub(crate) fn push_str(&mut self, text: &str)
-        requires { length self.old + length text.now ≤ 128 }
+        requires { length self.old + length text.now ≤ longest_text }
         ensures { self.new ≡ self.old ++ text.now }
     {
         self.text.push_str(text);
@@ -64,7 +69,7 @@ impl FieldText {
 
     // A character at the end.
     pub(crate) fn push(&mut self, c: char)
-        requires { length self.old + length (encode_utf8 c) ≤ 128 }
+        requires { length self.old + length (encode_utf8 c) ≤ longest_text }
         ensures { self.new ≡ self.old ++ encode_utf8 c }
     {
         self.text.push(c);
@@ -72,8 +77,8 @@ impl FieldText {
 
     // A character of ASCII at the end.
     pub(crate) fn push_ascii(&mut self, byte: u8)
-        requires room { length self.old < 128 }
-        requires ascii { byte < 128 }
+        requires room { length self.old < longest_text }
+        requires ascii { byte < 0x80 }
         ensures { self.new ≡ self.old ++ byte ∷ [] }
     {
         self.push(char::from(byte));
@@ -82,7 +87,7 @@ impl FieldText {
     /// The text, read.
     pub fn as_str(&self) -> &str
         ensures text { result.now ≡ self.now }
-        ensures most { length self.now ≤ 128 }
+        ensures limit { length self.now ≤ longest_text }
     {
         self.text.as_str()
     }

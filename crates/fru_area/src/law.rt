@@ -8,7 +8,8 @@ ghost use Rattle.fru_area.specs.declared.name.FieldName.{FieldName};
 
 /// The fields that are read of an area are those that its bytes spell: one list of them, or none.
 pub fn one_reading()
-    ensures spelled { (area : Area) (bytes : List ℕ) (start : ℕ) (raws : List Raw) → (raw_fields area bytes start ≡ Ok raws) ↔ Spells (field_bytes bytes start) raws }
+    ensures spelled { (area : Area) (bytes : List ℕ) (start : ℕ) (raws : List Raw) →
+        (raw_fields area bytes start ≡ Ok raws) ↔ Spells (field_bytes bytes start) raws }
     ensures one { (bytes : List ℕ) (raws others : List Raw) → Spells bytes raws → Spells bytes others → raws ≡ others }
 {}
 
@@ -21,7 +22,10 @@ pub fn one_name()
 /// the checksum, `NoEnd` exactly where fields lead to the checksum, and fields exactly where they lead
 /// to the end mark.
 pub fn reading_by_positions()
-    ensures outside { (area : Area) (bytes : List ℕ) (start : ℕ) → start < length bytes → (raw_fields area bytes start ≡ Err (FieldOutside area)) ↔ HasFieldOutside bytes start }
-    ensures no_end { (area : Area) (bytes : List ℕ) (start : ℕ) → start < length bytes → (raw_fields area bytes start ≡ Err (NoEnd area)) ↔ LacksEnd bytes start }
-    ensures whole { (area : Area) (bytes : List ℕ) (start : ℕ) → start < length bytes → IsOk (raw_fields area bytes start) ↔ HasEnd bytes start }
+    ensures outside { (area : Area) (bytes : List ℕ) (start : ℕ) → start < length bytes →
+        (raw_fields area bytes start ≡ Err (FieldOutside area)) ↔ HasFieldOutside bytes start }
+    ensures no_end { (area : Area) (bytes : List ℕ) (start : ℕ) → start < length bytes →
+        (raw_fields area bytes start ≡ Err (NoEnd area)) ↔ LacksEnd bytes start }
+    ensures whole { (area : Area) (bytes : List ℕ) (start : ℕ) → start < length bytes →
+        IsOk (raw_fields area bytes start) ↔ HasEnd bytes start }
 {}

@@ -1,10 +1,13 @@
-ghost use Rattle.std.specs.Prelude.{◌≡◌, ◌≤◌, ◌<◌, ◌^◌, ◌++◌, ℕ, length, decimal, Some, IfSome, IfNone, IsTrue, ◌↔◌};
-ghost use Rattle.fru_area.specs.Names.{name_text, number_of, custom_prefix, IsName};
-ghost use Rattle.fru_area.specs.Views.{number_text, IsFixed, LacksNumber};
+ghost use Rattle.std.specs.Prelude.{◌≡◌, ◌≤◌, ◌+◌, ◌<◌, ◌^◌, ◌++◌, ℕ, length, decimal, Some, IfSome, IfNone, IsTrue, ◌↔◌};
+ghost use Rattle.fru_area.specs.Names.{name_text, number_of, number_text, custom_prefix, last_custom, IsName, IsFixed, LacksNumber};
+ghost use Rattle.fru_area.specs.Texts.{longest_text};
 ghost use Rattle.fru_area.specs.declared.name.FieldName.{FieldName};
 
 use crate::{Area, FieldText};
 use std::fmt;
+
+// The highest number of a custom field: an area has no more bytes.
+const LAST_CUSTOM: u16 = 2040;
 
 /// The name of a field of a record (FRU definition 1.0, sections 10 to 12).
 #[derive(Clone, Copy, Debug, PartialEq, Eq)]
@@ -77,7 +80,7 @@ impl FieldName {
     #[tactic(auto, unfolding(crate::specs::Names::name_text))]
     fn stem(&self) -> &'static str
         ensures text { result.now ++ number_text self.now ≡ name_text self.now }
-        ensures short { length result.now ≤ 24 }
+        ensures room { length result.now + 5 ≤ longest_text }
     {
         match self {
             FieldName::ChassisType => "CHASSIS_TYPE",
@@ -104,7 +107,7 @@ impl FieldName {
 // What the name of a custom field of an area begins with.
 fn custom_prefix(area: Area) -> &'static str
     ensures text { result.now ≡ custom_prefix area }
-    ensures short { length result.now ≤ 24 }
+    ensures room { length result.now + 5 ≤ longest_text }
 {
     match area {
         Area::Chassis => "CHASSIS_INFO_AM",
@@ -165,9 +168,9 @@ fn read_custom(area: Area, text: &str) -> Option<FieldName>
 
 // Whether a custom field can have this number.
 fn is_custom_number(number: u16) -> bool
-    ensures { IsTrue result ↔ ((1 ≤ number) × (number ≤ 2040)) }
+    ensures { IsTrue result ↔ ((1 ≤ number) × (number ≤ last_custom)) }
 {
-    (1..=2040).contains(&number)
+    (1..=LAST_CUSTOM).contains(&number)
 }
 
 impl fmt::Display for FieldName {

@@ -1,17 +1,22 @@
-ghost use Rattle.std.specs.Prelude.{◌≡◌, ◌+◌, ◌<◌, ◌≤◌, ◌&&◌, [], ◌++◌, length, true, MatchOption};
+ghost use Rattle.std.specs.Prelude.{◌≡◌, ◌+◌, ◌^◌, ◌<◌, ◌≤◌, ◌&&◌, [], ◌++◌, length, true, MatchOption};
 ghost use Rattle.std.specs.Char.Utf16.{is_high_surrogate, is_low_surrogate, surrogate_pair_char};
 ghost use Rattle.hex.specs.Hex.{encode_lower};
-ghost use Rattle.fru_area.specs.Texts.{text_of, bcd_char, bcd_text, little_endian, six_bit_chars, six_bit_text, latin_text, unicode_units, unicode_text};
-ghost use Rattle.fru_area.specs.Views.{IsFirstChar, IsFirstUnit, unit_char_of};
+ghost use Rattle.fru_area.specs.Texts.{text_of, longest_text, bcd_char, bcd_text, little_endian, six_bit_chars, six_bit_text, latin_text};
+ghost use Rattle.fru_area.specs.Texts.{unicode_units, unicode_text};
+ghost use Rattle.fru_area.specs.Walks.{last_kind, longest_field};
+ghost use Rattle.fru_area.specs.Units.{IsFirstChar, IsFirstUnit, unit_char_of};
 
 use crate::FieldText;
+
+// The most bytes of a field.
+const LONGEST_FIELD: usize = 63;
 
 /// The text of a field of this type (0 binary, 1 BCD plus, 2 6-bit ASCII, 3 by language) in an area
 /// that counts as English or not (FRU definition 1.0, section 13). It takes no memory.
 #[tactic(auto, unfolding(crate::specs::Texts::text_of))]
 pub fn field_text(kind: u8, english: bool, bytes: &[u8]) -> FieldText
-    requires kind { kind ≤ 3 }
-    requires short { length bytes.now ≤ 63 }
+    requires kind { kind ≤ last_kind }
+    requires short { length bytes.now ≤ longest_field }
     ensures { result ≡ text_of english (record { kind = kind; bytes = bytes.now }) }
 {
     match kind {
@@ -25,10 +30,10 @@ pub fn field_text(kind: u8, english: bool, bytes: &[u8]) -> FieldText
 
 // Binary, as hexadecimal.
 fn binary_text(bytes: &[u8]) -> FieldText
-    requires { length bytes.now ≤ 63 }
+    requires { length bytes.now ≤ longest_field }
     ensures { result ≡ encode_lower bytes.now }
 {
-    let mut buffer = [0; 126];
+    let mut buffer = [0; 2 * LONGEST_FIELD];
     let digits = &mut buffer[..2 * bytes.len()];
     hex::encode_to_slice(bytes, digits).unwrap();
     let text = str::from_utf8(digits).unwrap();
@@ -37,7 +42,7 @@ fn binary_text(bytes: &[u8]) -> FieldText
 
 // BCD plus, two characters a byte.
 fn bcd_text(bytes: &[u8]) -> FieldText
-    requires { length bytes.now ≤ 63 }
+    requires { length bytes.now ≤ longest_field }
     ensures { result ≡ bcd_text bytes.now }
 {
     let mut text = FieldText::empty();
@@ -51,7 +56,7 @@ fn bcd_text(bytes: &[u8]) -> FieldText
 fn bcd_char(nibble: u8) -> u8
     requires { nibble < 16 }
     ensures exact { result ≡ bcd_char nibble }
-    ensures ascii { result < 128 }
+    ensures ascii { result < 0x80 }
 {
     match nibble {
         0..=9 => b'0' + nibble,
@@ -66,7 +71,7 @@ fn bcd_char(nibble: u8) -> u8
 
 // 6-bit ASCII: three bytes hold four characters.
 fn six_bit_text(bytes: &[u8]) -> FieldText
-    requires { length bytes.now ≤ 63 }
+    requires { length bytes.now ≤ longest_field }
     ensures { result ≡ six_bit_text bytes.now }
 {
     let mut text = FieldText::empty();
@@ -83,7 +88,7 @@ fn six_bit_text(bytes: &[u8]) -> FieldText
 fn group_bits(group: &[u8]) -> u32
     requires { length group.now ≤ 3 }
     ensures exact { result ≡ little_endian group.now }
-    ensures most { result < 16777216 }
+    ensures limit { result < 2 ^ 24 }
 {
     match group {
         [] => 0,
@@ -97,18 +102,18 @@ fn group_bits(group: &[u8]) -> u32
 
 // So many characters from the low bits up.
 fn push_six_bit(text: &mut FieldText, mut bits: u32, count: usize)
-    requires { length text.old + count ≤ 128 }
+    requires { length text.old + count ≤ longest_text }
     ensures { text.new ≡ text.old ++ six_bit_chars count bits }
 {
     for _ in 0..count {
-        text.push_ascii(32 + (bits % 64) as u8);
+        text.push_ascii(b' ' + (bits % 64) as u8);
         bits /= 64;
     }
 }
 
 // Latin 1, a character a byte.
 fn latin_text(bytes: &[u8]) -> FieldText
-    requires { length bytes.now ≤ 63 }
+    requires { length bytes.now ≤ longest_field }
     ensures { result ≡ latin_text bytes.now }
 {
     let mut text = FieldText::empty();
@@ -120,7 +125,7 @@ fn latin_text(bytes: &[u8]) -> FieldText
 
 // 2-byte Unicode.
 fn unicode_text(bytes: &[u8]) -> FieldText
-    requires { length bytes.now ≤ 63 }
+    requires { length bytes.now ≤ longest_field }
     ensures { result ≡ unicode_text bytes.now }
 {
     let mut text = FieldText::empty();

@@ -10,7 +10,7 @@ use Rattle.fru_area.specs.declared.fault.Area.TheVariants.{Chassis, Board, Produ
 use Rattle.fru_area.specs.declared.fault.FruFault.{FruFault}
 use Rattle.fru_area.specs.declared.field.Field.{Field}
 use Rattle.fru_area.specs.declared.header.Header.{Header}
-use Rattle.fru_area.proofs.Spelled.{Spells-raw_fields, raw_fields-Spells}
+use Rattle.fru_area.proofs.WalksLemmas.{Spells-raw_fields, raw_fields-Spells}
 use Rattle.fru_record.specs.Records.{names_of, fields_start, is_english, fixed_fields, fields_of_area, fields_at, fields_under, record_of, ◌>>=◌}
 use Rattle.fru_record.specs.Spellings.{area_from, HasHeader, HasArea, SpellsArea, SpellsPart, absent, present, SpellsRecord}
 use Rattle.fru_record.proofs.RecordsLemmas.{named_of, fields_of_area-ok, fields_at-absent, fields_at-placed, fields_at-present, record_of-header, fields_under-ok}
