@@ -1,17 +1,15 @@
 -- When the fields of an area of a record break a rule, by positions.
-use Rattle.std.proofs.Common.{◌≡◌, ◌≢◌, ◌*◌, ◌<◌, ◌≤◌, ◌+◌, ℕ, List, [], ◌++◌, length, take, drop, Bool, true, false, nat_eq, slice_index, slice_range, Result, Ok, Err, refl, ap, sym, subst, ◌∙◌, arith, length-drop}
-use Rattle.std.specs.Prelude.{⊤}
+use Rattle.std.proofs.Common.{◌≡◌, ◌≢◌, ◌*◌, ◌<◌, ℕ, List, [], ◌++◌, length, Bool, true, false, nat_eq, slice_index, Result, Ok, Err, refl, ap, sym, subst, ◌∙◌, arith, length-drop}
 use Rattle.std.proofs.lemmas.Bool.{eqb-true}
 use Rattle.std.proofs.lemmas.List.{length-take}
 use Rattle.fru_area.specs.Areas.{area_fields, named_ok}
-use Rattle.fru_area.specs.Headers.{header, area_at, area_end}
+use Rattle.fru_area.specs.Headers.{header, area_at}
 use Rattle.fru_area.specs.Walks.{Raw, raw_fields}
 use Rattle.fru_area.specs.declared.fault.Area.{Area}
 use Rattle.fru_area.specs.declared.fault.Area.TheVariants.{Chassis, Board, Product}
 use Rattle.fru_area.specs.declared.fault.FruFault.{FruFault}
 use Rattle.fru_area.specs.declared.name.FieldName.{FieldName}
 use Rattle.fru_area.specs.declared.field.Field.{Field}
-use Rattle.fru_area.specs.declared.header.Header.{Header}
 use Rattle.fru_record.specs.FieldFaults.{IsSpelled, EarlierSpelled, BreaksFields}
 use Rattle.fru_record.specs.Records.{names_of, fields_start, is_english, fixed_fields, fields_of_area, fields_at, fields_under, record_of, ◌>>=◌}
 use Rattle.fru_record.specs.Spellings.{HasHeader, HasArea, area_from, offset_in}
