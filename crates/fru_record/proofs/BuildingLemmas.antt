@@ -56,7 +56,7 @@ Spells-chars (c ∷ d ∷ cs) rest raws l s =
 -- the first of texts that can be written, and the others
 first_writable : (text : List ℕ) (texts : List (List ℕ)) → AreWritable (text ∷ texts) → IsWritable text × AreWritable texts
 first_writable text texts h =
-    let both : (rule : TextRule) → (breaks rule text ≡ false) × (list_any (breaks rule) texts ≡ false) = λ rule. both_false (breaks rule text) (list_any (breaks rule) texts) (h rule) in
+    let both : (rule : TextRule) → (breaks rule text ≡ false) × (list_any (breaks rule) texts ≡ false) = λ rule. both_false _ _ (h rule) in
     (λ rule. (both rule).0, λ rule. (both rule).1)
 
 Spells-texts : (texts : List (List ℕ)) (rest : List ℕ) → AreWritable texts → Spells (flat_map field_of_text texts ++ 0xC1 ∷ rest) (map raw_of texts)
@@ -79,7 +79,7 @@ text_of-chars : (cs : List ℕ) → is_bad_single cs ≡ false → text_of true 
 unfolding text_of
 text_of-chars [] h = refl
 text_of-chars (c ∷ []) h =
-    let range = both_false (nat_lt c 32) (nat_lt 95 c) h in
+    let range = both_false _ _ h in
     six_bit-single c (ltb-false c 32 range.0) (ltb-false 95 c range.1)
 text_of-chars (c ∷ d ∷ cs) h = latin_text-encodes (c ∷ d ∷ cs)
 

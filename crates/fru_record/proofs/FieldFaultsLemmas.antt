@@ -1,6 +1,6 @@
 -- When the fields of an area of a record break a rule, by positions.
 use Rattle.std.proofs.Common.{◌≡◌, ◌≢◌, ◌*◌, ◌<◌, ℕ, List, [], ◌++◌, length, Bool, true, false, nat_eq, slice_index, Result, Ok, Err, refl, ap, sym, subst, ◌∙◌, arith, length-drop}
-use Rattle.std.proofs.lemmas.Bool.{eqb-true}
+use Rattle.std.proofs.lemmas.Bool.{eqb-true, eqb-false}
 use Rattle.std.proofs.lemmas.List.{length-take}
 use Rattle.fru_area.specs.Areas.{area_fields, named_ok}
 use Rattle.fru_area.specs.Headers.{header, area_at}
@@ -14,7 +14,7 @@ use Rattle.fru_record.specs.FieldFaults.{IsSpelled, EarlierSpelled, BreaksFields
 use Rattle.fru_record.specs.Records.{names_of, fields_start, is_english, fixed_fields, fields_of_area, fields_at, fields_under, record_of, ◌>>=◌}
 use Rattle.fru_record.specs.Spellings.{HasHeader, HasArea, area_from, offset_in}
 use Rattle.fru_record.proofs.RecordsLemmas.{named_of, IsOfHeader, IsOfPlace, IsOfFields, Faults-header, Faults-area_at, Faults-fields_at, fields_at-absent, fields_at-placed, fields_at-present, record_of-header}
-use Rattle.fru_record.proofs.SpellingsLemmas.{unequal, header_of, HasHeader-read, HasArea-read, part_read, read_part, read-HasHeader, read-HasArea}
+use Rattle.fru_record.proofs.SpellingsLemmas.{header_of, HasHeader-read, HasArea-read, part_read, read_part, read-HasHeader, read-HasArea}
 
 -- A rule of fields and its fault: where it comes, and that it is no fault of a header or of an area's place, and names its
 -- area.
@@ -69,7 +69,7 @@ breaks_here : (fault : Area → FruFault) (rule : List ℕ → ℕ → Type 0) �
     → fields_at area bytes (offset_in area bytes) ≡ Err (fault area) → BreaksHere rule area bytes
 breaks_here fault rule is area bytes true z e = no_fault [] (fault area) (sym (fields_at-absent area bytes (offset_in area bytes) [] (eqb-true (offset_in area bytes) 0 z) refl) ∙ e)
 breaks_here fault rule is area bytes false z e =
-    let there = unequal (offset_in area bytes) 0 z in
+    let there = eqb-false (offset_in area bytes) 0 z in
     fault_from (area_at area bytes (8 * offset_in area bytes)) (fields_of_area area) (fault area) (sym (fields_at-placed area bytes (offset_in area bytes) there) ∙ e)
     (λ none. absurd (is.no_place area (Faults-area_at area bytes (8 * offset_in area bytes) (fault area) none)))
     (λ found at read.

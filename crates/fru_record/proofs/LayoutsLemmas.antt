@@ -1,6 +1,7 @@
 -- The sizes of the areas of a record that is built, and why it can't be.
 use Rattle.std.proofs.Common.{◌≡◌, ◌≢◌, ℕ, ◌+◌, ◌*◌, ◌<◌, ◌≤◌, inl, inr, min, Bool, true, false, cond, nat_lt, List, [], ◌∷◌, ◌++◌, length, Option, Some, None, Err, refl, ap, sym, ◌∙◌, arith}
 use Rattle.std.specs.Prelude.{◌||◌}
+use Rattle.fru_area.specs.Headers.{longest_record}
 use Rattle.std.specs.List.{list_any}
 use Rattle.std.proofs.lemmas.Bool.{cases_lt, lt-ltb, le-ltb, ltb-false, ne_eqb}
 use Rattle.fru_record.specs.Building.{build_fault, has_late_date, is_long_area, is_long_record, units_of, area_units, offset_of, chassis_body, board_body, product_body, GivesBytes, record_bytes, bytes_of, header_front, closing_byte}
@@ -100,17 +101,17 @@ long_record-seen parts layout h c b p =
 pub sizes : (parts : Parts) (layout : Layout) → IsLayout parts layout → has_long_area parts ≡ false → (layout.chassis ≤ 255) × (layout.board ≤ 255) × (layout.product ≤ 255)
 sizes parts layout h e =
     let seen = long_area-seen parts layout h ∙ e in
-    let two = both_false (nat_lt 255 layout.chassis || nat_lt 255 layout.board) (nat_lt 255 layout.product) seen in
-    let one = both_false (nat_lt 255 layout.chassis) (nat_lt 255 layout.board) two.0 in
+    let two = both_false _ _ seen in
+    let one = both_false _ _ two.0 in
     (ltb-false 255 layout.chassis one.0, ltb-false 255 layout.board one.1, ltb-false 255 layout.product two.1)
 
 offsets : (parts : Parts) (layout : Layout) → IsLayout parts layout → has_long_area parts ≡ false → has_long_record parts ≡ false → HasOffsets layout
 offsets parts layout h a w =
     let s = sizes parts layout h a in
     let seen = long_record-seen parts layout h s.0 s.1 s.2 ∙ w in
-    let two = both_false (nat_lt 255 (offset_at (1 + layout.chassis) layout.board) || nat_lt 255 (offset_at (1 + layout.chassis + layout.board) layout.product)) (nat_lt 4096 (8 * (1 + layout.chassis + layout.board + layout.product))) seen in
-    let one = both_false (nat_lt 255 (offset_at (1 + layout.chassis) layout.board)) (nat_lt 255 (offset_at (1 + layout.chassis + layout.board) layout.product)) two.0 in
-    record { chassis = s.0; board = s.1; product = s.2; board_at = ltb-false 255 (offset_at (1 + layout.chassis) layout.board) one.0; product_at = ltb-false 255 (offset_at (1 + layout.chassis + layout.board) layout.product) one.1 }
+    let two = both_false _ _ seen in
+    let one = both_false _ _ two.0 in
+    record { chassis = s.0; board = s.1; product = s.2; board_at = ltb-false 255 _ one.0; product_at = ltb-false 255 _ one.1 }
 
 pub allowed-writable : (parts : Parts) → build_fault parts ≡ None → AreWritable (texts_of parts)
 allowed-writable parts h = by_rule
@@ -129,8 +130,8 @@ allowed-early parts h = let none = no_fault _ _ _ _ _ _ (sym (build_fault-by par
 pub allowed-short : (parts : Parts) → build_fault parts ≡ None → 8 * (1 + units_of (chassis_body parts.chassis) + units_of (board_body parts.board) + units_of (product_body parts.product)) ≤ 4096
 allowed-short parts h =
     let none = no_fault _ _ _ _ _ _ (sym (build_fault-by parts) ∙ h) in
-    let two = both_false (nat_lt 255 (offset_of (1 + units_of (chassis_body parts.chassis)) (board_body parts.board)) || nat_lt 255 (offset_of (1 + units_of (chassis_body parts.chassis) + units_of (board_body parts.board)) (product_body parts.product))) (nat_lt 4096 (8 * (1 + units_of (chassis_body parts.chassis) + units_of (board_body parts.board) + units_of (product_body parts.product)))) none.no_whole in
-    ltb-false 4096 (8 * (1 + units_of (chassis_body parts.chassis) + units_of (board_body parts.board) + units_of (product_body parts.product))) two.1
+    let two = both_false _ _ none.no_whole in
+    ltb-false longest_record _ two.1
 
 -- parts without a fault can be built
 pub IsBuildable-allowed : (parts : Parts) (layout : Layout) → IsLayout parts layout → build_fault parts ≡ None → IsBuildable parts layout

@@ -46,12 +46,12 @@ GivesFault-then (faults.NoEnd a) read f h = ap (λ r. r >>= f) h
 abbrev pub named_of : Area → List ℕ → Result (List Field) FruFault
 named_of area bytes = area_fields area (is_english area bytes) (names_of area) bytes (fields_start area)
 
-inner : {X : Type 0} (x y : X) → (let r : Result X FruFault = Ok x in r ≡ Ok y) → x ≡ y
-inner x y e = cc
+pub ok_same : {X : Type 0} (x y : X) → (let r : Result X FruFault = Ok x in r ≡ Ok y) → x ≡ y
+ok_same x y e = cc
 
 -- a list to which what reading gives was appended
 pub appended : {X : Type 0} (old new : List X) (read : Result (List X) FruFault) → seen (λ (more : List X). old ++ more) read ≡ Ok new → (more : List X) × (read ≡ Ok more) × (new ≡ old ++ more)
-appended old new (Ok more) h = (more, refl, sym (inner (old ++ more) new h))
+appended old new (Ok more) h = (more, refl, sym (ok_same (old ++ more) new h))
 appended old new (Err fault) h = absurd (cc)
 
 pub Appends-fields : (area : Area) (bytes : List ℕ) (answer : Result ⊤ FruFault) (old mid new : List Field) → mid ≡ old ++ fixed_fields area bytes → Appends answer mid new (named_of area bytes)

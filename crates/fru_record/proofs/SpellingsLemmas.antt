@@ -1,6 +1,6 @@
 -- What is read of a record is what its bytes spell.
 use Rattle.std.proofs.Common.{◌≡◌, ◌≢◌, ◌+◌, ◌*◌, ℕ, List, [], ◌++◌, length, take, Bool, true, false, not, cond, eq-eqb, nat_eq, nat_lt, slice_index, slice_range, Result, Ok, Err, refl, ap, sym, ◌∙◌}
-use Rattle.std.proofs.lemmas.Bool.{eqb-true, ne_eqb, ltb-false, le-ltb}
+use Rattle.std.proofs.lemmas.Bool.{eqb-true, eqb-false, ne_eqb, ltb-false, le-ltb}
 use Rattle.std.specs.Prelude.{◌||◌}
 use Rattle.fru_area.specs.Areas.{named, named_ok, area_fields}
 use Rattle.fru_area.specs.Headers.{unit, header_len, longest_record, header, area_at, area_end, checksum}
@@ -13,7 +13,8 @@ use Rattle.fru_area.specs.declared.header.Header.{Header}
 use Rattle.fru_area.proofs.WalksLemmas.{Spells-raw_fields, raw_fields-Spells}
 use Rattle.fru_record.specs.Records.{names_of, fields_start, is_english, fixed_fields, fields_of_area, fields_at, fields_under, record_of, ◌>>=◌}
 use Rattle.fru_record.specs.Spellings.{area_from, HasHeader, HasArea, SpellsArea, SpellsPart, absent, present, SpellsRecord}
-use Rattle.fru_record.proofs.RecordsLemmas.{named_of, fields_of_area-ok, fields_at-absent, fields_at-placed, fields_at-present, record_of-header, fields_under-ok}
+use Rattle.fru_record.proofs.TextRulesLemmas.{both_false}
+use Rattle.fru_record.proofs.RecordsLemmas.{ok_same, named_of, fields_of_area-ok, fields_at-absent, fields_at-placed, fields_at-present, record_of-header, fields_under-ok}
 
 then_parts : {X Y : Type 0} (r : Result X FruFault) (f : X → Result Y FruFault) (y : Y) → (r >>= f) ≡ Ok y → (x : X) × (r ≡ Ok x) × (f x ≡ Ok y)
 then_parts (Ok x) f y h = (x, refl, h)
@@ -27,16 +28,6 @@ kept false fault rest x h = (refl, h)
 true-not : (b : Bool) → not b ≡ false → b ≡ true
 true-not true h = refl
 true-not false h = absurd (cc)
-
-both_false : (a b : Bool) → (a || b) ≡ false → (a ≡ false) × (b ≡ false)
-both_false true b h = absurd (cc)
-both_false false b h = (refl, h)
-
-pub unequal : (m n : ℕ) → nat_eq m n ≡ false → m ≢ n
-unequal m n e h = let yes : nat_eq m n ≡ true = rw h (eq-eqb n n refl) in absurd (cc)
-
-inner : {X : Type 0} (x y : X) → (let r : Result X FruFault = Ok x in r ≡ Ok y) → x ≡ y
-inner x y e = cc
 
 -- the header of bytes that keep its rules
 abbrev pub header_of : List ℕ → Header
@@ -55,7 +46,7 @@ HasHeader-read bytes at h =
         version = eqb-true (slice_index bytes 0) 1 (true-not _ version.0);
         sum = eqb-true (checksum (take 8 bytes)) 0 (true-not _ sum.0);
       },
-      sym (inner (header_of bytes) at sum.1),
+      sym (ok_same (header_of bytes) at sum.1),
     )
 
 pub read-HasHeader : (bytes : List ℕ) → HasHeader bytes → header bytes ≡ Ok (header_of bytes)
@@ -72,7 +63,7 @@ pub HasArea-read : (area : Area) (bytes found : List ℕ) (s : ℕ) → area_at 
 unfolding area_at
 HasArea-read area bytes found s h =
     let outside = kept (nat_lt (length bytes) (s + 8) || nat_lt (length bytes) (area_end bytes s)) _ _ _ h in
-    let ends = both_false (nat_lt (length bytes) (s + 8)) (nat_lt (length bytes) (area_end bytes s)) outside.0 in
+    let ends = both_false _ _ outside.0 in
     let version = kept (not (nat_eq (slice_index bytes s) 1)) _ _ _ outside.1 in
     let size = kept (nat_eq (slice_index bytes (s + 1)) 0) _ _ _ version.1 in
     let sum = kept (not (nat_eq (checksum (slice_range bytes s (area_end bytes s))) 0)) _ _ _ size.1 in (
@@ -80,10 +71,10 @@ HasArea-read area bytes found s h =
         head = ltb-false (length bytes) (s + 8) ends.0;
         inside = ltb-false (length bytes) (area_end bytes s) ends.1;
         version = eqb-true (slice_index bytes s) 1 (true-not _ version.0);
-        size = unequal (slice_index bytes (s + 1)) 0 size.0;
+        size = eqb-false (slice_index bytes (s + 1)) 0 size.0;
         sum = eqb-true (checksum (slice_range bytes s (area_end bytes s))) 0 (true-not _ sum.0);
       },
-      sym (inner (slice_range bytes s (area_end bytes s)) found sum.1),
+      sym (ok_same (slice_range bytes s (area_end bytes s)) found sum.1),
     )
 
 pub read-HasArea : (area : Area) (bytes : List ℕ) (s : ℕ) → HasArea bytes s → area_at area bytes s ≡ Ok (area_from bytes s)
@@ -98,7 +89,7 @@ read-HasArea area bytes s h =
     ) refl
 
 named_parts : (area : Area) (bytes : List ℕ) (fields : List Field) (r : Result (List Raw) FruFault) → named_ok area (is_english area bytes) (names_of area) r ≡ Ok fields → (raws : List Raw) × (r ≡ Ok raws) × (fields ≡ named area (is_english area bytes) (names_of area) 1 raws)
-named_parts area bytes fields (Ok raws) h = (raws, refl, sym (inner (named area (is_english area bytes) (names_of area) 1 raws) fields h))
+named_parts area bytes fields (Ok raws) h = (raws, refl, sym (ok_same (named area (is_english area bytes) (names_of area) 1 raws) fields h))
 named_parts area bytes fields (Err fault) h = absurd (cc)
 
 area_parts : (area : Area) (bytes : List ℕ) (fields : List Field) → fields_of_area area bytes ≡ Ok fields → (raws : List Raw) × Spells (field_bytes bytes (fields_start area)) raws × (fields ≡ fixed_fields area bytes ++ named area (is_english area bytes) (names_of area) 1 raws)
@@ -106,7 +97,7 @@ unfolding fields_of_area area_fields
 area_parts area bytes fields h =
     let t = then_parts (named_of area bytes) (λ (fields : List Field). Ok (fixed_fields area bytes ++ fields)) fields h in
     let n = named_parts area bytes t.0 (raw_fields area bytes (fields_start area)) t.1 in
-    (n.0, Spells-raw_fields area bytes (fields_start area) n.0 n.1, sym (inner (fixed_fields area bytes ++ t.0) fields t.2) ∙ ap (λ (fs : List Field). fixed_fields area bytes ++ fs) n.2)
+    (n.0, Spells-raw_fields area bytes (fields_start area) n.0 n.1, sym (ok_same (fixed_fields area bytes ++ t.0) fields t.2) ∙ ap (λ (fs : List Field). fixed_fields area bytes ++ fs) n.2)
 
 pub area_whole : (area : Area) (bytes : List ℕ) (raws : List Raw) → Spells (field_bytes bytes (fields_start area)) raws → fields_of_area area bytes ≡ Ok (fixed_fields area bytes ++ named area (is_english area bytes) (names_of area) 1 raws)
 unfolding area_fields
@@ -117,10 +108,10 @@ area_whole area bytes raws s =
 pub part_read : (area : Area) (bytes : List ℕ) (offset : ℕ) (fields : List Field) (none : Bool) → nat_eq offset 0 ≡ none → fields_at area bytes offset ≡ Ok fields → SpellsPart area bytes offset fields
 part_read area bytes offset fields true z h =
     let zero_offset : offset ≡ 0 = eqb-true offset 0 z in
-    let none : fields ≡ [] = inner fields [] (sym h ∙ fields_at-absent area bytes offset [] zero_offset refl) in
+    let none : fields ≡ [] = ok_same fields [] (sym h ∙ fields_at-absent area bytes offset [] zero_offset refl) in
     rw (zero_offset, none) absent
 part_read area bytes offset fields false z h =
-    let ne = unequal offset 0 z in
+    let ne = eqb-false offset 0 z in
     let t = then_parts (area_at area bytes (8 * offset)) (fields_of_area area) fields (sym (fields_at-placed area bytes offset ne) ∙ h) in
     let a = HasArea-read area bytes t.0 (8 * offset) t.1 in
     let p = area_parts area (slice_range bytes (8 * offset) (area_end bytes (8 * offset))) fields (rw a.1 at t.2) in
@@ -158,7 +149,7 @@ record-spelled bytes fields h =
       chassis_part = part_read Chassis bytes _ c.0 _ refl c.1;
       board_part = part_read Board bytes _ b.0 _ refl b.1;
       product_part = part_read Product bytes _ p.0 _ refl p.1;
-      joined = sym (inner (c.0 ++ b.0 ++ p.0) fields p.2);
+      joined = sym (ok_same (c.0 ++ b.0 ++ p.0) fields p.2);
     }
 
 pub spelled-record : (bytes : List ℕ) (fields : List Field) → SpellsRecord bytes fields → record_of bytes ≡ Ok fields
@@ -168,4 +159,4 @@ spelled-record bytes fields s =
     ∙ ap Ok (sym s.joined)
 
 pub spelled-one : (bytes : List ℕ) (fields others : List Field) → SpellsRecord bytes fields → SpellsRecord bytes others → fields ≡ others
-spelled-one bytes fields others s t = inner fields others (sym (spelled-record bytes fields s) ∙ spelled-record bytes others t)
+spelled-one bytes fields others s t = ok_same fields others (sym (spelled-record bytes fields s) ∙ spelled-record bytes others t)

@@ -29,7 +29,7 @@ both_false false b h = (refl, h)
 -- rules that no text breaks
 pub AreWritable-append : (texts others : List (List ℕ)) → AreWritable (texts ++ others) → AreWritable texts × AreWritable others
 AreWritable-append texts others h =
-    let parts : (rule : TextRule) → (list_any (breaks rule) texts ≡ false) × (list_any (breaks rule) others ≡ false) = λ rule. both_false (list_any (breaks rule) texts) (list_any (breaks rule) others) (sym (list_any-append (breaks rule) texts others) ∙ h rule) in
+    let parts : (rule : TextRule) → (list_any (breaks rule) texts ≡ false) × (list_any (breaks rule) others ≡ false) = λ rule. both_false _ _ (sym (list_any-append (breaks rule) texts others) ∙ h rule) in
     (λ rule. (parts rule).0, λ rule. (parts rule).1)
 
 passes_none : {X : Type 0} (p : X → Bool) (xs : List X) (i : ℕ) (d : X) (at : Bool) → p (get_or xs i d) ≡ at → i < length xs → list_any p xs ≡ false → p (get_or xs i d) ≡ false
@@ -53,7 +53,7 @@ field_head-many n = let ne : suc (suc n) ≢ 1 = omega arith in rw (ne_eqb (suc 
 
 single_from : (cs : List ℕ) (k : ℕ) → is_bad_single cs ≡ false → k < length cs → first_char (length cs) ≤ get_or cs k 0
 single_from [] k h l = absurd (omega arith)
-single_from (c ∷ []) zero h l = ltb-false c 32 (both_false (nat_lt c 32) (nat_lt 95 c) h).0
+single_from (c ∷ []) zero h l = ltb-false c 32 (both_false _ _ h).0
 single_from (c ∷ []) (suc k) h l = absurd (omega arith)
 single_from (c ∷ d ∷ cs) k h l = omega (arith, first_char-many (length cs))
 
