@@ -1,5 +1,6 @@
 -- When the fields of an area of a record break a rule, by positions.
-use Rattle.std.proofs.Common.{◌≡◌, ◌≢◌, ◌*◌, ◌<◌, ℕ, List, [], ◌++◌, length, Bool, true, false, nat_eq, slice_index, Result, Ok, Err, refl, ap, sym, subst, ◌∙◌, arith, length-drop}
+use Rattle.std.proofs.Common.{◌≡◌, ◌≢◌, ◌*◌, ◌<◌, ℕ, List, [], ◌++◌, length, Bool, true, false, nat_eq, slice_index, Result, Ok, Err, refl, ap, sym}
+use Rattle.std.proofs.Common.{subst, ◌∙◌, arith, length-drop}
 use Rattle.std.proofs.lemmas.Bool.{eqb-true, eqb-false}
 use Rattle.std.proofs.lemmas.List.{length-take}
 use Rattle.fru_area.specs.Areas.{area_fields, named_ok}
@@ -13,7 +14,8 @@ use Rattle.fru_area.specs.declared.field.Field.{Field}
 use Rattle.fru_record.specs.FieldFaults.{IsSpelled, EarlierSpelled, BreaksFields}
 use Rattle.fru_record.specs.Records.{names_of, fields_start, is_english, fixed_fields, fields_of_area, fields_at, fields_under, record_of, ◌>>=◌}
 use Rattle.fru_record.specs.Spellings.{HasHeader, HasArea, area_from, offset_in}
-use Rattle.fru_record.proofs.RecordsLemmas.{named_of, IsOfHeader, IsOfPlace, IsOfFields, Faults-header, Faults-area_at, Faults-fields_at, fields_at-absent, fields_at-placed, fields_at-present, record_of-header}
+use Rattle.fru_record.proofs.RecordsLemmas.{named_of, IsOfHeader, IsOfPlace, IsOfFields, Faults-header, Faults-area_at, Faults-fields_at}
+use Rattle.fru_record.proofs.RecordsLemmas.{fields_at-absent, fields_at-placed, fields_at-present, record_of-header}
 use Rattle.fru_record.proofs.SpellingsLemmas.{header_of, HasHeader-read, HasArea-read, part_read, read_part, read-HasHeader, read-HasArea}
 
 -- A rule of fields and its fault: where it comes, and that it is no fault of a header or of an area's place, and names its
@@ -37,7 +39,8 @@ fault_from (Err other) f fault e first second = first (ap Err (same other fault 
 no_fault : {X R : Type 0} (x : X) (fault : FruFault) → (let read : Result X FruFault = Ok x in read ≡ Err fault) → R
 no_fault x fault e = absurd (cc)
 
-named_fault : (area : Area) (english : Bool) (names : List FieldName) (raws : Result (List Raw) FruFault) (fault : FruFault) → named_ok area english names raws ≡ Err fault → raws ≡ Err fault
+named_fault : (area : Area) (english : Bool) (names : List FieldName) (raws : Result (List Raw) FruFault) (fault : FruFault)
+    → named_ok area english names raws ≡ Err fault → raws ≡ Err fault
 named_fault area english names (Ok raws) fault e = absurd (cc)
 named_fault area english names (Err other) fault e = cc
 
@@ -48,10 +51,12 @@ raw_fault area bytes fault e =
     (λ none. named_fault area (is_english area bytes) (names_of area) (raw_fields area bytes (fields_start area)) fault none)
     (λ fields read none. no_fault (fixed_fields area bytes ++ fields) fault none)
 
-fault_of_area : (area : Area) (bytes : List ℕ) (fault : FruFault) → raw_fields area bytes (fields_start area) ≡ Err fault → fields_of_area area bytes ≡ Err fault
+fault_of_area : (area : Area) (bytes : List ℕ) (fault : FruFault) → raw_fields area bytes (fields_start area) ≡ Err fault
+    → fields_of_area area bytes ≡ Err fault
 unfolding fields_of_area area_fields
 fault_of_area area bytes fault e =
-    ap (λ (raws : Result (List Raw) FruFault). named_ok area (is_english area bytes) (names_of area) raws >>= (λ fields. Ok (fixed_fields area bytes ++ fields))) e
+    ap (λ (raws : Result (List Raw) FruFault). named_ok area (is_english area bytes) (names_of area) raws >>=
+    (λ fields. Ok (fixed_fields area bytes ++ fields))) e
 
 -- the first field of a whole area stands in it
 start_inside : (area : Area) (bytes : List ℕ) (start : ℕ) → HasArea bytes start → fields_start area < length (area_from bytes start)
@@ -65,12 +70,15 @@ record BreaksHere (rule : List ℕ → ℕ → Type 0) (area : Area) (bytes : Li
   placed : HasArea bytes (8 * offset_in area bytes)
   broken : rule (area_from bytes (8 * offset_in area bytes)) (fields_start area)
 
-breaks_here : (fault : Area → FruFault) (rule : List ℕ → ℕ → Type 0) → IsRule fault rule → (area : Area) (bytes : List ℕ) (none : Bool) → nat_eq (offset_in area bytes) 0 ≡ none
+breaks_here : (fault : Area → FruFault) (rule : List ℕ → ℕ → Type 0) → IsRule fault rule → (area : Area) (bytes : List ℕ) (none : Bool)
+    → nat_eq (offset_in area bytes) 0 ≡ none
     → fields_at area bytes (offset_in area bytes) ≡ Err (fault area) → BreaksHere rule area bytes
-breaks_here fault rule is area bytes true z e = no_fault [] (fault area) (sym (fields_at-absent area bytes (offset_in area bytes) [] (eqb-true (offset_in area bytes) 0 z) refl) ∙ e)
+breaks_here fault rule is area bytes true z e =
+    no_fault [] (fault area) (sym (fields_at-absent area bytes (offset_in area bytes) [] (eqb-true (offset_in area bytes) 0 z) refl) ∙ e)
 breaks_here fault rule is area bytes false z e =
     let there = eqb-false (offset_in area bytes) 0 z in
-    fault_from (area_at area bytes (8 * offset_in area bytes)) (fields_of_area area) (fault area) (sym (fields_at-placed area bytes (offset_in area bytes) there) ∙ e)
+    fault_from (area_at area bytes (8 * offset_in area bytes)) (fields_of_area area) (fault area)
+    (sym (fields_at-placed area bytes (offset_in area bytes) there) ∙ e)
     (λ none. absurd (is.no_place area (Faults-area_at area bytes (8 * offset_in area bytes) (fault area) none)))
     (λ found at read.
     let whole = HasArea-read area bytes found (8 * offset_in area bytes) at in
@@ -91,22 +99,27 @@ elsewhere : (fault : Area → FruFault) (rule : List ℕ → ℕ → Type 0) →
     → fields_at here bytes (offset_in here bytes) ≡ Err (fault area) → here ≡ area
 elsewhere fault rule is here area bytes e = is.one_area here area (Faults-fields_at here bytes (offset_in here bytes) (fault area) e)
 
-breaks_fields : (fault : Area → FruFault) (rule : List ℕ → ℕ → Type 0) → IsRule fault rule → (here area : Area) (bytes : List ℕ) → HasHeader bytes → EarlierSpelled here bytes
+breaks_fields : (fault : Area → FruFault) (rule : List ℕ → ℕ → Type 0) → IsRule fault rule → (here area : Area) (bytes : List ℕ) → HasHeader bytes
+    → EarlierSpelled here bytes
     → fields_at here bytes (offset_in here bytes) ≡ Err (fault area) → BreaksFields rule area bytes
 breaks_fields fault rule is here area bytes has_header earlier e =
     let same = elsewhere fault rule is here area bytes e in
     let h = breaks_here fault rule is here bytes _ refl (rw (sym same) at e) in
-    subst (λ (area : Area). BreaksFields rule area bytes) same (record { header = has_header; earlier = earlier; there = h.there; placed = h.placed; broken = h.broken })
+    subst (λ (area : Area). BreaksFields rule area bytes) same
+    (record { header = has_header; earlier = earlier; there = h.there; placed = h.placed; broken = h.broken })
 
 breaks_under : (fault : Area → FruFault) (rule : List ℕ → ℕ → Type 0) → IsRule fault rule → (area : Area) (bytes : List ℕ) → HasHeader bytes
     → fields_under bytes (header_of bytes) ≡ Err (fault area) → BreaksFields rule area bytes
 unfolding fields_under
 breaks_under fault rule is area bytes has_header e =
-    fault_from (fields_at Chassis bytes (slice_index bytes 2)) _ (fault area) e (λ first. breaks_fields fault rule is Chassis area bytes has_header tt first) (λ chassis one rest.
+    fault_from (fields_at Chassis bytes (slice_index bytes 2)) _ (fault area) e
+    (λ first. breaks_fields fault rule is Chassis area bytes has_header tt first) (λ chassis one rest.
     let chassis_spelled : IsSpelled Chassis bytes = (chassis, part_read Chassis bytes _ chassis _ refl one) in
-    fault_from (fields_at Board bytes (slice_index bytes 3)) _ (fault area) rest (λ second. breaks_fields fault rule is Board area bytes has_header chassis_spelled second) (λ board two last.
+    fault_from (fields_at Board bytes (slice_index bytes 3)) _ (fault area) rest
+    (λ second. breaks_fields fault rule is Board area bytes has_header chassis_spelled second) (λ board two last.
     let board_spelled : IsSpelled Board bytes = (board, part_read Board bytes _ board _ refl two) in
-    fault_from (fields_at Product bytes (slice_index bytes 4)) _ (fault area) last (λ third. breaks_fields fault rule is Product area bytes has_header (chassis_spelled, board_spelled) third) (λ product three none.
+    fault_from (fields_at Product bytes (slice_index bytes 4)) _ (fault area) last
+    (λ third. breaks_fields fault rule is Product area bytes has_header (chassis_spelled, board_spelled) third) (λ product three none.
     no_fault (chassis ++ board ++ product) (fault area) none)))
 
 pub breaks_record : (fault : Area → FruFault) (rule : List ℕ → ℕ → Type 0) → IsRule fault rule → (area : Area) (bytes : List ℕ)
@@ -127,4 +140,5 @@ fault_under Product bytes fault earlier e = rw (read_part Chassis bytes _ _ earl
 pub record_breaks : (fault : Area → FruFault) (rule : List ℕ → ℕ → Type 0) → IsRule fault rule → (area : Area) (bytes : List ℕ)
     → BreaksFields rule area bytes → record_of bytes ≡ Err (fault area)
 record_breaks fault rule is area bytes h =
-    record_of-header bytes (header_of bytes) (read-HasHeader bytes h.header) ∙ fault_under area bytes (fault area) h.earlier (reads_fault fault rule is area bytes h)
+    record_of-header bytes (header_of bytes) (read-HasHeader bytes h.header)
+    ∙ fault_under area bytes (fault area) h.earlier (reads_fault fault rule is area bytes h)

@@ -1,5 +1,6 @@
 -- The names of a record's fields.
-use Rattle.std.proofs.Common.{◌≡◌, ℕ, suc, ◌+◌, ◌*◌, ◌<◌, ◌≤◌, Bool, true, false, nat_eq, if◌then◌else◌, List, [], ◌∷◌, ◌++◌, length, decimal, slice_index, slice_range, Option, None, option_map, find, bytes_eq, Ok, refl, ap, arith, length-append, length-drop}
+use Rattle.std.proofs.Common.{◌≡◌, ℕ, suc, ◌+◌, ◌*◌, ◌<◌, ◌≤◌, Bool, true, false, nat_eq, if◌then◌else◌, List, [], ◌∷◌, ◌++◌, length, decimal}
+use Rattle.std.proofs.Common.{slice_index, slice_range, Option, None, option_map, find, bytes_eq, Ok, refl, ap, arith, length-append, length-drop}
 use Rattle.std.specs.List.{All}
 use Rattle.std.proofs.lemmas.List.{length-take}
 use Rattle.std.proofs.lemmas.List.Elements.{All-cons, All-append}
@@ -37,7 +38,8 @@ AreNamed-cons first fields is rest = All-cons (λ (field : Field). IsName field.
 AreNamed-append : (fields others : List Field) → AreNamed fields → AreNamed others → AreNamed (fields ++ others)
 AreNamed-append fields others first second = All-append (λ (field : Field). IsName field.name) fields others first second
 
-AreNamed-named : (area : Area) (english : Bool) (names : List FieldName) (number : ℕ) (raws : List Raw) → AreNames names → 1 ≤ number → number + length raws ≤ 2041
+AreNamed-named : (area : Area) (english : Bool) (names : List FieldName) (number : ℕ) (raws : List Raw) → AreNames names → 1 ≤ number
+    → number + length raws ≤ 2041
     → AreNamed (named area english names number raws)
 AreNamed-named area english names number [] names_are low high = none_of (λ (field : Field). IsName field.name)
 AreNamed-named area english (name ∷ names) number (raw ∷ raws) names_are low high =
@@ -54,7 +56,8 @@ length-fields : (bytes : List ℕ) (s size start : ℕ) → length (field_bytes 
 length-fields bytes s size start = simp (length-take, length-drop) (omega arith)
 
 AreNamed-fixed : (area : Area) (bytes : List ℕ) → AreNamed (fixed_fields area bytes)
-AreNamed-fixed Chassis bytes = AreNamed-cons (record { name = ChassisType; text = decimal (slice_index bytes 2) }) [] tt (none_of (λ (field : Field). IsName field.name))
+AreNamed-fixed Chassis bytes =
+    AreNamed-cons (record { name = ChassisType; text = decimal (slice_index bytes 2) }) [] tt (none_of (λ (field : Field). IsName field.name))
 AreNamed-fixed Board bytes = dated (nat_eq (minutes_of bytes) 0) (record { name = BoardManufactureDate; text = date_text (minutes_of bytes) }) tt
   where
     dated : (none : Bool) (date : Field) → IsName date.name → AreNamed (if none then [] else date ∷ [])
@@ -62,7 +65,8 @@ AreNamed-fixed Board bytes = dated (nat_eq (minutes_of bytes) 0) (record { name 
     dated false date is = AreNamed-cons date [] is (none_of (λ (field : Field). IsName field.name))
 AreNamed-fixed Product bytes = none_of (λ (field : Field). IsName field.name)
 
-AreNamed-area : (area : Area) (bytes : List ℕ) (s : ℕ) (fields : List Field) → slice_index bytes (s + 1) < 256 → SpellsArea area bytes s fields → AreNamed fields
+AreNamed-area : (area : Area) (bytes : List ℕ) (s : ℕ) (fields : List Field) → slice_index bytes (s + 1) < 256 → SpellsArea area bytes s fields
+    → AreNamed fields
 AreNamed-area area bytes s fields byte spelled =
     let english = is_english area (area_from bytes s) in
     let fewer = length-Spells _ spelled.raws spelled.spelled in
@@ -70,7 +74,8 @@ AreNamed-area area bytes s fields byte spelled =
     rw spelled.named_so (AreNamed-append (fixed_fields area (area_from bytes s)) (named area english (names_of area) 1 spelled.raws)
     (AreNamed-fixed area _) (AreNamed-named area english (names_of area) 1 spelled.raws (AreNames-area area) (omega arith) (omega arith)))
 
-AreNamed-part : (area : Area) (bytes : List ℕ) (offset : ℕ) (fields : List Field) → ((k : ℕ) → slice_index bytes k < 256) → SpellsPart area bytes offset fields → AreNamed fields
+AreNamed-part : (area : Area) (bytes : List ℕ) (offset : ℕ) (fields : List Field) → ((k : ℕ) → slice_index bytes k < 256)
+    → SpellsPart area bytes offset fields → AreNamed fields
 AreNamed-part area bytes _ _ byte absent = none_of (λ (field : Field). IsName field.name)
 AreNamed-part area bytes _ _ byte (present offset fields ne spelled) = AreNamed-area area bytes (8 * offset) fields (byte (8 * offset + 1)) spelled
 
@@ -79,11 +84,13 @@ pub AreNamed-record : (bytes : List ℕ) (fields : List Field) → ((k : ℕ) �
 AreNamed-record bytes fields byte read =
     let spelled = record-spelled bytes fields read in
     rw spelled.joined (AreNamed-append (spelled.chassis ++ spelled.board) spelled.product
-    (AreNamed-append spelled.chassis spelled.board (AreNamed-part Chassis bytes _ _ byte spelled.chassis_part) (AreNamed-part Board bytes _ _ byte spelled.board_part))
+    (AreNamed-append spelled.chassis spelled.board (AreNamed-part Chassis bytes _ _ byte spelled.chassis_part)
+    (AreNamed-part Board bytes _ _ byte spelled.board_part))
     (AreNamed-part Product bytes _ _ byte spelled.product_part))
 
 -- the text of what was found in fields
-pub text_named-found : (fields : List Field) (name : List ℕ) (found : Option Field) → found ≡ find (λ (field : Field). bytes_eq (name_text field.name) name) fields
+pub text_named-found : (fields : List Field) (name : List ℕ) (found : Option Field)
+    → found ≡ find (λ (field : Field). bytes_eq (name_text field.name) name) fields
     → option_map (λ (field : Field). field.text) found ≡ text_named fields name
 unfolding text_named
 text_named-found fields name found e = ap (option_map (λ (field : Field). field.text)) e
@@ -93,7 +100,8 @@ unlike true same differ = absurd (differ (same.0 refl))
 unlike false same differ = refl
 
 -- a text that is no name of a field names none of a record's
-pub text_named-none : (fields : List Field) (text : List ℕ) → AreNamed fields → ((name : FieldName) → IsName name → name_text name ≡ text → ⊥) → text_named fields text ≡ None
+pub text_named-none : (fields : List Field) (text : List ℕ) → AreNamed fields → ((name : FieldName) → IsName name → name_text name ≡ text → ⊥)
+    → text_named fields text ≡ None
 unfolding text_named
 text_named-none fields text are_named none = ap (option_map (λ (field : Field). field.text)) (find-none fields are_named)
   where

@@ -1,5 +1,6 @@
 -- What is read of a record is what its bytes spell.
-use Rattle.std.proofs.Common.{◌≡◌, ◌≢◌, ◌+◌, ◌*◌, ℕ, List, [], ◌++◌, length, take, Bool, true, false, not, cond, eq-eqb, nat_eq, nat_lt, slice_index, slice_range, Result, Ok, Err, refl, ap, sym, ◌∙◌}
+use Rattle.std.proofs.Common.{◌≡◌, ◌≢◌, ◌+◌, ◌*◌, ℕ, List, [], ◌++◌, length, take, Bool, true, false, not, cond, eq-eqb, nat_eq, nat_lt, slice_index}
+use Rattle.std.proofs.Common.{slice_range, Result, Ok, Err, refl, ap, sym, ◌∙◌}
 use Rattle.std.proofs.lemmas.Bool.{eqb-true, eqb-false, ne_eqb, ltb-false, le-ltb}
 use Rattle.std.specs.Prelude.{◌||◌}
 use Rattle.fru_area.specs.Areas.{named, named_ok, area_fields}
@@ -14,14 +15,16 @@ use Rattle.fru_area.proofs.WalksLemmas.{Spells-raw_fields, raw_fields-Spells}
 use Rattle.fru_record.specs.Records.{names_of, fields_start, is_english, fixed_fields, fields_of_area, fields_at, fields_under, record_of, ◌>>=◌}
 use Rattle.fru_record.specs.Spellings.{area_from, HasHeader, HasArea, SpellsArea, SpellsPart, absent, present, SpellsRecord}
 use Rattle.fru_record.proofs.TextRulesLemmas.{both_false}
-use Rattle.fru_record.proofs.RecordsLemmas.{ok_same, named_of, fields_of_area-ok, fields_at-absent, fields_at-placed, fields_at-present, record_of-header, fields_under-ok}
+use Rattle.fru_record.proofs.RecordsLemmas.{ok_same, named_of, fields_of_area-ok, fields_at-absent, fields_at-placed, fields_at-present}
+use Rattle.fru_record.proofs.RecordsLemmas.{record_of-header, fields_under-ok}
 
 then_parts : {X Y : Type 0} (r : Result X FruFault) (f : X → Result Y FruFault) (y : Y) → (r >>= f) ≡ Ok y → (x : X) × (r ≡ Ok x) × (f x ≡ Ok y)
 then_parts (Ok x) f y h = (x, refl, h)
 then_parts (Err fault) f y h = absurd (cc)
 
 -- a rule that is kept
-kept : {X : Type 0} (broken : Bool) (fault : FruFault) (rest : Result X FruFault) (x : X) → cond broken (Err fault) rest ≡ Ok x → (broken ≡ false) × (rest ≡ Ok x)
+kept : {X : Type 0} (broken : Bool) (fault : FruFault) (rest : Result X FruFault) (x : X) → cond broken (Err fault) rest ≡ Ok x
+    → (broken ≡ false) × (rest ≡ Ok x)
 kept true fault rest x h = absurd (cc)
 kept false fault rest x h = (refl, h)
 
@@ -59,7 +62,8 @@ read-HasHeader bytes h =
       eq-eqb (checksum (take header_len bytes)) 0 h.sum,
     ) refl
 
-pub HasArea-read : (area : Area) (bytes found : List ℕ) (s : ℕ) → area_at area bytes s ≡ Ok found → HasArea bytes s × (found ≡ slice_range bytes s (area_end bytes s))
+pub HasArea-read : (area : Area) (bytes found : List ℕ) (s : ℕ) → area_at area bytes s ≡ Ok found
+    → HasArea bytes s × (found ≡ slice_range bytes s (area_end bytes s))
 unfolding area_at
 HasArea-read area bytes found s h =
     let outside = kept (nat_lt (length bytes) (s + 8) || nat_lt (length bytes) (area_end bytes s)) _ _ _ h in
@@ -88,24 +92,34 @@ read-HasArea area bytes s h =
       eq-eqb (checksum (area_from bytes s)) 0 h.sum,
     ) refl
 
-named_parts : (area : Area) (bytes : List ℕ) (fields : List Field) (r : Result (List Raw) FruFault) → named_ok area (is_english area bytes) (names_of area) r ≡ Ok fields → (raws : List Raw) × (r ≡ Ok raws) × (fields ≡ named area (is_english area bytes) (names_of area) 1 raws)
+named_parts : (area : Area) (bytes : List ℕ) (fields : List Field) (r : Result (List Raw) FruFault)
+    → named_ok area (is_english area bytes) (names_of area) r ≡ Ok fields
+    → (raws : List Raw) × (r ≡ Ok raws) × (fields ≡ named area (is_english area bytes) (names_of area) 1 raws)
 named_parts area bytes fields (Ok raws) h = (raws, refl, sym (ok_same (named area (is_english area bytes) (names_of area) 1 raws) fields h))
 named_parts area bytes fields (Err fault) h = absurd (cc)
 
-area_parts : (area : Area) (bytes : List ℕ) (fields : List Field) → fields_of_area area bytes ≡ Ok fields → (raws : List Raw) × Spells (field_bytes bytes (fields_start area)) raws × (fields ≡ fixed_fields area bytes ++ named area (is_english area bytes) (names_of area) 1 raws)
+area_parts : (area : Area) (bytes : List ℕ) (fields : List Field) → fields_of_area area bytes ≡ Ok fields
+    → (raws : List Raw) × Spells (field_bytes bytes (fields_start area)) raws ×
+    (fields ≡ fixed_fields area bytes ++ named area (is_english area bytes) (names_of area) 1 raws)
 unfolding fields_of_area area_fields
 area_parts area bytes fields h =
     let t = then_parts (named_of area bytes) (λ (fields : List Field). Ok (fixed_fields area bytes ++ fields)) fields h in
-    let n = named_parts area bytes t.0 (raw_fields area bytes (fields_start area)) t.1 in
-    (n.0, Spells-raw_fields area bytes (fields_start area) n.0 n.1, sym (ok_same (fixed_fields area bytes ++ t.0) fields t.2) ∙ ap (λ (fs : List Field). fixed_fields area bytes ++ fs) n.2)
+    let n = named_parts area bytes t.0 (raw_fields area bytes (fields_start area)) t.1 in (
+      n.0,
+      Spells-raw_fields area bytes (fields_start area) n.0 n.1,
+      sym (ok_same (fixed_fields area bytes ++ t.0) fields t.2)
+          ∙ ap (λ (fs : List Field). fixed_fields area bytes ++ fs) n.2,
+    )
 
-pub area_whole : (area : Area) (bytes : List ℕ) (raws : List Raw) → Spells (field_bytes bytes (fields_start area)) raws → fields_of_area area bytes ≡ Ok (fixed_fields area bytes ++ named area (is_english area bytes) (names_of area) 1 raws)
+pub area_whole : (area : Area) (bytes : List ℕ) (raws : List Raw) → Spells (field_bytes bytes (fields_start area)) raws
+    → fields_of_area area bytes ≡ Ok (fixed_fields area bytes ++ named area (is_english area bytes) (names_of area) 1 raws)
 unfolding area_fields
 area_whole area bytes raws s =
     fields_of_area-ok area bytes (fixed_fields area bytes) (named area (is_english area bytes) (names_of area) 1 raws) _ refl
     (ap (named_ok area (is_english area bytes) (names_of area)) (raw_fields-Spells area bytes (fields_start area) raws s)) refl
 
-pub part_read : (area : Area) (bytes : List ℕ) (offset : ℕ) (fields : List Field) (none : Bool) → nat_eq offset 0 ≡ none → fields_at area bytes offset ≡ Ok fields → SpellsPart area bytes offset fields
+pub part_read : (area : Area) (bytes : List ℕ) (offset : ℕ) (fields : List Field) (none : Bool) → nat_eq offset 0 ≡ none
+    → fields_at area bytes offset ≡ Ok fields → SpellsPart area bytes offset fields
 part_read area bytes offset fields true z h =
     let zero_offset : offset ≡ 0 = eqb-true offset 0 z in
     let none : fields ≡ [] = ok_same fields [] (sym h ∙ fields_at-absent area bytes offset [] zero_offset refl) in
@@ -122,13 +136,15 @@ part_read area bytes offset fields false z h =
       named_so = p.2;
     })
 
-read_area_part : (area : Area) (bytes : List ℕ) (offset : ℕ) (fields : List Field) → offset ≢ 0 → SpellsArea area bytes (8 * offset) fields → fields_at area bytes offset ≡ Ok fields
+read_area_part : (area : Area) (bytes : List ℕ) (offset : ℕ) (fields : List Field) → offset ≢ 0 → SpellsArea area bytes (8 * offset) fields
+    → fields_at area bytes offset ≡ Ok fields
 read_area_part area bytes offset fields ne a =
     fields_at-present area bytes _ offset ne (read-HasArea area bytes (8 * offset) a.placed)
     ∙ area_whole area (slice_range bytes (8 * offset) (area_end bytes (8 * offset))) a.raws a.spelled
     ∙ ap Ok (sym a.named_so)
 
-pub read_part : (area : Area) (bytes : List ℕ) (offset : ℕ) (fields : List Field) → SpellsPart area bytes offset fields → fields_at area bytes offset ≡ Ok fields
+pub read_part : (area : Area) (bytes : List ℕ) (offset : ℕ) (fields : List Field) → SpellsPart area bytes offset fields
+    → fields_at area bytes offset ≡ Ok fields
 read_part area bytes _ _ absent = fields_at-absent area bytes 0 [] refl refl
 read_part area bytes _ _ (present offset fields ne a) = read_area_part area bytes offset fields ne a
 
@@ -155,7 +171,8 @@ record-spelled bytes fields h =
 pub spelled-record : (bytes : List ℕ) (fields : List Field) → SpellsRecord bytes fields → record_of bytes ≡ Ok fields
 spelled-record bytes fields s =
     record_of-header bytes (header_of bytes) (read-HasHeader bytes s.header)
-    ∙ fields_under-ok bytes (header_of bytes) s.chassis s.board s.product (read_part Chassis bytes _ _ s.chassis_part) (read_part Board bytes _ _ s.board_part) (read_part Product bytes _ _ s.product_part)
+    ∙ fields_under-ok bytes (header_of bytes) s.chassis s.board s.product (read_part Chassis bytes _ _ s.chassis_part)
+    (read_part Board bytes _ _ s.board_part) (read_part Product bytes _ _ s.product_part)
     ∙ ap Ok (sym s.joined)
 
 pub spelled-one : (bytes : List ℕ) (fields others : List Field) → SpellsRecord bytes fields → SpellsRecord bytes others → fields ≡ others

@@ -1,5 +1,6 @@
 -- Texts of a record that is built.
-use Rattle.std.proofs.Common.{◌≡◌, ◌≢◌, ℕ, suc, ◌+◌, ◌-◌, ◌<◌, ◌≤◌, Bool, true, false, nat_lt, nat_eq, List, [], ◌∷◌, ◌++◌, length, map, chars, get_or, zero, refl, ap, ap₂, sym, ◌∙◌, append_assoc, arith}
+use Rattle.std.proofs.Common.{◌≡◌, ◌≢◌, ℕ, suc, ◌+◌, ◌-◌, ◌<◌, ◌≤◌, Bool, true, false, nat_lt, nat_eq, List, [], ◌∷◌, ◌++◌, length, map, chars}
+use Rattle.std.proofs.Common.{get_or, zero, refl, ap, ap₂, sym, ◌∙◌, append_assoc, arith}
 use Rattle.std.proofs.lemmas.Bool.{ne_eqb, ltb-false}
 use Rattle.std.specs.Prelude.{◌||◌, ◌&&◌}
 use Rattle.std.specs.List.{list_any}
@@ -29,10 +30,12 @@ both_false false b h = (refl, h)
 -- rules that no text breaks
 pub AreWritable-append : (texts others : List (List ℕ)) → AreWritable (texts ++ others) → AreWritable texts × AreWritable others
 AreWritable-append texts others h =
-    let parts : (rule : TextRule) → (list_any (breaks rule) texts ≡ false) × (list_any (breaks rule) others ≡ false) = λ rule. both_false _ _ (sym (list_any-append (breaks rule) texts others) ∙ h rule) in
+    let parts : (rule : TextRule) → (list_any (breaks rule) texts ≡ false) × (list_any (breaks rule) others ≡ false) =
+    λ rule. both_false _ _ (sym (list_any-append (breaks rule) texts others) ∙ h rule) in
     (λ rule. (parts rule).0, λ rule. (parts rule).1)
 
-passes_none : {X : Type 0} (p : X → Bool) (xs : List X) (i : ℕ) (d : X) (at : Bool) → p (get_or xs i d) ≡ at → i < length xs → list_any p xs ≡ false → p (get_or xs i d) ≡ false
+passes_none : {X : Type 0} (p : X → Bool) (xs : List X) (i : ℕ) (d : X) (at : Bool) → p (get_or xs i d) ≡ at → i < length xs → list_any p xs ≡ false
+    → p (get_or xs i d) ≡ false
 passes_none p xs i d true e l h = absurd (let yes = list_any_at p xs i d l e in cc)
 passes_none p xs i d false e l h = e
 
@@ -58,7 +61,8 @@ single_from (c ∷ []) (suc k) h l = absurd (omega arith)
 single_from (c ∷ d ∷ cs) k h l = omega (arith, first_char-many (length cs))
 
 -- what a field writes of each character fits a byte
-pub writable-range : (text : List ℕ) → IsWritable text → (k : ℕ) → k < length (chars text) → (first_char (length (chars text)) ≤ get_or (chars text) k 0) × (get_or (chars text) k 0 ≤ first_char (length (chars text)) + 255)
+pub writable-range : (text : List ℕ) → IsWritable text → (k : ℕ) → k < length (chars text)
+    → (first_char (length (chars text)) ≤ get_or (chars text) k 0) × (get_or (chars text) k 0 ≤ first_char (length (chars text)) + 255)
 writable-range text h k l = (single_from (chars text) k (h Single) l, omega (arith, latin_at (chars text) k (h Latin) l))
 
 map-sub_zero : (cs : List ℕ) → map (λ c. c - 0) cs ≡ cs
@@ -74,6 +78,7 @@ field_of_chars-parts (c ∷ d ∷ cs) =
     ∙ ap (λ (xs : List ℕ). (192 + suc (suc (length cs))) ∷ xs) (map-sub_zero (c ∷ d ∷ cs))
 
 -- a field that was written in two steps
-pub field-written : (old mid new text : List ℕ) (count head first : ℕ) → count ≡ length (chars text) → head ≡ field_head count → first ≡ first_char count → mid ≡ old ++ head ∷ [] → new ≡ mid ++ map (λ c. c - first) (chars text) → new ≡ old ++ field_of_text text
+pub field-written : (old mid new text : List ℕ) (count head first : ℕ) → count ≡ length (chars text) → head ≡ field_head count
+    → first ≡ first_char count → mid ≡ old ++ head ∷ [] → new ≡ mid ++ map (λ c. c - first) (chars text) → new ≡ old ++ field_of_text text
 field-written old mid new text count head first n h f m e =
     rw (e, m, h, f, n) (append_assoc old (field_head (length (chars text)) ∷ []) _ ∙ ap (λ (field : List ℕ). old ++ field) (field_of_chars-parts (chars text)))

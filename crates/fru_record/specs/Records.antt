@@ -7,7 +7,10 @@ use Rattle.fru_area.specs.declared.fault.Area.TheVariants.{Chassis, Board, Produ
 use Rattle.fru_area.specs.declared.fault.FruFault.{FruFault}
 use Rattle.fru_area.specs.declared.header.Header.{Header}
 use Rattle.fru_area.specs.declared.name.FieldName.{FieldName}
-use Rattle.fru_area.specs.declared.name.FieldName.TheVariants.{ChassisType, ChassisPartNumber, ChassisSerialNumber, BoardManufactureDate, BoardManufacturer, BoardProductName, BoardSerialNumber, BoardPartNumber, BoardFruVersionId, ProductManufacturer, ProductProductName, ProductPartNumber, ProductVersion, ProductSerialNumber, ProductAssetTag, ProductFruVersionId}
+use Rattle.fru_area.specs.declared.name.FieldName.TheVariants.{ChassisType, ChassisPartNumber, ChassisSerialNumber, BoardManufactureDate}
+use Rattle.fru_area.specs.declared.name.FieldName.TheVariants.{BoardManufacturer, BoardProductName, BoardSerialNumber, BoardPartNumber}
+use Rattle.fru_area.specs.declared.name.FieldName.TheVariants.{BoardFruVersionId, ProductManufacturer, ProductProductName, ProductPartNumber}
+use Rattle.fru_area.specs.declared.name.FieldName.TheVariants.{ProductVersion, ProductSerialNumber, ProductAssetTag, ProductFruVersionId}
 use Rattle.fru_area.specs.declared.field.Field.{Field}
 use Rattle.fru_record.specs.Dates.{minutes_of, date_text}
 
@@ -15,7 +18,8 @@ use Rattle.fru_record.specs.Dates.{minutes_of, date_text}
 abbrev pub names_of : Area → List FieldName
 names_of Chassis = ChassisPartNumber ∷ ChassisSerialNumber ∷ []
 names_of Board = BoardManufacturer ∷ BoardProductName ∷ BoardSerialNumber ∷ BoardPartNumber ∷ BoardFruVersionId ∷ []
-names_of Product = ProductManufacturer ∷ ProductProductName ∷ ProductPartNumber ∷ ProductVersion ∷ ProductSerialNumber ∷ ProductAssetTag ∷ ProductFruVersionId ∷ []
+names_of Product =
+    ProductManufacturer ∷ ProductProductName ∷ ProductPartNumber ∷ ProductVersion ∷ ProductSerialNumber ∷ ProductAssetTag ∷ ProductFruVersionId ∷ []
 
 -- where the fields of an area start
 abbrev pub fields_start : Area → ℕ

@@ -19,7 +19,8 @@ pub fn one_record()
 
 /// What is built of parts is read as exactly their fields.
 pub fn built_is_read()
-    ensures { (parts : Parts) → HasNames parts → All IsUtf8 (texts_of parts) → build_fault parts ≡ None → record_of (record_bytes parts) ≡ Ok (fields_of_parts parts) }
+    ensures { (parts : Parts) → HasNames parts → All IsUtf8 (texts_of parts) → build_fault parts ≡ None
+        → record_of (record_bytes parts) ≡ Ok (fields_of_parts parts) }
 {}
 
 /// The fault of bytes is a rule that they break, and never want of memory: neither where a record is read

@@ -1,11 +1,13 @@
 ghost use Rattle.std.specs.Prelude.{◌≡◌, ◌++◌, [], ◌∷◌, codes, replicate, Some, None, Ok, Err};
 ghost use Rattle.fru_area.specs.declared.fault.Area.TheVariants.{Chassis, Board};
-ghost use Rattle.fru_area.specs.declared.fault.FruFault.TheVariants.{FruShort, FruTooLong, HeaderVersion, HeaderChecksum, AreaOutside, AreaVersion, AreaLength, AreaChecksum, FieldOutside, NoEnd};
+ghost use Rattle.fru_area.specs.declared.fault.FruFault.TheVariants.{FruShort, FruTooLong, HeaderVersion, HeaderChecksum};
+ghost use Rattle.fru_area.specs.declared.fault.FruFault.TheVariants.{AreaOutside, AreaVersion, AreaLength, AreaChecksum, FieldOutside, NoEnd};
 ghost use Rattle.fru_record.specs.Building.{Builds, build_fault};
 ghost use Rattle.fru_record.specs.Dates.{date_text};
 ghost use Rattle.fru_record.specs.Parts.{fields_of_parts};
 ghost use Rattle.fru_record.specs.Records.{record_of};
-ghost use Rattle.fru_record.specs.WorkedParts.{whole_parts, board_of_minutes, board_made_by, letters, last_of_latin, first_past_latin, long_chassis, bare_board};
+ghost use Rattle.fru_record.specs.WorkedParts.{whole_parts, board_of_minutes, board_made_by, letters, last_of_latin, first_past_latin};
+ghost use Rattle.fru_record.specs.WorkedParts.{long_chassis, bare_board};
 ghost use Rattle.fru_record.specs.WorkedParts.{last_minute_bytes, latin_bytes, space_bytes, low_line_bytes, longest_bytes};
 ghost use Rattle.fru_record.specs.WorkedParts.{all_rules_broken, early_minutes, early_latin, early_latin_short, only_too_many};
 ghost use Rattle.fru_record.specs.WorkedRecords.{board_bytes, board_fields, dated_bytes, dated_fields, whole_bytes, whole_fields, board_record, two_faults};

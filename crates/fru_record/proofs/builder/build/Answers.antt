@@ -12,4 +12,5 @@ returns-in-Some-clause-bytes c = GivesBytes-fault c.in-Some.fault c.args.parts.n
 
 pub returns-in_ok-bytes-in-None-clause-read : goal.returns-in_ok-bytes-in-None-clause-read
 returns-in_ok-bytes-in-None-clause-read c =
-    ap record_of (c.from.ensures ∙ c.in_ok-bytes-in-None.ensures.written) ∙ built-read c.args.parts.now c.in_ok-bytes-in-None.ensures.utf8 (sym c.first_fault.ensures ∙ c.in-None.is)
+    ap record_of (c.from.ensures ∙ c.in_ok-bytes-in-None.ensures.written)
+    ∙ built-read c.args.parts.now c.in_ok-bytes-in-None.ensures.utf8 (sym c.first_fault.ensures ∙ c.in-None.is)

@@ -1,4 +1,4 @@
-use Rattle.std.proofs.Common.{true, false, refl, sym, ◌∙◌}
+use Rattle.std.proofs.Common.{true, false, refl}
 use Rattle.fru_record.proofs.LayoutsLemmas.{fault-found, sizes, long_area-seen, long_record-seen}
 use Rattle.fru_record.proofs.builder.first_fault.Goals as goal
 

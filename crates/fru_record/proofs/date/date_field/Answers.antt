@@ -10,4 +10,6 @@ IsOk-from_cases (Ok x) P Q R q h = search rules
 IsOk-from_cases (Err e) P Q R q h = absurd (h.0 q)
 
 pub unwrap-requires : goal.unwrap-requires
-unwrap-requires c = IsOk-from_cases c.from_utf8.result _ _ _ (rw c.date_bytes-text.ensures (IsUtf8-from_ascii _ (IsAscii-date_text c.args.minutes c.requires))) c.from_utf8.ensures.cases
+unwrap-requires c =
+    IsOk-from_cases c.from_utf8.result _ _ _ (rw c.date_bytes-text.ensures
+    (IsUtf8-from_ascii _ (IsAscii-date_text c.args.minutes c.requires))) c.from_utf8.ensures.cases

@@ -12,7 +12,8 @@ unwrap-requires c =
     let most = most_days c.args.minutes c.requires in
     let fits : FitsSigned w64 c.from-days.result = omega (arith, signed_arith, c.from-days.ensures) in
     let only = simp to_z-of_z at c.days.ensures in
-    c.checked_add.ensures.succeeds.1 ((can_add-days c.date.result c.from-days.result c.days.result only).1 (IsEpochDay-later c.date.result _ c.from-days.result c.date.ensures c.from-days.ensures most))
+    c.checked_add.ensures.succeeds.1 ((can_add-days c.date.result c.from-days.result c.days.result only).1
+    (IsEpochDay-later c.date.result _ c.from-days.result c.date.ensures c.from-days.ensures most))
 
 pub returns : goal.returns
 returns c =
@@ -20,4 +21,5 @@ returns c =
     let fits : FitsSigned w64 c.from-days.result = omega (arith, signed_arith, c.from-days.ensures) in
     let only = simp to_z-of_z at c.days.ensures in
     let later = rw c.unwrap.ensures at c.checked_add.ensures.value in
-    IsDay-later c.date.result c.unwrap.result c.args.minutes c.from-days.result c.requires c.date.ensures c.from-days.ensures (later ∙ date_add-days c.date.result c.from-days.result c.days.result only)
+    IsDay-later c.date.result c.unwrap.result c.args.minutes c.from-days.result c.requires c.date.ensures c.from-days.ensures
+    (later ∙ date_add-days c.date.result c.from-days.result c.days.result only)

@@ -13,5 +13,6 @@ returns-in_err-found c =
 
 pub returns : goal.returns
 returns c =
-    rw (fields_at-present c.args.area c.args.bytes.now c.in_ok-found.found.now c.args.offset c.if-offset-eq0.false (rw c.from.ensures at (sym c.in_ok-found.ensures.exact)))
+    rw (fields_at-present c.args.area c.args.bytes.now c.in_ok-found.found.now c.args.offset c.if-offset-eq0.false
+    (rw c.from.ensures at (sym c.in_ok-found.ensures.exact)))
     c.append_fields.ensures
