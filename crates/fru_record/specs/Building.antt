@@ -3,6 +3,7 @@ use Rattle.std.specs.Prelude.{ℕ, ◌≡◌, ◌+◌, ◌*◌, ◌-◌, ◌/◌
 use Rattle.std.specs.Prelude.{length, chars, sum, replicate, Option, Some, None, Result, Ok, Err}
 use Rattle.std.specs.List.{list_any, flat_map}
 use Rattle.fru_area.specs.Headers.{format_version, unit, longest_record}
+use Rattle.fru_area.specs.Walks.{end_mark, longest_field}
 use Rattle.fru_record.specs.Dates.{minutes_limit}
 use Rattle.fru_record.specs.Parts.{texts_of}
 use Rattle.fru_record.specs.declared.parts.Parts.{Parts}
@@ -22,10 +23,6 @@ first_six_bit = 0x20
 
 abbrev pub last_six_bit : ℕ
 last_six_bit = 0x5F
-
--- the most characters of a text: the length of a field has six bits
-abbrev pub longest_text : ℕ
-longest_text = 63
 
 -- the most units that the length of an area, or an offset, counts
 abbrev pub most_units : ℕ
@@ -47,7 +44,7 @@ field_of_text text = field_of_chars (chars text)
 
 -- what an area holds behind its version and length: what stands at fixed places, the fields, and the end mark
 abbrev pub area_body : List ℕ → List (List ℕ) → List ℕ
-area_body fixed texts = fixed ++ flat_map field_of_text texts ++ 0xC1 ∷ []
+area_body fixed texts = fixed ++ flat_map field_of_text texts ++ end_mark ∷ []
 
 -- the length of an area, in units: version, length, body and checksum, filled up
 abbrev pub area_units : List ℕ → ℕ
@@ -110,7 +107,7 @@ abbrev pub is_not_latin : List ℕ → Bool
 is_not_latin text = list_any (λ char. nat_lt last_latin char) (chars text)
 
 abbrev pub is_too_long : List ℕ → Bool
-is_too_long text = nat_lt longest_text (length (chars text))
+is_too_long text = nat_lt longest_field (length (chars text))
 
 -- a single character that 6-bit ASCII does not have
 abbrev pub is_bad_single : List ℕ → Bool

@@ -1,9 +1,10 @@
 ghost use Rattle.std.specs.Prelude.{◌≡◌, ◌≤◌, ◌<◌, ◌+◌, ◌-◌, ◌∷◌, ◌++◌, [], ℕ, length, slice_index, map, Ok, IfOk, OnOk};
 ghost use Rattle.std.specs.List.{flat_map, All};
 ghost use Rattle.std.specs.Str.{chars, IsUtf8};
+ghost use Rattle.fru_area.specs.Walks.{longest_field};
 ghost use Rattle.fru_record.specs.Parts.{HasNames, fields_of_parts, texts_of, chassis_texts, board_texts, product_texts};
 ghost use Rattle.fru_record.specs.Records.{record_of};
-ghost use Rattle.fru_record.specs.Building.{most_units, longest_text, GivesBytes, build_fault, record_bytes, has_late_date, closing_byte};
+ghost use Rattle.fru_record.specs.Building.{most_units, GivesBytes, build_fault, record_bytes, has_late_date, closing_byte};
 ghost use Rattle.fru_record.specs.Building.{field_of_text, area_body, area_units, area_bytes, chassis_body, board_body, product_body, units_of, bytes_of};
 ghost use Rattle.fru_record.specs.Layouts.{IsLayout, IsBuildable, HasOffsets, header_start};
 ghost use Rattle.fru_record.specs.TextRules.{IsWritable, AreWritable, field_head, first_char};
@@ -17,6 +18,9 @@ use bmc_base::{Bytes, Text};
 use fru_area::area_sum;
 use std::alloc::{AllocError, Global};
 use thiserror::Error;
+
+// Ends the fields of an area.
+const END_MARK: u8 = 0xC1;
 
 /// Why a record can't be built, the first of these.
 #[derive(Clone, Copy, Debug, PartialEq, Eq, Error)]
@@ -229,7 +233,7 @@ fn push_body(
     bytes.extend_from_slice(fixed)?;
     push_texts(bytes, named.as_slice())?;
     push_texts(bytes, custom.as_slice())?;
-    bytes.push(0xC1)?;
+    bytes.push(END_MARK)?;
     Ok(())
 }
 
@@ -257,7 +261,7 @@ fn push_text(bytes: &mut Vec<u8>, text: &str) -> Result<(), AllocError>
 
 // The type and length of a field with so many characters.
 fn field_head(count: usize) -> u8
-    requires { count ≤ longest_text }
+    requires { count ≤ longest_field }
     ensures { result ≡ field_head count }
 {
     if count == 1 { 0x81 } else { 0xC0 + count as u8 }

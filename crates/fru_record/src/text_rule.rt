@@ -16,7 +16,7 @@ const LAST_SIX_BIT: u32 = 0x5F;
 const LAST_LATIN: u32 = 0xFF;
 
 // The most characters of a text: the length of a field has six bits.
-const LONGEST_TEXT: usize = 63;
+const LONGEST_FIELD: usize = 63;
 
 // What each text of a record that is built keeps.
 #[derive(Clone, Copy)]
@@ -102,7 +102,7 @@ fn is_not_latin(text: &str) -> bool
 fn is_too_long(text: &str) -> bool
     ensures { result ≡ is_too_long text.now }
 {
-    char_count(text) > LONGEST_TEXT
+    char_count(text) > LONGEST_FIELD
 }
 
 #[tactic(auto, using(crate::proofs::TextRulesLemmas::bad_single))]
