@@ -8,3 +8,5 @@ pub mod Areas
 pub mod Answers
 pub mod RawFields
 pub mod NextNames
+pub mod WorkedTexts
+pub mod WorkedNames

@@ -1,5 +1,5 @@
 -- The text of a field (FRU definition 1.0, section 13), in UTF-8.
-use Rattle.std.specs.Prelude.{ℕ, zero, suc, ◌+◌, ◌*◌, ◌-◌, ◌/◌, ◌%◌, Bool, ◌==◌, nat_lt, if◌then◌else◌, List, [], ◌∷◌, length, slice_index}
+use Rattle.std.specs.Prelude.{ℕ, zero, suc, ◌+◌, ◌*◌, ◌-◌, ◌/◌, ◌%◌, Bool, ◌==◌, ◌||◌, nat_lt, if◌then◌else◌, List, [], ◌∷◌, length, slice_index}
 use Rattle.std.specs.Prelude.{encode_utf8, codes}
 use Rattle.std.specs.List.{flat_map}
 use Rattle.std.specs.Char.Utf16.{utf16_lossy_chars}
@@ -50,7 +50,7 @@ unicode_units (low ∷ high ∷ bytes) = (low + 256 * high) ∷ unicode_units by
 abbrev pub unicode_text : List ℕ → List ℕ
 unicode_text bytes = flat_map encode_utf8 (utf16_lossy_chars (unicode_units bytes))
 
--- the types of fields, but for text by the area's language
+-- the types of fields: binary, BCD plus, 6-bit ASCII, and text by the language of the area
 abbrev pub binary : ℕ
 binary = 0
 
@@ -60,7 +60,10 @@ bcd_plus = 1
 abbrev pub six_bit : ℕ
 six_bit = 2
 
--- the text of a field by its type: binary as hexadecimal, BCD plus, 6-bit ASCII, or text by the area's language
+abbrev pub by_language : ℕ
+by_language = 3
+
+-- the text of a field by its type; text by language is Latin 1 where it counts as English, and else 2-byte Unicode
 unfoldable pub text_of : Bool → Raw → List ℕ
 text_of english raw =
     if raw.kind == binary then encode_lower raw.bytes
@@ -68,3 +71,7 @@ text_of english raw =
     else if raw.kind == six_bit then six_bit_text raw.bytes
     else if english then latin_text raw.bytes
     else unicode_text raw.bytes
+
+-- whether text in this language counts as English
+abbrev pub is_english_language : ℕ → Bool
+is_english_language language = language == 0 || language == 25

@@ -13,8 +13,9 @@ use std::alloc::Global;
 // Stands in place of a type/length byte and ends the fields.
 const END_MARK: u8 = 0xC1;
 
-/// The area that begins at a byte, whole, or the first of its rules that is broken: `AreaOutside`,
-/// `AreaVersion`, `AreaLength`, `AreaChecksum`. It takes no memory.
+/// Returns the area that begins at byte `start` of a record, whole with its checksum (FRU definition 1.0,
+/// sections 10 to 12), or the first of its rules that is broken: `AreaOutside`, `AreaVersion`,
+/// `AreaLength`, `AreaChecksum`. It takes no memory.
 #[tactic(auto, unfolding(crate::specs::Headers::area_at))]
 pub fn area_bytes(area: Area, bytes: &[u8], start: usize) -> Result<&[u8], FruFault>
     requires { start ≤ last_start }
@@ -41,7 +42,7 @@ pub fn area_bytes(area: Area, bytes: &[u8], start: usize) -> Result<&[u8], FruFa
     Ok(found)
 }
 
-// The bytes of an area from one on, up to its checksum.
+// Borrows the bytes of an area from byte `start` on, up to its checksum.
 fn field_bytes(bytes: &[u8], start: usize) -> &[u8]
     requires { start < length bytes.now }
     ensures exact { result.now ≡ field_bytes bytes.now start }
@@ -58,7 +59,7 @@ struct RawField<'a> {
     rest: &'a [u8],
 }
 
-// The field at the front of the bytes up to the checksum, or none at the end mark.
+// Returns the field at the front of the bytes, which end before the checksum, or none at the end mark.
 #[tactic(auto, unfolding(crate::specs::Walks::first_field))]
 fn raw_field(area: Area, bytes: &[u8]) -> Result<Option<RawField<'_>>, FruFault>
     ensures exact { seen found_view result ≡ first_field area bytes.now }
@@ -83,7 +84,7 @@ fn raw_field(area: Area, bytes: &[u8]) -> Result<Option<RawField<'_>>, FruFault>
     }))
 }
 
-// The name of a field, and the names and the number of a custom field that are left for later ones.
+// The name of a field, and for later fields the names that are left and the number of a custom one.
 #[derive(Clone, Copy)]
 struct NextName<'a> {
     name: FieldName,
@@ -91,6 +92,7 @@ struct NextName<'a> {
     number: u16,
 }
 
+// Names the next field: by the first of the names, or as a custom field of this number.
 fn next_name(area: Area, names: &[FieldName], number: u16) -> NextName<'_>
     requires { number + 1 < 2 ^ 16 }
     ensures named { IsNext area names.now number result }
@@ -110,9 +112,12 @@ fn next_name(area: Area, names: &[FieldName], number: u16) -> NextName<'_>
     }
 }
 
-/// Appends the fields of a whole area with its checksum, from byte `start` on. The first N get the
-/// names, further ones are custom fields from 1. `FieldOutside` or `NoEnd` is the first rule that is
-/// broken. What stood in the list stays in front, and behind it may stand fields of the area even then.
+/// Appends the fields of a whole area with its checksum to a list, from byte `start` on (FRU definition
+/// 1.0, section 13). The first N get the names, further ones are custom fields from 1. What stood in the
+/// list stays in front.
+///
+/// Fails with `FieldOutside` or `NoEnd`, the first rule that is broken, or for want of memory. Some fields
+/// of the area may stand in the list then.
 pub fn append_area<const N: usize>(
     list: &mut FieldList,
     alloc: Global,
@@ -142,8 +147,7 @@ pub fn append_area<const N: usize>(
     Ok(())
 }
 
-/// The fields of a whole area with its checksum, from byte `start` on, in a list of their own, as
-/// `append_area` gives them.
+/// Returns the fields of a whole area in a list of their own. It fails where `append_area` does.
 pub fn read_area<const N: usize>(
     alloc: Global,
     area: Area,
@@ -161,8 +165,8 @@ pub fn read_area<const N: usize>(
     Ok(fields)
 }
 
-/// Whether the fields of a whole area, from byte `start` on, break a rule: the first of `FieldOutside`
-/// and `NoEnd` that is broken. It takes no memory.
+/// Checks the fields of a whole area with its checksum, from byte `start` on: fails with the first rule
+/// that is broken, `FieldOutside` or `NoEnd`. It takes no memory.
 pub fn check_fields(area: Area, bytes: &[u8], start: usize) -> Result<(), FruFault>
     requires { start < length bytes.now }
     ensures { result ≡ checked (raw_fields area bytes.now start) }

@@ -12,29 +12,44 @@ const LAST_CUSTOM: u16 = 2040;
 /// The name of a field of a record (FRU definition 1.0, sections 10 to 12).
 #[derive(Clone, Copy, Debug, PartialEq, Eq)]
 pub enum FieldName {
+    /// The type of the chassis, a number (section 10).
     ChassisType,
+    /// The part number of the chassis.
     ChassisPartNumber,
+    /// The serial number of the chassis.
     ChassisSerialNumber,
-    /// The date and time of manufacture of the board.
+    /// The date and time of manufacture of the board (section 11).
     BoardManufactureDate,
+    /// The manufacturer of the board.
     BoardManufacturer,
+    /// The product name of the board.
     BoardProductName,
+    /// The serial number of the board.
     BoardSerialNumber,
+    /// The part number of the board.
     BoardPartNumber,
+    /// The FRU file id of the board.
     BoardFruVersionId,
+    /// The manufacturer of the product (section 12).
     ProductManufacturer,
+    /// The name of the product.
     ProductProductName,
+    /// The part or model number of the product.
     ProductPartNumber,
+    /// The version of the product.
     ProductVersion,
+    /// The serial number of the product.
     ProductSerialNumber,
+    /// The asset tag of the product.
     ProductAssetTag,
+    /// The FRU file id of the product.
     ProductFruVersionId,
-    /// A custom field of an area, numbered from 1.
+    /// A custom field of an area, numbered from 1 in the order of the area.
     Custom(Area, u16),
 }
 
 impl FieldName {
-    /// The name as text, as `BOARD_SERIAL_NUMBER` or `BOARD_INFO_AM1`. It takes no memory.
+    /// Returns the name as text, as `BOARD_SERIAL_NUMBER` or `BOARD_INFO_AM1`. It takes no memory.
     pub fn text(&self) -> FieldText
         ensures { result ≡ name_text self.now }
     {
@@ -46,8 +61,8 @@ impl FieldName {
         text
     }
 
-    /// The name that this is the text of, or none. Custom fields are numbered from 1 to 2,040, as no
-    /// area has more bytes. It takes no memory.
+    /// Returns the name that has this text, or none. Custom fields are numbered from 1 to 2,040, as no
+    /// area has more bytes, without leading zeros. It takes no memory.
     pub fn read(text: &str) -> Option<FieldName>
         ensures found { IfSome result (λ n. IsName n × (name_text n ≡ text.now)) }
         ensures none { IfNone result ((n : FieldName) → IsName n → name_text n ≡ text.now → ⊥) }
@@ -65,7 +80,7 @@ impl FieldName {
         self == other
     }
 
-    // The number of a custom field, or zero.
+    // Returns the number of a custom field, or zero.
     pub(crate) fn number(self) -> u16
         ensures exact { result ≡ number_of self }
         ensures range { result < 2 ^ 16 }
@@ -76,7 +91,7 @@ impl FieldName {
         }
     }
 
-    // The name, but for the number of a custom field.
+    // Returns the text of the name, but for the number of a custom field, which has at most 5 digits.
     #[tactic(auto, unfolding(crate::specs::Names::name_text))]
     fn stem(&self) -> &'static str
         ensures text { result.now ++ number_text self.now ≡ name_text self.now }
@@ -104,7 +119,7 @@ impl FieldName {
     }
 }
 
-// What the name of a custom field of an area begins with.
+// Returns what the name of a custom field of an area begins with.
 fn custom_prefix(area: Area) -> &'static str
     ensures text { result.now ≡ custom_prefix area }
     ensures room { length result.now + 5 ≤ longest_text }
@@ -135,7 +150,7 @@ const FIXED: [FieldName; 16] = [
     FieldName::ProductFruVersionId,
 ];
 
-// The name of this text, of those without a number.
+// Returns the name of this text, of those without a number.
 fn read_fixed(text: &str) -> Option<FieldName>
     ensures found { IfSome result (λ n. IsName n × (name_text n ≡ text.now)) }
     ensures none { IfNone result ((n : FieldName) → IsFixed n → name_text n ≡ text.now → ⊥) }
@@ -148,7 +163,7 @@ fn read_fixed(text: &str) -> Option<FieldName>
     None
 }
 
-// The name of this text, of those of an area's custom fields.
+// Returns the name of this text, of those of an area's custom fields.
 fn read_custom(area: Area, text: &str) -> Option<FieldName>
     ensures found { IfSome result (λ n. IsName n × (name_text n ≡ text.now)) }
     ensures none { IfNone result (LacksNumber (custom_prefix area) text.now) }

@@ -1,6 +1,6 @@
 use crate::{
     Area, Field, FieldList, FieldName, FieldText, FruFault, Header, append_area, area_bytes,
-    area_sum, check_fields, field_text, one_name, one_reading, read_area, read_header,
+    area_sum, check_fields, field_text, is_english_language, read_area, read_header,
 };
 use std::alloc::Global;
 use std::process::Abort;
@@ -136,8 +136,6 @@ const SEVEN: [FieldName; 7] = [
 
 #[test]
 fn named_fields(rt: HostRuntime) -> Result<(), Fail> {
-    one_reading();
-    one_name();
     let [first, second, third, fourth, fifth, _, _] = SEVEN;
     let area = area_bytes(BOARD, &RECORD, 8)?;
     assert_eq!(rt; area, &RECORD[8..]);
@@ -319,6 +317,20 @@ fn assert_text(rt: &impl Abort, types: &[(u8, bool)], bytes: &[u8], wanted: &str
         let text = field_text(*kind, *english, bytes);
         assert_eq!(rt; text.as_str(), wanted, "type {kind} at {bytes:?}");
         assert_eq!(rt; text.copied().as_str(), wanted);
+    }
+}
+
+#[test]
+fn languages(rt: HostRuntime) {
+    for (language, english) in [
+        (0, true),
+        (1, false),
+        (24, false),
+        (25, true),
+        (26, false),
+        (255, false),
+    ] {
+        assert_eq!(rt; is_english_language(language), english, "at {language}");
     }
 }
 

@@ -2,7 +2,7 @@ ghost use Rattle.std.specs.Prelude.{◌≡◌, ◌+◌, ◌^◌, ◌<◌, ◌≤
 ghost use Rattle.std.specs.Char.Utf16.{is_high_surrogate, is_low_surrogate, surrogate_pair_char};
 ghost use Rattle.hex.specs.Hex.{encode_lower};
 ghost use Rattle.fru_area.specs.Texts.{text_of, longest_text, bcd_char, bcd_text, little_endian, six_bit_chars, six_bit_text, latin_text};
-ghost use Rattle.fru_area.specs.Texts.{unicode_units, unicode_text};
+ghost use Rattle.fru_area.specs.Texts.{unicode_units, unicode_text, is_english_language};
 ghost use Rattle.fru_area.specs.Walks.{last_kind, longest_field};
 ghost use Rattle.fru_area.specs.Units.{IsFirstChar, IsFirstUnit, unit_char_of};
 
@@ -11,8 +11,12 @@ use crate::FieldText;
 // The most bytes of a field.
 const LONGEST_FIELD: usize = 63;
 
-/// The text of a field of this type (0 binary, 1 BCD plus, 2 6-bit ASCII, 3 by language) in an area
-/// that counts as English or not (FRU definition 1.0, section 13). It takes no memory.
+// Stands for an odd byte at the end of 2-byte Unicode.
+const REPLACEMENT: u16 = 0xFFFD;
+
+/// Returns the text of a field of this type: 0 binary, 1 BCD plus, 2 6-bit ASCII, and 3 by language, which
+/// is Latin 1 where the area counts as English and else 2-byte Unicode (FRU definition 1.0, section 13).
+/// It takes no memory.
 #[tactic(auto, unfolding(crate::specs::Texts::text_of))]
 pub fn field_text(kind: u8, english: bool, bytes: &[u8]) -> FieldText
     requires kind { kind ≤ last_kind }
@@ -28,7 +32,15 @@ pub fn field_text(kind: u8, english: bool, bytes: &[u8]) -> FieldText
     }
 }
 
-// Binary, as hexadecimal.
+/// Whether text in a language counts as English: 0, where none is given, and 25 (FRU definition 1.0,
+/// sections 11 to 13).
+pub fn is_english_language(language: u8) -> bool
+    ensures { result ≡ is_english_language language }
+{
+    language == 0 || language == 25
+}
+
+// Returns binary as lower-case hexadecimal.
 fn binary_text(bytes: &[u8]) -> FieldText
     requires { length bytes.now ≤ longest_field }
     ensures { result ≡ encode_lower bytes.now }
@@ -40,7 +52,7 @@ fn binary_text(bytes: &[u8]) -> FieldText
     FieldText::new(text).unwrap()
 }
 
-// BCD plus, two characters a byte.
+// Returns BCD plus, two characters a byte.
 fn bcd_text(bytes: &[u8]) -> FieldText
     requires { length bytes.now ≤ longest_field }
     ensures { result ≡ bcd_text bytes.now }
@@ -53,6 +65,7 @@ fn bcd_text(bytes: &[u8]) -> FieldText
     text
 }
 
+// Returns the character of a nibble of BCD plus.
 fn bcd_char(nibble: u8) -> u8
     requires { nibble < 16 }
     ensures exact { result ≡ bcd_char nibble }
@@ -69,7 +82,7 @@ fn bcd_char(nibble: u8) -> u8
     }
 }
 
-// 6-bit ASCII: three bytes hold four characters.
+// Returns 6-bit ASCII: three bytes hold four characters.
 fn six_bit_text(bytes: &[u8]) -> FieldText
     requires { length bytes.now ≤ longest_field }
     ensures { result ≡ six_bit_text bytes.now }
@@ -84,7 +97,7 @@ fn six_bit_text(bytes: &[u8]) -> FieldText
     text
 }
 
-// At most three bytes as one number.
+// Returns at most three bytes as one number, the low byte first.
 fn group_bits(group: &[u8]) -> u32
     requires { length group.now ≤ 3 }
     ensures exact { result ≡ little_endian group.now }
@@ -100,7 +113,7 @@ fn group_bits(group: &[u8]) -> u32
     }
 }
 
-// So many characters from the low bits up.
+// Appends so many characters of six bits, from the low bits up.
 fn push_six_bit(text: &mut FieldText, mut bits: u32, count: usize)
     requires { length text.old + count ≤ longest_text }
     ensures { text.new ≡ text.old ++ six_bit_chars count bits }
@@ -111,7 +124,7 @@ fn push_six_bit(text: &mut FieldText, mut bits: u32, count: usize)
     }
 }
 
-// Latin 1, a character a byte.
+// Returns Latin 1, a character a byte.
 fn latin_text(bytes: &[u8]) -> FieldText
     requires { length bytes.now ≤ longest_field }
     ensures { result ≡ latin_text bytes.now }
@@ -123,7 +136,7 @@ fn latin_text(bytes: &[u8]) -> FieldText
     text
 }
 
-// 2-byte Unicode.
+// Returns 2-byte Unicode, the low byte first.
 fn unicode_text(bytes: &[u8]) -> FieldText
     requires { length bytes.now ≤ longest_field }
     ensures { result ≡ unicode_text bytes.now }
@@ -137,7 +150,7 @@ fn unicode_text(bytes: &[u8]) -> FieldText
     text
 }
 
-// The first character of 2-byte Unicode, and the bytes behind it.
+// Returns the first character of 2-byte Unicode, and the bytes behind it.
 fn first_char(bytes: &[u8]) -> Option<(char, &[u8])>
     ensures { MatchOption result (bytes.now ≡ []) (λ found. IsFirstChar bytes.now found.0 found.1.now) }
 {
@@ -148,13 +161,13 @@ fn first_char(bytes: &[u8]) -> Option<(char, &[u8])>
     }
 }
 
-// The first unit of 2-byte Unicode, and the bytes behind it.
+// Returns the first unit of 2-byte Unicode, and the bytes behind it.
 fn first_unit(bytes: &[u8]) -> Option<(u16, &[u8])>
     ensures { MatchOption result (bytes.now ≡ []) (λ found. IsFirstUnit bytes.now found.0 found.1.now) }
 {
     match bytes {
         [] => None,
-        [_] => Some((0xFFFD, &bytes[1..])),
+        [_] => Some((REPLACEMENT, &bytes[1..])),
         [low, high, later @ ..] => { Some((u16::from(*low) + 256 * u16::from(*high), later)) },
     }
 }
@@ -166,7 +179,7 @@ fn is_pair(high: u16, low: u16) -> bool
     (0xD800..0xDC00).contains(&high) && (0xDC00..0xE000).contains(&low)
 }
 
-// The character of a surrogate pair.
+// Returns the character of a surrogate pair.
 fn pair_char(high: u16, low: u16) -> char
     requires { (is_high_surrogate high && is_low_surrogate low) ≡ true }
     ensures { result ≡ surrogate_pair_char high low }
@@ -175,7 +188,7 @@ fn pair_char(high: u16, low: u16) -> char
     char::from_u32(0x1_0000 + above).unwrap()
 }
 
-// The character of a unit that is in no pair.
+// Returns the character of a unit that is in no pair, U+FFFD for a surrogate.
 fn unit_char(unit: u16) -> char
     ensures { result ≡ unit_char_of unit }
 {
