@@ -1,7 +1,8 @@
 -- A whole FRU record (FRU definition 1.0, sections 8 and 10 to 13): its fields, or the first broken rule.
-use Rattle.std.specs.Prelude.{ℕ, ◌*◌, Bool, true, ◌==◌, ◌||◌, if◌then◌else◌, List, [], ◌∷◌, ◌++◌, decimal, slice_index, Result, Ok, Err}
+use Rattle.std.specs.Prelude.{ℕ, ◌*◌, Bool, true, ◌==◌, if◌then◌else◌, List, [], ◌∷◌, ◌++◌, decimal, slice_index, Result, Ok, Err}
 use Rattle.fru_area.specs.Headers.{unit, header, area_at}
 use Rattle.fru_area.specs.Areas.{area_fields}
+use Rattle.fru_area.specs.Texts.{is_english_language}
 use Rattle.fru_area.specs.declared.fault.Area.{Area}
 use Rattle.fru_area.specs.declared.fault.Area.TheVariants.{Chassis, Board, Product}
 use Rattle.fru_area.specs.declared.fault.FruFault.{FruFault}
@@ -27,11 +28,11 @@ fields_start Chassis = 3
 fields_start Board = 6
 fields_start Product = 3
 
--- whether the text of an area counts as English: languages 0 and 25 do, and the chassis area, which has none
+-- whether the text of an area counts as English: by its language, and always in the chassis area, which has none
 abbrev pub is_english : Area → List ℕ → Bool
 is_english Chassis area = true
-is_english Board area = slice_index area 2 == 0 || slice_index area 2 == 25
-is_english Product area = slice_index area 2 == 0 || slice_index area 2 == 25
+is_english Board area = is_english_language (slice_index area 2)
+is_english Product area = is_english_language (slice_index area 2)
 
 -- the fields that stand at a fixed place: the chassis type, and the date of the board where there is one
 abbrev pub fixed_fields : Area → List ℕ → List Field

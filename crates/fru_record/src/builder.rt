@@ -22,7 +22,7 @@ use thiserror::Error;
 // Ends the fields of an area.
 const END_MARK: u8 = 0xC1;
 
-/// Why a record can't be built, the first of these.
+/// Why a record can't be built: the first of these, rule by rule.
 #[derive(Clone, Copy, Debug, PartialEq, Eq, Error)]
 pub enum BuildFault {
     /// The minutes of the board are 2^24 or more.
@@ -56,7 +56,7 @@ impl From<AllocError> for BuildFault {
     }
 }
 
-/// The bytes of a record of these parts: language 0 (English), texts in Latin 1, a text of one character
+/// Builds the bytes of a record of these parts: language 0 (English), texts in Latin 1, a text of one character
 /// in 6-bit ASCII, an empty text as C0h, padding of zeros, and the areas in the order chassis, board,
 /// product. A refusal is the first of `BuildFault`, rule by rule. `FruRecord::decode` reads the bytes as
 /// exactly the fields of the parts.
@@ -75,7 +75,7 @@ pub fn build(alloc: Global, parts: &Parts) -> Result<Bytes, BuildFault>
     }
 }
 
-// Why no record can be built of the parts, or none.
+// Says why no record can be built of the parts, if so.
 fn first_fault(parts: &Parts, layout: Layout) -> Option<BuildFault>
     requires { IsLayout parts.now layout }
     ensures { result ≡ build_fault parts.now }
@@ -111,7 +111,7 @@ fn has_late_date(board: &Option<BoardPart>) -> bool
     }
 }
 
-// The bytes of a record, whose parts allow it.
+// Writes the bytes of a record, whose parts allow it.
 fn record_bytes(alloc: Global, parts: &Parts, layout: Layout) -> Result<Vec<u8>, AllocError>
     requires { IsBuildable parts.now layout }
     ensures written { IfOk result (λ bytes. bytes.items ≡ record_bytes parts.now) }
@@ -195,7 +195,7 @@ fn push_product(
     }
 }
 
-// A whole area of so many units.
+// Appends a whole area of so many units.
 fn push_area(
     bytes: &mut Vec<u8>,
     units: usize,
@@ -219,7 +219,7 @@ fn push_area(
     Ok(())
 }
 
-// What an area holds behind its version and length.
+// Appends what an area holds behind its version and length.
 fn push_body(
     bytes: &mut Vec<u8>,
     fixed: &[u8],
@@ -248,7 +248,7 @@ fn push_texts(bytes: &mut Vec<u8>, texts: &[Text]) -> Result<(), AllocError>
     Ok(())
 }
 
-// A text as a field: a single character in 6-bit ASCII, all else in Latin 1.
+// Appends a text as a field: a single character in 6-bit ASCII, all else in Latin 1.
 fn push_text(bytes: &mut Vec<u8>, text: &str) -> Result<(), AllocError>
     requires { IsWritable text.now }
     ensures written { OnOk result (bytes.new.items ≡ bytes.old.items ++ field_of_text text.now) }
@@ -259,7 +259,7 @@ fn push_text(bytes: &mut Vec<u8>, text: &str) -> Result<(), AllocError>
     push_chars(bytes, text, first_char(count))
 }
 
-// The type and length of a field with so many characters.
+// Returns the type and length of a field with so many characters.
 fn field_head(count: usize) -> u8
     requires { count ≤ longest_field }
     ensures { result ≡ field_head count }
@@ -267,14 +267,14 @@ fn field_head(count: usize) -> u8
     if count == 1 { 0x81 } else { 0xC0 + count as u8 }
 }
 
-// The character that a field with so many characters writes as 0.
+// Returns the character that a field with so many characters writes as 0.
 fn first_char(count: usize) -> u32
     ensures { result ≡ first_char count }
 {
     if count == 1 { FIRST_SIX_BIT } else { 0 }
 }
 
-// The characters of a text, from this one on.
+// Appends the characters of a text, counted from this one on.
 fn push_chars(bytes: &mut Vec<u8>, text: &str, first: u32) -> Result<(), AllocError>
     requires { (k : ℕ) → k < length (chars text.now) → (first ≤ slice_index (chars text.now) k) × (slice_index (chars text.now) k ≤ first + 255) }
     ensures { OnOk result (bytes.new.items ≡ bytes.old.items ++ map (λ c. c - first) (chars text.now)) }
@@ -285,7 +285,7 @@ fn push_chars(bytes: &mut Vec<u8>, text: &str, first: u32) -> Result<(), AllocEr
     Ok(())
 }
 
-// The byte that brings the sum of the bytes to zero.
+// Returns the byte that brings the sum of the bytes to zero.
 fn closing_byte(bytes: &[u8]) -> u8
     ensures { result ≡ closing_byte bytes.now }
 {

@@ -1,4 +1,4 @@
-ghost use Rattle.std.specs.Prelude.{◌≡◌, ◌≤◌, ◌<◌, ◌^◌, ◌==◌, ◌||◌, length, option_map, option_copied, option_to_list, bytes_eq, find, OnOk, ◌++◌};
+ghost use Rattle.std.specs.Prelude.{◌≡◌, ◌≤◌, ◌<◌, ◌++◌, length, option_map, option_copied, option_to_list, bytes_eq, find, OnOk};
 ghost use Rattle.fru_area.specs.Answers.{Appends, Gives};
 ghost use Rattle.fru_area.specs.Areas.{area_fields};
 ghost use Rattle.fru_area.specs.Headers.{unit, longest_area};
@@ -11,12 +11,13 @@ use crate::date::date_field;
 use crate::layout::UNIT;
 use bmc_base::OutOfMemory;
 use fru_area::{
-    Area, Field, FieldList, FieldName, FieldText, FruFault, append_area, area_bytes, read_header,
+    Area, Field, FieldList, FieldName, FieldText, FruFault, append_area, area_bytes,
+    is_english_language, read_header,
 };
 use std::alloc::Global;
 use std::marker::Model;
 
-/// A FRU record: its fields, in the order chassis, board, product.
+/// A FRU record (FRU definition 1.0): its fields, in the order chassis, board, product.
 #[derive(Drop)]
 pub struct FruRecord {
     fields: FieldList,
@@ -35,7 +36,8 @@ impl Model for FruRecord {
 }
 
 impl FruRecord {
-    /// The record that the bytes spell, or the first rule that they break.
+    /// Reads the record that the bytes spell, or answers the first rule that they break: of the header, and
+    /// then of the chassis, the board and the product area (FRU definition 1.0, sections 8 and 10 to 13).
     pub fn decode(alloc: Global, bytes: &[u8]) -> Result<FruRecord, FruFault>
         ensures { Gives result (record_of bytes.now) }
     {
@@ -47,14 +49,15 @@ impl FruRecord {
         Ok(FruRecord { fields })
     }
 
-    /// The fields, in the order of the record.
+    /// Borrows the fields, in the order of the record.
     pub fn fields(&self) -> &[Field]
         ensures { result.now ≡ self.now }
     {
         self.fields.as_slice()
     }
 
-    /// The text of the first field with this name, as it is printed, or none where no field has it.
+    /// Returns the text of the first field with this name, as it is printed, or none where no field has it.
+    /// It reads the name once and then compares names and no texts.
     pub fn field(&self, name: &str) -> Option<&str>
         ensures { option_map (λ text. text.now) result ≡ text_named self.now name.now }
     {
@@ -62,7 +65,7 @@ impl FruRecord {
         text_named(fields, FieldName::read(name)?)
     }
 
-    /// The text of the first field with this name, or none where no field has it. It compares no texts.
+    /// Returns the text of the first field with this name, or none where no field has it.
     pub fn field_named(&self, name: FieldName) -> Option<&str>
         ensures { option_map (λ text. text.now) result ≡ text_named self.now (name_text name) }
     {
@@ -70,7 +73,7 @@ impl FruRecord {
     }
 }
 
-// The text of the first field with this name.
+// Returns the text of the first field with this name.
 fn text_named(fields: &[Field], name: FieldName) -> Option<&str>
     ensures { option_map (λ text. text.now) result ≡ text_named fields.now (name_text name) }
 {
@@ -78,7 +81,7 @@ fn text_named(fields: &[Field], name: FieldName) -> Option<&str>
     Some(field.text.as_str())
 }
 
-// The first field with this name.
+// Finds the first field with this name.
 fn field_named(fields: &[Field], name: FieldName) -> Option<&Field>
     ensures { option_copied result ≡ find (λ field. bytes_eq (name_text field.name) (name_text name)) fields.now }
 {
@@ -133,7 +136,7 @@ fn append_fixed(
     }
 }
 
-// The one field that stands at a fixed place: the chassis type, or the date of a board, if it has one.
+// Returns the one field that stands at a fixed place: the chassis type, or the date of a board, if it has one.
 fn fixed_field(area: Area, bytes: &[u8]) -> Option<Field>
     requires { unit ≤ length bytes.now }
     ensures { option_to_list result ≡ fixed_fields area bytes.now }
@@ -154,7 +157,7 @@ fn fixed_field(area: Area, bytes: &[u8]) -> Option<Field>
     }
 }
 
-// The minutes of a board area, the low byte first.
+// Reads the minutes of a board area, the low byte first.
 fn minutes(area: &[u8]) -> u32
     requires { unit ≤ length area.now }
     ensures exact { result ≡ minutes_of area.now }
@@ -206,7 +209,7 @@ fn append_named(
                 area,
                 bytes,
                 6,
-                is_english(bytes[2]),
+                is_english_language(bytes[2]),
                 BOARD_NAMES,
             )
         }
@@ -217,16 +220,9 @@ fn append_named(
                 area,
                 bytes,
                 3,
-                is_english(bytes[2]),
+                is_english_language(bytes[2]),
                 PRODUCT_NAMES,
             )
         }
     }
-}
-
-// Whether text in this language counts as English.
-fn is_english(language: u8) -> bool
-    ensures { result ≡ (language == 0 || language == 25) }
-{
-    language == 0 || language == 25
 }

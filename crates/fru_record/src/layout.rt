@@ -27,7 +27,7 @@ pub(crate) struct Layout {
 }
 
 impl Layout {
-    /// The layout of a record of these parts.
+    /// Measures a record of these parts.
     pub fn new(parts: &Parts) -> Layout
         ensures { IsLayout parts.now result }
     {
@@ -38,14 +38,14 @@ impl Layout {
         }
     }
 
-    /// Whether an area is too long.
+    /// Tells whether an area is too long.
     pub fn has_long_area(self) -> bool
         ensures { result ≡ (nat_lt most_units self.chassis || nat_lt most_units self.board || nat_lt most_units self.product) }
     {
         self.chassis > MOST_UNITS || self.board > MOST_UNITS || self.product > MOST_UNITS
     }
 
-    /// Whether an area would begin where no offset names it, or the record is too long.
+    /// Tells whether an area would begin where no offset names it, or the record is too long.
     pub fn is_too_long(self) -> bool
         requires chassis { self.chassis ≤ most_units }
         requires board { self.board ≤ most_units }
@@ -57,7 +57,7 @@ impl Layout {
             || self.len() > LONGEST_RECORD
     }
 
-    /// How many bytes the record has.
+    /// Returns how many bytes the record has.
     pub fn len(self) -> usize
         requires chassis { self.chassis ≤ most_units }
         requires board { self.board ≤ most_units }
@@ -67,14 +67,14 @@ impl Layout {
         UNIT * (1 + self.chassis + self.board + self.product)
     }
 
-    /// Where the chassis area begins, in units, or 0 where it is absent.
+    /// Returns the offset of the chassis area, in units, or 0 where it is absent.
     pub fn chassis_offset(self) -> usize
         ensures { result ≡ offset_at 1 self.chassis }
     {
         offset(1, self.chassis)
     }
 
-    /// Where the board area begins, in the same way.
+    /// Returns the offset of the board area, in the same way.
     pub fn board_offset(self) -> usize
         requires { self.chassis ≤ most_units }
         ensures { result ≡ offset_at (1 + self.chassis) self.board }
@@ -82,7 +82,7 @@ impl Layout {
         offset(1 + self.chassis, self.board)
     }
 
-    /// Where the product area begins, in the same way.
+    /// Returns the offset of the product area, in the same way.
     pub fn product_offset(self) -> usize
         requires chassis { self.chassis ≤ most_units }
         requires board { self.board ≤ most_units }
@@ -125,7 +125,7 @@ fn product_units(part: &Option<ProductPart>) -> usize
     }
 }
 
-// The units of an area with so many bytes at fixed places, at most one more than an area can have.
+// Returns the units of an area with so many bytes at fixed places, at most one more than an area can have.
 fn area_units(fixed: usize, named: &FieldTexts, custom: &FieldTexts) -> usize
     requires { fixed ≤ 4 }
     ensures { (front : List ℕ) → length front ≡ fixed → result ≡ min (area_units (area_body front (named.now ++ custom.now))) (most_units + 1) }
@@ -137,7 +137,7 @@ fn area_units(fixed: usize, named: &FieldTexts, custom: &FieldTexts) -> usize
     len.div_ceil(UNIT).min(MOST_UNITS + 1)
 }
 
-// How many bytes the texts take as fields, or usize::MAX where that is too small.
+// Returns how many bytes the texts take as fields, or usize::MAX where that is too small.
 fn fields_len(texts: &[Text]) -> usize
     ensures { result ≡ min (length (flat_map field_of_text texts.now)) (2 ^ 64 - 1) }
 {

@@ -29,7 +29,7 @@ pub(crate) enum TextRule {
     Single,
 }
 
-// Whether a text of the parts breaks a rule.
+// Tells whether a text of the parts breaks a rule.
 pub(crate) fn parts_break(rule: TextRule, parts: &Parts) -> bool
     ensures { result ≡ list_any (breaks rule) (texts_of parts.now) }
 {
@@ -114,17 +114,17 @@ fn is_bad_single(text: &str) -> bool
     single && bad
 }
 
-// Whether a character is none of 6-bit ASCII.
+// Tells whether a character is none of 6-bit ASCII.
 fn has_no_six_bit(text: &str) -> bool
     ensures { result ≡ list_any (λ c. nat_lt c first_six_bit || nat_lt last_six_bit c) (chars text.now) }
 {
     text.chars().any(|c| u32::from(c) < FIRST_SIX_BIT || u32::from(c) > LAST_SIX_BIT)
 }
 
-// How many characters a text has.
+// Counts the characters of a text.
 pub(crate) fn char_count(text: &str) -> usize
     ensures exact { result ≡ length (chars text.now) }
-    ensures most { result < 2 ^ 63 }
+    ensures limit { result < 2 ^ 63 }
 {
     text.chars().count()
 }
