@@ -1,12 +1,17 @@
-//! The printed texts of a run, exactly. The run of a script stands on it.
+//! The printed texts of a run, byte by byte. Each is appended to a text that the caller has.
 #![tactic(auto)]
 
 mod change;
+mod decimal;
+mod examples;
+mod place;
+mod quoted;
 mod refusal;
 mod row;
 #[cfg(test)]
 mod tests;
 
 pub use change::{Change, push_change};
+pub use examples::printed_texts;
 pub use refusal::{Refusal, push_refused_line};
 pub use row::push_fru_row;
