@@ -1,8 +1,10 @@
-//! The commands of a script's lines. The run of a script stands on it.
+//! The commands of the lines of a script.
 #![tactic(auto)]
 
 mod command;
+mod examples;
 #[cfg(test)]
 mod tests;
 
 pub use command::{Command, ScriptFault};
+pub use examples::commands_of_lines;
