@@ -1,15 +1,36 @@
-//! The outside: where bytes come from and where they go, each with a count of its faults. Memory tells
-//! what it holds, real streams do not. Readers of lines and writers of texts stand on the traits alone.
+//! The outside: where bytes come from, where they go and where files are, each with its calls. Memory
+//! tells what it holds, real files and streams do not. Readers of lines and writers of texts stand on the
+//! traits alone.
 #![tactic(auto)]
 
-mod memory;
+mod count_sink;
+mod failures;
+mod fault;
+mod files;
+mod law;
+mod mem_files;
+mod mem_sink;
+mod mem_source;
 mod put;
-mod standard;
+mod retry;
+mod sink;
+mod source;
+mod std_files;
+mod std_sink;
+mod std_source;
 #[cfg(test)]
 mod tests;
-mod traits;
 
-pub use memory::{MemSink, MemSource};
+pub use count_sink::CountSink;
+pub use fault::IoFault;
+pub use files::{FileFault, Files, Whole};
+pub use law::a_count_is_the_length;
+pub use mem_files::MemFiles;
+pub use mem_sink::MemSink;
+pub use mem_source::MemSource;
 pub use put::put_all;
-pub use standard::{StdSink, StdSource};
-pub use traits::{IoFault, Sink, Source};
+pub use sink::Sink;
+pub use source::Source;
+pub use std_files::StdFiles;
+pub use std_sink::StdSink;
+pub use std_source::StdSource;
