@@ -52,20 +52,28 @@ found_in name text plain = text_in_found name (probe_text name text) text refl �
 
 -- ---- each field, behind those that are tried before it
 
-read_manufacturer : (text : List ℕ) → is_plain_text text ≡ true → plain_probe_of (probe_text BoardManufacturer text) ≡ Some (Contains BoardManufacturer text)
+-- a probe for a text in this field is read so
+abbrev IsRead : FieldName → Type 0
+IsRead name = (text : List ℕ) → is_plain_text text ≡ true → plain_probe_of (probe_text name text) ≡ Some (Contains name text)
+
+read_manufacturer : IsRead BoardManufacturer
 unfolding plain_probe_of name_text
 read_manufacturer text plain = rw (found_in BoardManufacturer text plain) refl
 
-read_product_name : (text : List ℕ) → is_plain_text text ≡ true → plain_probe_of (probe_text BoardProductName text) ≡ Some (Contains BoardProductName text)
+read_product_name : IsRead BoardProductName
 unfolding plain_probe_of name_text
 read_product_name text plain = rw (other BoardProductName BoardManufacturer text (λ some. refl), found_in BoardProductName text plain) refl
 
-read_serial_number : (text : List ℕ) → is_plain_text text ≡ true → plain_probe_of (probe_text BoardSerialNumber text) ≡ Some (Contains BoardSerialNumber text)
+read_serial_number : IsRead BoardSerialNumber
 unfolding plain_probe_of name_text
 read_serial_number text plain =
-    rw (other BoardSerialNumber BoardManufacturer text (λ some. refl), other BoardSerialNumber BoardProductName text (λ some. refl), found_in BoardSerialNumber text plain) refl
+    rw (
+      other BoardSerialNumber BoardManufacturer text (λ some. refl),
+      other BoardSerialNumber BoardProductName text (λ some. refl),
+      found_in BoardSerialNumber text plain,
+    ) refl
 
-read_part_number : (text : List ℕ) → is_plain_text text ≡ true → plain_probe_of (probe_text BoardPartNumber text) ≡ Some (Contains BoardPartNumber text)
+read_part_number : IsRead BoardPartNumber
 unfolding plain_probe_of name_text
 read_part_number text plain =
     rw (
@@ -75,7 +83,7 @@ read_part_number text plain =
       found_in BoardPartNumber text plain,
     ) refl
 
-read_fru_version_id : (text : List ℕ) → is_plain_text text ≡ true → plain_probe_of (probe_text BoardFruVersionId text) ≡ Some (Contains BoardFruVersionId text)
+read_fru_version_id : IsRead BoardFruVersionId
 unfolding plain_probe_of name_text
 read_fru_version_id text plain =
     rw (
@@ -86,16 +94,15 @@ read_fru_version_id text plain =
       found_in BoardFruVersionId text plain,
     ) refl
 
-read_written : (name : FieldName) (text : List ℕ) → IsOneOf name board_names → is_plain_text text ≡ true
-    → plain_probe_of (probe_text name text) ≡ Some (Contains name text)
-read_written name text (inl e) plain = rw e (read_manufacturer text plain)
-read_written name text (inr (inl e)) plain = rw e (read_product_name text plain)
-read_written name text (inr (inr (inl e))) plain = rw e (read_serial_number text plain)
-read_written name text (inr (inr (inr (inl e)))) plain = rw e (read_part_number text plain)
-read_written name text (inr (inr (inr (inr (inl e))))) plain = rw e (read_fru_version_id text plain)
-read_written name text (inr (inr (inr (inr (inr none))))) plain = absurd none
+read_written : (name : FieldName) → IsOneOf name board_names → IsRead name
+read_written name (inl e) text plain = rw e (read_manufacturer text plain)
+read_written name (inr (inl e)) text plain = rw e (read_product_name text plain)
+read_written name (inr (inr (inl e))) text plain = rw e (read_serial_number text plain)
+read_written name (inr (inr (inr (inl e)))) text plain = rw e (read_part_number text plain)
+read_written name (inr (inr (inr (inr (inl e))))) text plain = rw e (read_fru_version_id text plain)
+read_written name (inr (inr (inr (inr (inr none))))) text plain = absurd none
 
 pub reads_as_written : (probe : List ℕ) (found : PlainProbe) → Writes found probe → plain_probe_of probe ≡ Some found
 unfolding plain_probe_of
 reads_as_written probe Always e = rw e refl
-reads_as_written probe (Contains name text) (one, plain, e) = rw e (read_written name text one plain)
+reads_as_written probe (Contains name text) (one, plain, e) = rw e (read_written name one text plain)
