@@ -1,12 +1,17 @@
-//! Appends what is printed to a text: refused lines, changes, and the rows of FRUs.
+//! The printed texts of a run, byte by byte. Each is appended to a text that the caller has.
 #![tactic(auto)]
 
 mod change;
+mod decimal;
+mod examples;
+mod place;
+mod quoted;
 mod refusal;
 mod row;
 #[cfg(test)]
 mod tests;
 
 pub use change::{Change, push_change};
+pub use examples::printed_texts;
 pub use refusal::{Refusal, push_refused_line};
 pub use row::push_fru_row;

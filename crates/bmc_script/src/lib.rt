@@ -1,8 +1,10 @@
-//! Reads the command of a line.
+//! The commands of the lines of a script.
 #![tactic(auto)]
 
 mod command;
+mod examples;
 #[cfg(test)]
 mod tests;
 
 pub use command::{Command, ScriptFault};
+pub use examples::commands_of_lines;

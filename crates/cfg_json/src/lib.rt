@@ -1,5 +1,5 @@
-//! Reads configurations in JSON, tells which records match their patterns, and lists them in their
-//! order.
+//! Configurations in JSON, each read from its document or refused for the first rule that it breaks, and the shelf of
+//! configurations in their order.
 #![tactic(auto)]
 
 mod config;
@@ -13,4 +13,4 @@ mod tests;
 pub use config::{Config, ConfigFault};
 pub use law::plain_probes_read_as_written;
 pub use probe::PlainProbe;
-pub use shelf::Shelf;
+pub use shelf::{MOST_CONFIGS, Shelf};
