@@ -1,4 +1,4 @@
-//! The printed texts of a run, byte by byte. Each is appended to a text that the caller has.
+//! Appends what is printed to a text: refused lines, changes, and the rows of FRUs.
 #![tactic(auto)]
 
 mod change;

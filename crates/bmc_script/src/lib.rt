@@ -1,4 +1,4 @@
-//! The commands of the lines of a script.
+//! Reads the command of a line.
 #![tactic(auto)]
 
 mod command;

@@ -1,5 +1,5 @@
-//! Configurations in JSON, each read from its document or refused for the first rule that it breaks, and the shelf of
-//! configurations in their order.
+//! Reads configurations in JSON, tells which records match their patterns, and lists them in their
+//! order.
 #![tactic(auto)]
 
 mod config;

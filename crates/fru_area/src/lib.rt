@@ -1,6 +1,5 @@
-//! Reads the common header and the information areas of a FRU record, by the IPMI Platform Management
-//! FRU Information Storage Definition 1.0: where areas lie, their checksums, and their fields as text.
-//! Whole records stand on it.
+//! Reads the header and the areas of a FRU record (IPMI FRU Information Storage Definition 1.0):
+//! where they lie, their checksums, and their fields as text.
 #![tactic(auto)]
 
 mod area;
