@@ -8,7 +8,8 @@ use Rattle.cfg_json.specs.Shelves.{number_of}
 use Rattle.cfg_json.specs.declared.config.ConfigFault.{ConfigFault}
 use Rattle.cfg_json.specs.declared.config.ConfigFault.TheVariants as faults
 use Rattle.bmc_report.specs.declared.refusal.Refusal.{Refusal}
-use Rattle.bmc_report.specs.declared.refusal.Refusal.TheVariants.{NotJson, Fraction, MissingKey, WrongKind, OutOfRange, ProbeForm, ConfigAfterPlug, DuplicateName, ConfigLimit, Occupied, FruShort, FruTooLong, HeaderVersion, HeaderChecksum, AreaOutside, AreaVersion, AreaLength, AreaChecksum, FieldOutside, NoEnd, NotPresent}
+use Rattle.bmc_report.specs.declared.refusal.Refusal.TheVariants.{NotJson, Fraction, MissingKey, WrongKind, OutOfRange, ProbeForm, ConfigAfterPlug, DuplicateName, ConfigLimit, Occupied}
+use Rattle.bmc_report.specs.declared.refusal.Refusal.TheVariants.{FruShort, FruTooLong, HeaderVersion, HeaderChecksum, AreaOutside, AreaVersion, AreaLength, AreaChecksum, FieldOutside, NoEnd, NotPresent}
 use Rattle.bmc_machine.specs.Standings.{Standing, is_present}
 use Rattle.bmc_machine.specs.Histories.{Step, Configure, Plug, RefusedPlug, Unplug, standing}
 
