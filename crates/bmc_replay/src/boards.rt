@@ -142,7 +142,7 @@ pub fn accept(
         push_first(&config, text)?;
     }
     kept.add(alloc, always)?;
-    match configs.add(config) {
+    match configs.add(alloc, config) {
         Ok(()) => Ok(()),
         Err(fault) => {
             kept.take_back();
