@@ -28,7 +28,7 @@ plug_new configs was is fru frus stands number = of (slice_get configs number)
   where
     of : (o : Option Config) → list_all stands (unwrap_or (option_map (λ config. boards_of config frus) o) []) ≡ true
         → except stands (unwrap_or (option_map (λ config. boards_of config (put fru frus)) o) []) ≡ one
-            (λ it. unwrap_or (option_map (λ config. is_hit config it) o) false) stands fru
+        (λ it. unwrap_or (option_map (λ config. is_hit config it) o) false) stands fru
     of None all = refl
     of (Some config) all = put_by config.probe stands fru frus all
 
@@ -40,7 +40,7 @@ plug_stays configs was is fru frus number = of (slice_get configs number)
   where
     of : (o : Option Config)
         → list_all (has_board (unwrap_or (option_map (λ config. boards_of config (put fru frus)) o) []))
-            (unwrap_or (option_map (λ config. boards_of config frus) o) []) ≡ true
+        (unwrap_or (option_map (λ config. boards_of config frus) o) []) ≡ true
     of None = refl
     of (Some config) = grown_by config.probe frus (put fru frus) (λ at. put_any at fru frus)
 
@@ -62,14 +62,14 @@ unplug_stood configs plugged place frus number = of (slice_get configs number)
   where
     of : (o : Option Config)
         → list_all (has_board (unwrap_or (option_map (λ config. boards_of config frus) o) []))
-            (unwrap_or (option_map (λ config. boards_of config (without place frus)) o) []) ≡ true
+        (unwrap_or (option_map (λ config. boards_of config (without place frus)) o) []) ≡ true
     of None = refl
     of (Some config) = grown_by config.probe (without place frus) frus (λ at. some_any at (λ fru. not (is_at place fru)) frus)
 
 -- and its own board is gone
 pub unplug_gone : (configs : List Config) (plugged : Bool) (place : Place) (frus : List Fru) (number : ℕ)
     → except (has_board (boards (standing_of configs plugged (without place frus)) number)) (boards (standing_of configs plugged frus) number) ≡ flat_map
-        (gone_one (λ it. is_hit_of configs it number) place) frus
+    (gone_one (λ it. is_hit_of configs it number) place) frus
 unfolding boards
 unplug_gone configs plugged place frus number = of (slice_get configs number)
   where
@@ -84,8 +84,8 @@ unplug_gone configs plugged place frus number = of (slice_get configs number)
 
     of : (o : Option Config)
         → except (has_board (unwrap_or (option_map (λ config. boards_of config (without place frus)) o) []))
-            (unwrap_or (option_map (λ config. boards_of config frus) o) []) ≡ flat_map
-            (gone_one (λ it. unwrap_or (option_map (λ config. is_hit config it) o) false) place) frus
+        (unwrap_or (option_map (λ config. boards_of config frus) o) []) ≡ flat_map
+        (gone_one (λ it. unwrap_or (option_map (λ config. is_hit config it) o) false) place) frus
     of None = sym (none frus)
     of (Some config) = taken_by config.probe place frus
 
@@ -110,14 +110,14 @@ get_more (first ∷ configs) config (suc number) = get_more configs config numbe
 -- where no FRU is, it has a board only where it is always found
 pub more_boards : (configs : List Config) (config : Config) (plugged : Bool) (number : ℕ)
     → boards (standing_of (configs ++ config ∷ []) plugged []) number ≡ cond (number == length configs) (cond (value config.probe false) (None ∷ []) [])
-        (boards (standing_of configs plugged []) number)
+    (boards (standing_of configs plugged []) number)
 unfolding boards
 more_boards configs config plugged number = ap (λ (o : Option Config). unwrap_or (option_map (λ config. boards_of config []) o) [])
     (get_more configs config number) ∙ of (number == length configs)
   where
     of : (b : Bool)
         → unwrap_or (option_map (λ config. boards_of config []) (cond b (Some config) (slice_get configs number))) [] ≡ cond b
-            (cond (value config.probe false) (None ∷ []) []) (unwrap_or (option_map (λ config. boards_of config []) (slice_get configs number)) [])
+        (cond (value config.probe false) (None ∷ []) []) (unwrap_or (option_map (λ config. boards_of config []) (slice_get configs number)) [])
     of true = refl
     of false = refl
 

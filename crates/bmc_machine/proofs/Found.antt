@@ -52,7 +52,7 @@ pattern_boards name text frus = by (hits (Contains name text)) frus
       where
         of : (b : Bool) → cond (list_any test frus) (places_or_none (filter test frus)) [] ≡ map place_of_fru (filter test frus)
             → cond (b || list_any test frus) (places_or_none (cond b (fru ∷ filter test frus) (filter test frus))) [] ≡ map place_of_fru
-                (cond b (fru ∷ filter test frus) (filter test frus))
+            (cond b (fru ∷ filter test frus) (filter test frus))
         of true e = refl
         of false e = e
 
@@ -67,7 +67,7 @@ except_found test stands (fru ∷ frus) = of (test fru) (stands (place_of_fru fr
   where
     of : (b s : Bool) → stands (place_of_fru fru) ≡ s → except stands (map place_of_fru (filter test frus)) ≡ flat_map (one test stands) frus
         → except stands (map place_of_fru (cond b (fru ∷ filter test frus) (filter test frus))) ≡ cond b
-            (cond (not (stands (place_of_fru fru))) (place_of_fru fru ∷ []) []) [] ++ flat_map (one test stands) frus
+        (cond (not (stands (place_of_fru fru))) (place_of_fru fru ∷ []) []) [] ++ flat_map (one test stands) frus
     of false s k e = e
     of true true k e = ap (λ (b : Bool). cond (not b) (place_of_fru fru ∷ except stands (map place_of_fru (filter test frus)))
         (except stands (map place_of_fru (filter test frus)))) k ∙ e ∙ sym
@@ -103,7 +103,7 @@ any_found test at (fru ∷ frus) = of (test fru) (any_found test at frus)
   where
     of : (b : Bool) → list_any at (map place_of_fru (filter test frus)) ≡ list_any (λ fru. test fru && at (place_of_fru fru)) frus
         → list_any at (map place_of_fru (cond b (fru ∷ filter test frus) (filter test frus)))
-            ≡ ((b && at (place_of_fru fru)) || list_any (λ fru. test fru && at (place_of_fru fru)) frus)
+        ≡ ((b && at (place_of_fru fru)) || list_any (λ fru. test fru && at (place_of_fru fru)) frus)
     of true e = ap (λ (b : Bool). at (place_of_fru fru) || b) e
     of false e = e
 
@@ -125,8 +125,11 @@ some_any test keep (fru ∷ frus) h = of (keep fru) h (some_any test keep frus)
   where
     of : (b : Bool) → list_any test (cond b (fru ∷ filter keep frus) (filter keep frus)) ≡ true
         → (list_any test (filter keep frus) ≡ true → list_any test frus ≡ true) → (test fru || list_any test frus) ≡ true
-    of true k e = elim (or_cases _ _ k) [ inl here ↦ or_left (test fru) (list_any test frus) here | inr later ↦ or_right (test fru) (list_any test frus)
-        (e later) ]
+    of true k e = elim (or_cases _ _ k) [
+      | inl here ↦ or_left (test fru) (list_any test frus) here
+      | inr later ↦ or_right (test fru) (list_any test frus)
+          (e later)
+    ]
     of false k e = or_right _ _ (e k)
 
 -- boards that are found among some FRUs are found among more
@@ -134,7 +137,7 @@ pub grown : (test : Fru → Bool) (frus more : List Fru) → ((at : Fru → Bool
     → list_all (has_board (map place_of_fru (filter test more))) (map place_of_fru (filter test frus)) ≡ true
 grown test frus more h =
     pass_all _ _ (λ x k. any_found test (option_eq place_eq x) more ∙ h (λ fru. test fru && option_eq place_eq x (place_of_fru fru))
-        (sym (any_found test (option_eq place_eq x) frus) ∙ k))
+    (sym (any_found test (option_eq place_eq x) frus) ∙ k))
 
 -- the same of the boards of a probe
 pub grown_by : (probe : PlainProbe) (frus more : List Fru) → ((at : Fru → Bool) → list_any at frus ≡ true → list_any at more ≡ true)
@@ -152,7 +155,7 @@ absent test place frus h = any_found test (option_eq place_eq (Some place)) frus
     by (fru ∷ frus) h =
         let at : place_eq place fru.place ≡ false = sym (place_cmp_eq place fru.place) ∙ or_no _ _ h in
         ap (λ (b : Bool). (test fru && b) || list_any (λ fru. test fru && place_eq place fru.place) frus) at ∙ ap
-            (λ (b : Bool). b || list_any (λ fru. test fru && place_eq place fru.place) frus) (and_false (test fru)) ∙ by frus (no_or _ _ h)
+        (λ (b : Bool). b || list_any (λ fru. test fru && place_eq place fru.place) frus) (and_false (test fru)) ∙ by frus (no_or _ _ h)
       where
         or_no : (a b : Bool) → (a || b) ≡ false → a ≡ false
         or_no true b h = h
@@ -172,12 +175,12 @@ pub put_by : (probe : PlainProbe) (stands : Option Place → Bool) (fru : Fru) (
 put_by Always stands fru frus all =
     let none : list_all stands (None ∷ []) ≡ true = rw (always_boards frus) at all in
     rw (always_boards (put fru frus)) (except_none stands (None ∷ []) none ∙ sym
-        (ap (λ (b : Bool). cond b (cond (not (stands (place_of_fru fru))) (place_of_fru fru ∷ []) []) []) (and_false (is_visible fru))))
+    (ap (λ (b : Bool). cond b (cond (not (stands (place_of_fru fru))) (place_of_fru fru ∷ []) []) []) (and_false (is_visible fru))))
 put_by (Contains name text) stands fru frus all =
     let boards : list_all stands (found (Contains name text) frus) ≡ true = rw (pattern_boards name text frus) at all in
     rw (pattern_boards name text (put fru frus))
     (except_found (hits (Contains name text)) stands (put fru frus) ∙ put_new (hits (Contains name text)) stands fru frus
-        (sym (except_found (hits (Contains name text)) stands frus) ∙ except_none stands _ boards))
+    (sym (except_found (hits (Contains name text)) stands frus) ∙ except_none stands _ boards))
 
 -- with the FRU at a place taken away no board there is found
 pub taken_absent : (place : Place) (frus : List Fru) → is_present (without place frus) place ≡ false
@@ -212,7 +215,7 @@ taken_one test place left fru absent_there stays = of (test fru) (is_at place fr
 
     of : (t a : Bool) → test fru ≡ t → is_at place fru ≡ a
         → cond t (cond (not (has_board (map place_of_fru (filter test left)) (place_of_fru fru))) (place_of_fru fru ∷ []) []) [] ≡ cond (a && t)
-            (place_of_fru fru ∷ []) []
+        (place_of_fru fru ∷ []) []
     of false true k e = refl
     of false false k e = refl
     of true false k e = ap (λ (b : Bool). cond (not b) (place_of_fru fru ∷ []) []) (any_found test (option_eq place_eq (place_of_fru fru)) left ∙ stays e k)
@@ -242,7 +245,7 @@ taken_all test place all [] h = refl
 taken_all test place all (fru ∷ frus) h =
     ap (λ (l : List (Option Place)). l ++ flat_map (one test (has_board (map place_of_fru (filter test (without place all))))) frus)
     (taken_one test place (without place all) fru (taken_absent place all)
-        (λ a t. stays_found test place all fru a (h fru (or_left _ _ (and_both _ _ t (place_itself fru.place))))))
+    (λ a t. stays_found test place all fru a (h fru (or_left _ _ (and_both _ _ t (place_itself fru.place))))))
     ∙ ap (λ (l : List (Option Place)). gone_one test place fru ++ l) (taken_all test place all frus (λ other k. h other (or_right _ _ k)))
 
 -- The FRU at a place is taken away: of the boards that were found, its own are gone.
@@ -257,4 +260,4 @@ taken_by Always place frus = rw (always_boards frus, always_boards (without plac
 taken_by (Contains name text) place frus =
     rw (pattern_boards name text frus, pattern_boards name text (without place frus))
     (except_found (hits (Contains name text)) (has_board (found (Contains name text) (without place frus))) frus ∙ taken_all
-        (hits (Contains name text)) place frus frus (λ fru h. h))
+    (hits (Contains name text)) place frus frus (λ fru h. h))

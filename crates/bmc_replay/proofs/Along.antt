@@ -1,5 +1,5 @@
 -- A run of the machine over the outside, so far.
-use Rattle.std.proofs.Common.{◌≡◌, ◌<◌, ◌≤◌, ◌+◌, ℕ, List, [], ◌∷◌, ◌++◌, length, Bool, true, false, ◌||◌, Option, Some, None, Ok, Err, refl, ap, sym, ◌∙◌}
+use Rattle.std.proofs.Common.{◌≡◌, ◌<◌, ◌≤◌, ◌+◌, ℕ, List, [], ◌++◌, length, Bool, true, false, ◌||◌, Option, Some, None, Ok, Err, refl, ap, sym, ◌∙◌}
 use Rattle.std.proofs.Common.{subst, arith, append_assoc, append-nil, length-append, string_bytes}
 use Rattle.std.specs.Prelude.{⊤}
 use Rattle.std.specs.Io.KnownBytes.{Consumes, IsAtEnd}
@@ -19,18 +19,18 @@ use Rattle.bmc_text.specs.declared.lines.LineFault.TheVariants as faults
 use Rattle.bmc_text.specs.declared.items.NextItem.{NextItem}
 use Rattle.bmc_report.specs.Refusals.{refused_line}
 use Rattle.bmc_machine.specs.Standings.{Standing}
-use Rattle.bmc_machine.specs.Histories.{Step, standing}
+use Rattle.bmc_machine.specs.Histories.{standing}
 use Rattle.bmc_machine.specs.Answers.{Answer, silent, answer, answers, and_then, answer_of, out, with_list, final_list}
 use Rattle.bmc_replay.specs.declared.run.Run.{Run}
 use Rattle.bmc_replay.specs.declared.stop.Stop.{Stop}
 use Rattle.bmc_replay.specs.declared.stop.Stop.TheVariants as stops
 use Rattle.bmc_replay.specs.Kept.{View}
-use Rattle.bmc_replay.specs.Runs.{Stands, Follows, TakesItem, TakesNext, IsNew}
+use Rattle.bmc_replay.specs.Runs.{Stands, TakesNext, IsNew}
 use Rattle.bmc_replay.specs.Gathering.{Gathers}
 use Rattle.bmc_replay.specs.Outside.{Outside, outside}
 use Rattle.bmc_replay.specs.Stops.{GetsNothing, StopsShort, StopsAt}
 use Rattle.bmc_replay.specs.Statuses.{Replays, WritesTold, Reaches, Takes, WritesWhole, WriteCause, stop_of, status_of}
-use Rattle.bmc_replay.proofs.SoFar.{SoFar, with_item, so_far_none, so_far_more, so_far_last, so_far_end, so_far_whole, number_after, answer_after}
+use Rattle.bmc_replay.proofs.SoFar.{SoFar, so_far_none, so_far_more, so_far_last, so_far_end, so_far_whole, number_after, answer_after}
 use Rattle.bmc_replay.proofs.StandsLemmas.{stands_none}
 
 -- this much text was printed: part of it is written, and the rest is gathered
@@ -126,7 +126,7 @@ stops_unread old new before text same = record {
 -- it stops where the source gives no item, after what was gathered was written
 stops_reading : (fault : LineFault) (old new : ItemFeed) (input input_now : Input) (output output_now : Output) (text : List ℕ)
     → output_now.taken ≡ added output.taken text → Reads old.waiting old.read new.read input input_now (LacksItem fault)
-        → HasFault fault new.read input.calls input_now.calls
+    → HasFault fault new.read input.calls input_now.calls
     → StopsAt (stop_of fault) old new (outside input output) (outside input_now output_now) text
 stops_reading faults.ReadFault old new input input_now output output_now text writing lacks cause = record
     { reading = lacks; count = cause.1; writing = writing }
@@ -139,7 +139,7 @@ stops_reading faults.OutOfMemory old new input input_now output output_now text 
 -- and no item was whole before
 pub stops_unbuffered : (fault : LineFault) (old same new : ItemFeed) (input input_now : Input) (output output_now : Output) (text : List ℕ) → same ≡ old
     → output_now.taken ≡ added output.taken text → Reads same.waiting same.read new.read input input_now (LacksItem fault)
-        → HasFault fault new.read input.calls input_now.calls
+    → HasFault fault new.read input.calls input_now.calls
     → StopsAt (stop_of fault) old new (outside input output) (outside input_now output_now) text
 stops_unbuffered fault old same new input input_now output output_now text kept writing lacks cause =
     subst (λ (old : ItemFeed). StopsAt (stop_of fault) old new (outside input output) (outside input_now output_now) text) kept
@@ -257,29 +257,33 @@ along_whole before now new feed feed_now run IsCount along gets =
           ∙ added_more before.output.taken along.printed.written (string_bytes run.text)
           ∙ ap (added before.output.taken) (along.printed.parts
           ∙ sym (ap (λ (answer : Answer). answer.text)
-              (so_far_whole along.taken feed.waiting gets.reading.piece run.number along.so_far along.machine gets.reading.bytes)));
+          (so_far_whole along.taken feed.waiting gets.reading.piece run.number along.so_far along.machine gets.reading.bytes)));
     }
 
 -- the run stops where an item is wanted
 pub along_stops : (stop : Stop) (before now new : Outside) (feed feed_now : ItemFeed) (run : Run) → feed_now.read ≤ longest_script
     → Along false before now feed run → StopsAt stop feed feed_now now new (string_bytes run.text)
     → Replays (status_of (Err stop)) before new × Reaches (status_of (Err stop)) before new
-along_stops stops.OutOfMemory before now new feed feed_now run limit along how =
-    (stopped stops.OutOfMemory before.input.left before.output.taken new.output.taken
-        (along_cut false before now new feed run along (λ no. absurd (cc)) how.writing),
-    along_piece before now new feed feed_now run how.reading.piece (λ count. count ≤ longest_script) along how.reading.consumed how.reading.count limit)
-along_stops stops.WriteFault before now new feed feed_now run limit along how =
-    (stopped stops.WriteFault before.input.left before.output.taken new.output.taken
-        (along_cut false before now new feed run along (λ no. absurd (cc)) how.writing),
-    along_piece before now new feed feed_now run how.reading.piece (λ count. count ≤ longest_script) along how.reading.consumed how.reading.count limit)
-along_stops stops.ReadFault before now new feed feed_now run limit along how =
-    (stopped stops.ReadFault before.input.left before.output.taken new.output.taken
-    (along_cut false before now new feed run along (λ no. absurd (cc)) (front_all now.output.taken new.output.taken (string_bytes run.text) how.writing)),
-    along_whole before now new feed feed_now run (λ count. count < longest_script) along how)
-along_stops stops.TooLong before now new feed feed_now run limit along how =
-    (stopped stops.TooLong before.input.left before.output.taken new.output.taken
-    (along_cut false before now new feed run along (λ no. absurd (cc)) (front_all now.output.taken new.output.taken (string_bytes run.text) how.writing)),
-    along_whole before now new feed feed_now run (λ count. count ≡ longest_script) along how)
+along_stops stops.OutOfMemory before now new feed feed_now run limit along how = (
+  stopped stops.OutOfMemory before.input.left before.output.taken new.output.taken
+      (along_cut false before now new feed run along (λ no. absurd (cc)) how.writing),
+  along_piece before now new feed feed_now run how.reading.piece (λ count. count ≤ longest_script) along how.reading.consumed how.reading.count limit,
+)
+along_stops stops.WriteFault before now new feed feed_now run limit along how = (
+  stopped stops.WriteFault before.input.left before.output.taken new.output.taken
+      (along_cut false before now new feed run along (λ no. absurd (cc)) how.writing),
+  along_piece before now new feed feed_now run how.reading.piece (λ count. count ≤ longest_script) along how.reading.consumed how.reading.count limit,
+)
+along_stops stops.ReadFault before now new feed feed_now run limit along how = (
+  stopped stops.ReadFault before.input.left before.output.taken new.output.taken
+      (along_cut false before now new feed run along (λ no. absurd (cc)) (front_all now.output.taken new.output.taken (string_bytes run.text) how.writing)),
+  along_whole before now new feed feed_now run (λ count. count < longest_script) along how,
+)
+along_stops stops.TooLong before now new feed feed_now run limit along how = (
+  stopped stops.TooLong before.input.left before.output.taken new.output.taken
+      (along_cut false before now new feed run along (λ no. absurd (cc)) (front_all now.output.taken new.output.taken (string_bytes run.text) how.writing)),
+  along_whole before now new feed feed_now run (λ count. count ≡ longest_script) along how,
+)
 
 -- the machine takes what came
 has_come : (item : Option Item) (ended : Bool) (taken waiting piece rest : List ℕ) (number : ℕ) (so_far : Answer)
@@ -325,7 +329,7 @@ unfolding along_piece
 along_next next before now new feed feed_now run moved run_now same along came gathers takes =
     let item : Option Item = item_next next feed_now in
     let stood : Stands moved.state along.so_far.past = subst (λ (view : View). Stands view along.so_far.past)
-        (sym (ap (λ (run : Run). run.state) same)) along.stands in
+    (sym (ap (λ (run : Run). run.state) same)) along.stands in
     let refused : moved.refused ≡ along.so_far.refused = ap (λ (run : Run). run.refused) same ∙ along.refused in
     let number : run.number ≡ moved.number = sym (ap (λ (run : Run). run.number) same) in
     let taken = has_taken item along.so_far moved run_now stood refused takes in
@@ -338,12 +342,12 @@ along_next next before now new feed feed_now run moved run_now same along came g
       printed =
           taken.printed before.output.taken new.output.taken
           (printed_moved before.output.taken now.output.taken new.output.taken (string_bytes run.text)
-              (string_bytes moved.text) along.so_far.text along.printed gathers);
+          (string_bytes moved.text) along.so_far.text along.printed gathers);
       stands = taken.stands;
       refused = taken.refused;
       machine =
           subst (λ (count : ℕ). HasCome feed_now.ended (along.taken ++ came.piece) feed_now.waiting count (answer_after along.so_far moved.number item))
-              (sym taken.number)
+          (sym taken.number)
           (has_come item feed_now.ended along.taken feed.waiting came.piece feed_now.waiting moved.number along.so_far
           (subst (λ (count : ℕ). SoFar along.taken feed.waiting count along.so_far) number along.machine) came.bytes);
     }
@@ -380,10 +384,10 @@ list_of before now feed run along = ap (λ (now : Standing). along.so_far.text +
 -- it stops in the final list
 pub ended_cut : (before now new : Outside) (feed : ItemFeed) (run : Run) → IsAtEnd now.input.left → Along true before now feed run
     → AppendsFront now.output.taken new.output.taken (string_bytes run.text ++ final_list run.state.now.frus)
-        → IsFront before.input.left before.output.taken new.output.taken
+    → IsFront before.input.left before.output.taken new.output.taken
 ended_cut before now new feed run at_end along front =
     begins_stopped before.input.left before.output.taken now.output.taken new.output.taken (string_bytes run.text)
-        (final_list run.state.now.frus) along.so_far.text
+    (final_list run.state.now.frus) along.so_far.text
     (subst (Begins before.input.left) (sym (list_of before now feed run along))
     (ended_begins before.input.left now.input.left along.taken along.so_far along.consumed at_end along.machine))
     along.printed front
@@ -401,14 +405,14 @@ all_written refused (Some script) None taken so_far old new consumed at_end mach
 all_written refused (Some script) (Some rest) taken so_far old new consumed at_end machine same text =
     let is : answer_of script ≡ so_far = ap answer_of (taken_all script taken rest consumed at_end) ∙ machine in
     writes_all refused script old new (text ∙ ap (λ (answer : Answer). added old (with_list answer)) (sym is))
-        (ap (λ (answer : Answer). answer.refused) is ∙ sym same)
+    (ap (λ (answer : Answer). answer.refused) is ∙ sym same)
 
 -- all is written
 pub ended_text : (before now new : Outside) (feed : ItemFeed) (run : Run) → IsAtEnd now.input.left → Along true before now feed run
     → new.output.taken ≡ added now.output.taken (string_bytes run.text ++ final_list run.state.now.frus) → Replays (status_of (Ok run.refused)) before new
 ended_text before now new feed run at_end along text =
     all_written run.refused before.input.left now.input.left along.taken along.so_far before.output.taken new.output.taken along.consumed at_end
-        along.machine along.refused
+    along.machine along.refused
     (text ∙ ap (λ (told : Told). added told (string_bytes run.text ++ final_list run.state.now.frus)) along.printed.told
     ∙ added_more before.output.taken along.printed.written (string_bytes run.text ++ final_list run.state.now.frus)
     ∙ ap (added before.output.taken) (sym (append_assoc along.printed.written (string_bytes run.text) (final_list run.state.now.frus))

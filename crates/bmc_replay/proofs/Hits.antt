@@ -64,12 +64,12 @@ and_true false b h = refl
 pub any_hits : (configs : List Config) (fru : Fru) (number : ℕ) → list_any (λ hit. hit == number) (hits_of configs fru) ≡ is_hit_of configs fru number
 any_hits configs fru number =
     any-filter_same (λ hit. hit == number) (is_hit_of configs fru) (is_hit_of configs fru number)
-        (λ hit same. ap (is_hit_of configs fru) (eqb-true hit number same)) (range_with_len 0 (length configs))
+    (λ hit same. ap (is_hit_of configs fru) (eqb-true hit number same)) (range_with_len 0 (length configs))
     ∙ of (slice_get configs number) refl
   where
     of : (o : Option Config) → slice_get configs number ≡ o
         → (unwrap_or (option_map (λ config. is_hit config fru) o) false && list_any (λ hit. hit == number) (range_with_len 0 (length configs))) ≡ unwrap_or
-            (option_map (λ config. is_hit config fru) o) false
+        (option_map (λ config. is_hit config fru) o) false
     of None e = refl
     of (Some config) e = and_true (is_hit config fru) _ (in_range 0 (length configs) number (omega arith)
         (omega (arith, slice_get_within configs number config e)))
@@ -85,7 +85,7 @@ index_with there x = of (has_board there x) refl
       where
         by : (b : Bool) → (position_or_len (option_eq place_eq x) there == length there) ≡ b
             → cond b (length there + cond (option_eq place_eq x x) 0 1) (position_or_len (option_eq place_eq x) there) ≡ position_or_len
-                (option_eq place_eq x) there
+            (option_eq place_eq x) there
         by true p = ap (λ (b : Bool). length there + cond b 0 1) (board_itself x) ∙ omega (arith, eqb-true _ _ p)
         by false p = refl
 
@@ -119,8 +119,8 @@ pub broken_hits : (configs : List Config) (place : Place) (bytes : List ℕ) (ru
 unfolding text_named
 broken_hits configs place bytes rule broken =
     none_hit configs (record { place = place; bytes = bytes }) (λ config. ap (λ (b : Bool). is_visible (record { place = place; bytes = bytes }) && b)
-        (ap (λ (r : Result (List Field) FruFault). matches config.probe (fields_in r)) broken ∙ no_match config.probe) ∙ and_false
-        (is_visible (record { place = place; bytes = bytes })))
+    (ap (λ (r : Result (List Field) FruFault). matches config.probe (fields_in r)) broken ∙ no_match config.probe) ∙ and_false
+    (is_visible (record { place = place; bytes = bytes })))
   where
     no_match : (probe : PlainProbe) → matches probe [] ≡ false
     no_match Always = refl

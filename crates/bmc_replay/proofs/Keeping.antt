@@ -98,7 +98,7 @@ kept_more lists old lists_now hits i place so_far within listed now number =
 
     of : (b : Bool) → (slice_index_or hits i 0 == number) ≡ b
         → kept_of (slice_set lists (slice_index_or hits i 0) (with_board (kept_of lists (slice_index_or hits i 0)) (Some place))) number ≡ cond
-            (list_any (λ hit. hit == number) (take i hits) || (b || false)) (with_board (kept_of old number) (Some place)) (kept_of old number)
+        (list_any (λ hit. hit == number) (take i hits) || (b || false)) (with_board (kept_of old number) (Some place)) (kept_of old number)
     of true e =
         let same : slice_index_or hits i 0 ≡ number = eqb-true _ _ e in
         ap (λ n. kept_of (slice_set lists (slice_index_or hits i 0) (with_board (kept_of lists (slice_index_or hits i 0)) (Some place))) n) (sym same)
@@ -107,13 +107,13 @@ kept_more lists old lists_now hits i place so_far within listed now number =
         ∙ ap (λ (l : List (Option Place)). with_board l (Some place)) (so_far number)
         ∙ once (list_any (λ hit. hit == number) (take i hits)) number
         ∙ sym (ap (λ (b : Bool). cond b (with_board (kept_of old number) (Some place)) (kept_of old number))
-            (or_true (list_any (λ hit. hit == number) (take i hits))))
+        (or_true (list_any (λ hit. hit == number) (take i hits))))
     of false e =
         let other : number ≢ slice_index_or hits i 0 = λ same. let yes : (slice_index_or hits i 0 == number) ≡ true = eq-eqb _ _ (sym same) in absurd (cc) in
         get_or-set_other lists (slice_index_or hits i 0) number (with_board (kept_of lists (slice_index_or hits i 0)) (Some place)) [] other
         ∙ so_far number
         ∙ sym (ap (λ (b : Bool). cond b (with_board (kept_of old number) (Some place)) (kept_of old number))
-            (or_none (list_any (λ hit. hit == number) (take i hits))))
+        (or_none (list_any (λ hit. hit == number) (take i hits))))
 
 -- the last list
 pub set_last : (lists : List (List (Option Place))) (list new : List (Option Place)) → slice_set (lists ++ list ∷ []) (length lists) new ≡ lists ++ new ∷ []
@@ -129,7 +129,7 @@ pub last_name : (configs : List Config) (config : Config) → name_of (configs +
 last_name configs config =
     ap (λ (o : Option Config). unwrap_or (option_map (λ config. config.name) o) []) (get_more configs config (length configs))
     ∙ ap (λ (b : Bool). unwrap_or (option_map (λ config. config.name) (cond b (Some config) (slice_get configs (length configs)))) [])
-        (eq-eqb (length configs) (length configs) refl)
+    (eq-eqb (length configs) (length configs) refl)
 
 -- what was kept is kept
 pub kept_stays : (hits : List ℕ) (place : Place) (kept : ℕ → List (Option Place)) (number : ℕ) (board : Option Place)

@@ -44,7 +44,7 @@ frus-insert place kept (entry ∷ entries) free = of (place_cmp place entry.0) f
     of : (o : Ordering) → (is_eq o || is_present (frus_of entries) place) ≡ false
         → (is_present (frus_of entries) place ≡ false → frus_of (insert_entry place_cmp entries place kept) ≡ put (fru_of (place, kept)) (frus_of entries))
         → frus_of (match_ordering o ((place, kept) ∷ entry ∷ entries) ((entry.0, kept) ∷ entries) (entry ∷ insert_entry place_cmp entries place kept))
-            ≡ cond (is_lt o) (fru_of (place, kept) ∷ fru_of entry ∷ frus_of entries) (fru_of entry ∷ put (fru_of (place, kept)) (frus_of entries))
+        ≡ cond (is_lt o) (fru_of (place, kept) ∷ fru_of entry ∷ frus_of entries) (fru_of entry ∷ put (fru_of (place, kept)) (frus_of entries))
     of Less f e = refl
     of Equal f e = absurd (cc)
     of Greater f e = ap (λ (frus : List Fru). fru_of entry ∷ frus) (e f)
@@ -75,8 +75,8 @@ gone_found place test (entry ∷ entries) h = of (is_eq (place_cmp place entry.0
     of : (b : Bool) → is_eq (place_cmp place entry.0) ≡ b
         → is_present (frus_of (cond b entries (entry ∷ remove_entry (is_key (place_cmp place)) entries))) place ≡ false
         → (is_present (frus_of (remove_entry (is_key (place_cmp place)) entries)) place ≡ false → flat_map (gone_one test place) (frus_of entries) ≡ gone_of
-            (lookup (is_key (place_cmp place)) entries) place test) → cond (b && test (fru_of entry)) (Some entry.0 ∷ []) [] ++ flat_map
-            (gone_one test place) (frus_of entries) ≡ gone_of (cond b (Some entry.1) (lookup (is_key (place_cmp place)) entries)) place test
+        (lookup (is_key (place_cmp place)) entries) place test) → cond (b && test (fru_of entry)) (Some entry.0 ∷ []) [] ++ flat_map
+        (gone_one test place) (frus_of entries) ≡ gone_of (cond b (Some entry.1) (lookup (is_key (place_cmp place)) entries)) place test
     of true e k rest =
         let same : place ≡ entry.0 = place_same place entry.0 (sym (place_cmp_eq place entry.0) ∙ e) in
         ap (λ (l : List (Option Place)). cond (test (fru_of entry)) (Some entry.0 ∷ []) [] ++ l) (none_gone place test entries k) ∙ append-nil _
@@ -92,8 +92,8 @@ frus-remove place (entry ∷ entries) h = of (is_eq (place_cmp place entry.0)) r
     of : (b : Bool) → is_eq (place_cmp place entry.0) ≡ b
         → is_present (frus_of (cond b entries (entry ∷ remove_entry (is_key (place_cmp place)) entries))) place ≡ false
         → (is_present (frus_of (remove_entry (is_key (place_cmp place)) entries)) place ≡ false → frus_of (remove_entry (is_key (place_cmp place)) entries)
-            ≡ without place (frus_of entries)) → frus_of (cond b entries (entry ∷ remove_entry (is_key (place_cmp place)) entries)) ≡ cond (not b)
-            (fru_of entry ∷ without place (frus_of entries)) (without place (frus_of entries))
+        ≡ without place (frus_of entries)) → frus_of (cond b entries (entry ∷ remove_entry (is_key (place_cmp place)) entries)) ≡ cond (not b)
+        (fru_of entry ∷ without place (frus_of entries)) (without place (frus_of entries))
     of true e k rest = sym (without_absent place (frus_of entries) k)
     of false e k rest = ap (λ (frus : List Fru). fru_of entry ∷ frus) (rest
         (ap (λ (b : Bool). b || is_present (frus_of (remove_entry (is_key (place_cmp place)) entries)) place) (sym e) ∙ k))
@@ -109,8 +109,8 @@ hits-insert configs place kept (entry ∷ entries) free own have = of (place_cmp
   where
     of : (o : Ordering) → (is_eq o || is_present (frus_of entries) place) ≡ false
         → (is_present (frus_of entries) place ≡ false → kept.hits.items ≡ hits_of configs (fru_of (place, kept)) → HaveHits configs entries
-            → HaveHits configs (insert_entry place_cmp entries place kept)) → HaveHits configs
-            (match_ordering o ((place, kept) ∷ entry ∷ entries) ((entry.0, kept) ∷ entries) (entry ∷ insert_entry place_cmp entries place kept))
+        → HaveHits configs (insert_entry place_cmp entries place kept)) → HaveHits configs
+        (match_ordering o ((place, kept) ∷ entry ∷ entries) ((entry.0, kept) ∷ entries) (entry ∷ insert_entry place_cmp entries place kept))
     of Less f e = cc
     of Equal f e = absurd (cc)
     of Greater f e =
@@ -144,7 +144,7 @@ hits-found configs place (entry ∷ entries) kept have h = of (is_eq (place_cmp 
         let own : entry.1 ≡ kept = cc in
         let head : entry.1.hits.items ≡ hits_of configs (fru_of entry) = cc in
         ap (λ (it : Entry). it.hits.items) (sym own) ∙ head ∙ ap (λ (p : Place). hits_of configs (fru_of (p, entry.1))) (sym same) ∙ ap
-            (λ (it : Entry). hits_of configs (fru_of (place, it))) own
+        (λ (it : Entry). hits_of configs (fru_of (place, it))) own
     of false e k rest =
         let tail : map (λ entry. entry.1.hits.items) entries ≡ map (λ entry. hits_of configs (fru_of entry)) entries = cc in
         rest tail k

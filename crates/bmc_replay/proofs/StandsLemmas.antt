@@ -1,6 +1,6 @@
 -- What is kept stands for the history, before a step and after it.
-use Rattle.std.proofs.Common.{◌≡◌, ℕ, List, [], ◌∷◌, ◌++◌, Bool, true, false, cond, Option, Some, None, Result, Ok, Err, refl, ap, sym, subst, ◌∙◌}
-use Rattle.std.proofs.Common.{append_assoc, append-nil, string_bytes}
+use Rattle.std.proofs.Common.{◌≡◌, ℕ, List, [], ◌∷◌, ◌++◌, Bool, false, cond, Option, Some, None, Result, Ok, Err, refl, ap, sym, subst, ◌∙◌}
+use Rattle.std.proofs.Common.{append-nil, string_bytes}
 use Rattle.std.specs.Prelude.{◌+◌, ◌||◌, is_some, IfOk}
 use Rattle.std.specs.List.{flat_map}
 use Rattle.bmc_base.specs.Places.{Place}
@@ -28,7 +28,7 @@ use Rattle.bmc_machine.specs.Answers.{Answer, silent, refusing, past_refused, an
 use Rattle.bmc_machine.proofs.IndexLemmas.{kept_next, kept_idle}
 use Rattle.bmc_replay.specs.Kept.{View, IsAfter, kept_of, kept_after, view_changes}
 use Rattle.bmc_replay.specs.declared.run.Run.{Run}
-use Rattle.bmc_replay.specs.Runs.{Stands, Tries, IsLeft, step_text, line_of, IsAnswer, Answers, CountsItem, Follows, TakesItem, none_kept}
+use Rattle.bmc_replay.specs.Runs.{Stands, Tries, IsLeft, step_text, line_of, IsAnswer, Answers, CountsItem, TakesItem, none_kept}
 
 pub stands_none : Stands none_kept []
 unfolding standing kept
@@ -68,9 +68,9 @@ unfolding standing
 same_changes view past stood =
     let kept_is : kept_of view.kept ≡ kept past = λ i number. stood.kept number i in
     ap (λ (now : Standing). λ step. changes_between now (kept_of view.kept) (after_step now step)
-        (kept_after (kept_of view.kept) (after_step now step))) stood.now
+    (kept_after (kept_of view.kept) (after_step now step))) stood.now
     ∙ ap (λ (there : ℕ → List (Option Place)). λ step. changes_between (standing past) there (after_step (standing past) step)
-        (kept_after there (after_step (standing past) step))) kept_is
+    (kept_after there (after_step (standing past) step))) kept_is
     ∙ (λ i step. changes_between (standing past) (kept past) (after_step (standing past) step) (λ number. sym (kept_next step past number) i))
 
 -- a step that is tried where a history stands is answered after it
@@ -104,12 +104,12 @@ pub step_answers : {E : Type 0} (what : (Refusal → List ℕ) → List Step →
 step_answers what view step new text text_now (Err fault) is tried = tt
 step_answers what view step new text text_now (Ok refusal) is tried =
     λ line past stood. subst (λ (answer : Answer). IsAnswer answer line refusal new text text_now) (is line past)
-        (tries_answers view step refusal new text text_now tried line past stood)
+    (tries_answers view step refusal new text text_now tried line past stood)
 
 -- bytes that break a rule are refused by it
 pub broken_tries : (view : View) (place : Place) (bytes text : List ℕ) (rule : FruFault) (refusal : Refusal) (nothing : Unit {0})
     → is_present view.now.frus place ≡ false → Err rule ≡ checked (record_of bytes) → record_refusal rule ≡ Some refusal → Tries view (Plug place bytes)
-        (Some refusal) view text text
+    (Some refusal) view text text
 broken_tries view place bytes text rule refusal nothing free broken is = record {
   reason = sym (ap (λ (there : Bool). cond there (Some Occupied) (broken_rule (record_of bytes))) free ∙ of (record_of bytes) broken ∙ is);
   left = refl;
@@ -150,7 +150,7 @@ pub broken_answers : (view : View) (bytes text : List ℕ) (rule : ConfigFault) 
 broken_answers view bytes text rule refusal gives is line past stood =
     subst (λ (answer : Answer). IsAnswer answer line (Some refusal) view text text)
     (sym (ap (answer_config line past) (known_rule rule refusal (config_read bytes) is gives) ∙ ap
-        (λ (reason : Option Refusal). answer_broken reason line past) is))
+    (λ (reason : Option Refusal). answer_broken reason line past) is))
     (refused_answers view refusal text line past stood)
 
 -- what was answered is counted

@@ -19,7 +19,6 @@ use Rattle.bmc_report.specs.Changes.{change_line}
 use Rattle.bmc_report.specs.declared.change.Change.TheVariants.{Board}
 use Rattle.cfg_json.specs.Probes.{value}
 use Rattle.std.proofs.lemmas.Bool.Decides.{nat_tests}
-use Rattle.bmc_report.specs.declared.refusal.Refusal.{Refusal}
 use Rattle.bmc_report.specs.declared.refusal.Refusal.TheVariants.{Occupied, NotPresent, DuplicateName, ConfigLimit}
 use Rattle.bmc_machine.specs.Standings.{Fru, is_present, put, without}
 use Rattle.bmc_machine.specs.Boards.{boards, is_hit_of, has_board}
@@ -30,7 +29,7 @@ use Rattle.bmc_machine.proofs.BoardLemmas.{all_pass, pass_all, except_none, kept
 use Rattle.bmc_replay.specs.declared.present.Entry.{Entry}
 use Rattle.bmc_replay.specs.Kept.{View, AreKept, IsAfter, fru_of, frus_of, hits_of, kept_of, kept_after, kept_with, board_at, first_kept, first_text}
 use Rattle.bmc_replay.specs.Kept.{view_changes}
-use Rattle.bmc_replay.specs.Runs.{Tries, IsLeft, step_text}
+use Rattle.bmc_replay.specs.Runs.{Tries}
 use Rattle.bmc_replay.proofs.KeptFrus.{is_some-lookup, frus-insert, frus-remove, gone_of, gone_found, hits-insert, hits-remove, hits-found}
 use Rattle.bmc_replay.proofs.Hits.{flat_map_map}
 use Rattle.bmc_replay.proofs.ViewChanges.{plug_kept, plug_changes, unplug_kept, unplug_changes, configure_kept, configure_changes}
@@ -42,7 +41,7 @@ view_of configs entries plugged lists = record { now = standing_of configs plugg
 -- a step that is not refused is accepted
 accepted : (view : View) (step : Step) (new : View) (text text_now : List ℕ)
     → refusal_of view.now step ≡ None → IsAfter view step new → text_now ≡ text ++ flat_map (change_line 0) (view_changes view step)
-        → Tries view step None new text text_now
+    → Tries view step None new text text_now
 accepted view step new text text_now taken after printed = record { reason = sym taken; left = after; gathered = printed }
 
 -- A FRU is plugged.
@@ -63,10 +62,10 @@ module _ (configs : List Config) (entries : List (Place × Entry)) (was : Bool) 
   pub plugged_comes : (text text_now : List ℕ) → broken_rule (record_of kept.bytes) ≡ None
       → text_now ≡ text ++ flat_map (λ hit. change_line 0 (board_at false configs (kept_of lists) place hit)) kept.hits.items
       → Tries (view_of configs entries was lists) (Plug place kept.bytes) None
-          (view_of configs (insert_entry place_cmp entries place kept) true lists') text text_now
+      (view_of configs (insert_entry place_cmp entries place kept) true lists') text text_now
   plugged_comes text text_now whole printed =
       accepted (view_of configs entries was lists) (Plug place kept.bytes)
-          (view_of configs (insert_entry place_cmp entries place kept) true lists') text text_now
+      (view_of configs (insert_entry place_cmp entries place kept) true lists') text text_now
       (ap (λ (b : Bool). cond b (Some Occupied) (broken_rule (record_of kept.bytes))) free ∙ whole)
       (record { now = ap (standing_of configs true) put_in; kept = plugged_after })
       (printed ∙ ap (λ (t : List ℕ). text ++ t) (
@@ -107,7 +106,7 @@ module _ (configs : List Config) (entries : List (Place × Entry)) (was : Bool) 
   pub unplugged_comes : (text text_now : List ℕ)
       → text_now ≡ text ++ flat_map (λ hit. change_line 0 (board_at true configs (kept_of lists) place hit)) kept.hits.items
       → Tries (view_of configs entries was lists) (Unplug place) None (view_of configs
-          (remove_entry (is_key (place_cmp place)) entries) was lists) text text_now
+      (remove_entry (is_key (place_cmp place)) entries) was lists) text text_now
   unplugged_comes text text_now printed =
       accepted (view_of configs entries was lists) (Unplug place) (view_of configs (remove_entry (is_key (place_cmp place)) entries) was lists) text text_now
       (ap (λ (b : Bool). cond b None (Some NotPresent)) was_present)
@@ -116,7 +115,7 @@ module _ (configs : List Config) (entries : List (Place × Entry)) (was : Bool) 
       ap (flat_map (λ hit. change_line 0 (board_at true configs (kept_of lists) place hit))) own_hits
       ∙ sym (flat_map_map (change_line 0) (board_at true configs (kept_of lists) place) (hits_of configs (fru_of (place, kept))))
       ∙ ap (flat_map (change_line 0)) (sym (unplug_changes configs was place (fru_of (place, kept)) (frus_of entries) (kept_of lists) state.boards
-          (λ test. gone_found place test entries gone ∙ ap (λ (o : Option Entry). gone_of o place test) found)))))
+      (λ test. gone_found place test entries gone ∙ ap (λ (o : Option Entry). gone_of o place test) found)))))
 
   still_plugged : (b : Bool) → (b || (length entries == 0)) ≡ true → (b || (length (remove_entry (is_key (place_cmp place)) entries) == 0)) ≡ true
   still_plugged true h = refl
@@ -192,15 +191,15 @@ module _ (configs : List Config) (entries : List (Place × Entry)) (lists : List
   pub configured_comes : (text text_now : List ℕ) → number_of configs config.name ≡ None → nat_le 256 (length configs) ≡ false
       → text_now ≡ text ++ first_text config
       → Tries (view_of configs entries false lists) (Configure config) None
-          (view_of (configs ++ config ∷ []) entries false (lists ++ first_kept config ∷ [])) text text_now
+      (view_of (configs ++ config ∷ []) entries false (lists ++ first_kept config ∷ [])) text text_now
   configured_comes text text_now new few printed =
       accepted (view_of configs entries false lists) (Configure config)
-          (view_of (configs ++ config ∷ []) entries false (lists ++ first_kept config ∷ [])) text text_now
+      (view_of (configs ++ config ∷ []) entries false (lists ++ first_kept config ∷ [])) text text_now
       (ap (λ (o : Option ℕ). cond (is_some o) (Some DuplicateName) (cond (nat_le 256 (length configs)) (Some ConfigLimit) None)) new ∙ ap
-          (λ (b : Bool). cond b (Some ConfigLimit) None) few)
+      (λ (b : Bool). cond b (Some ConfigLimit) None) few)
       (record { now = refl; kept = configured_after })
       (printed ∙ ap (λ (t : List ℕ). text ++ t) (sym (rw no_frus (ap (flat_map (change_line 0))
-          (configure_changes configs config false (kept_of lists) none_yet) ∙ line_of (value config.probe false)))))
+      (configure_changes configs config false (kept_of lists) none_yet) ∙ line_of (value config.probe false)))))
 
   pub configured_kept : AreKept (configs ++ config ∷ []) entries false (lists ++ first_kept config ∷ [])
   configured_kept = record {

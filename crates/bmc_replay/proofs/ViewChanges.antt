@@ -36,7 +36,7 @@ plug_kept configs was is fru frus kept all number =
   where
     of : (b : Bool)
         → cond b (with_board (kept number) (Some fru.place)) (kept number) ≡ kept number ++ cond b
-            (cond (not (has_board (kept number) (Some fru.place))) (Some fru.place ∷ []) []) []
+        (cond (not (has_board (kept number) (Some fru.place))) (Some fru.place ∷ []) []) []
     of true = with_board_is (kept number) (Some fru.place)
     of false = sym (append-nil (kept number))
 
@@ -44,39 +44,39 @@ plug_kept configs was is fru frus kept all number =
 pub plug_changes : (configs : List Config) (was is : Bool) (fru : Fru) (frus : List Fru) (kept : ℕ → List (Option Place))
     → is_present frus fru.place ≡ false → ((number : ℕ) → list_all (has_board (kept number)) (boards (standing_of configs was frus) number) ≡ true)
     → changes_between (standing_of configs was frus) kept (standing_of configs is (put fru frus)) (kept_after kept (standing_of configs is (put fru frus)))
-        ≡ map (board_at false configs kept fru.place) (hits_of configs fru)
+    ≡ map (board_at false configs kept fru.place) (hits_of configs fru)
 unfolding changes_between
 plug_changes configs was is fru frus kept absent all =
     ap (λ (l : List Change). l ++ flat_map (boards_left false (standing_of configs is (put fru frus))
-        (kept_after kept (standing_of configs is (put fru frus))) (standing_of configs was frus)) (range_with_len 0 (length configs)))
+    (kept_after kept (standing_of configs is (put fru frus))) (standing_of configs was frus)) (range_with_len 0 (length configs)))
     (flat_map_none _ (λ number. ap (map (λ place. Board true (name_of configs number) (index_in (kept number) place) place))
-        (except_none (has_board (boards (standing_of configs is (put fru frus)) number)) (boards (standing_of configs was frus) number)
-        (plug_stays configs was is fru frus number))) (range_with_len 0 (length configs)))
+    (except_none (has_board (boards (standing_of configs is (put fru frus)) number)) (boards (standing_of configs was frus) number)
+    (plug_stays configs was is fru frus number))) (range_with_len 0 (length configs)))
     ∙ flat_map_hits _ (board_at false configs kept fru.place) (is_hit_of configs fru) new (range_with_len 0 (length configs))
   where
     index : (number : ℕ) → is_hit_of configs fru number ≡ true
         → index_in (kept_after kept (standing_of configs is (put fru frus)) number) (Some fru.place) ≡ index_in (kept number) (Some fru.place)
     index number hit =
         ap (λ (l : List (Option Place)). index_in (kept number ++ l) (Some fru.place))
-            (plug_new configs was is fru frus (has_board (kept number)) number (all number))
+        (plug_new configs was is fru frus (has_board (kept number)) number (all number))
         ∙ ap (λ (b : Bool). index_in (kept number ++ cond b (cond (not (has_board (kept number) (Some fru.place))) (Some fru.place ∷ []) []) [])
-            (Some fru.place)) hit
+        (Some fru.place)) hit
         ∙ index_with (kept number) (Some fru.place)
 
     new : (number : ℕ)
         → boards_left false (standing_of configs is (put fru frus)) (kept_after kept (standing_of configs is (put fru frus)))
-            (standing_of configs was frus) number ≡ cond (is_hit_of configs fru number) (board_at false configs kept fru.place number ∷ []) []
+        (standing_of configs was frus) number ≡ cond (is_hit_of configs fru number) (board_at false configs kept fru.place number ∷ []) []
     new number =
         ap (map (λ place. Board false (name_of configs number) (index_in (kept_after kept (standing_of configs is (put fru frus)) number) place) place))
         (plug_new configs was is fru frus (has_board (boards (standing_of configs was frus) number)) number
-            (all_there (boards (standing_of configs was frus) number))
+        (all_there (boards (standing_of configs was frus) number))
         ∙ ap (λ (b : Bool). cond (is_hit_of configs fru number) (cond (not b) (Some fru.place ∷ []) []) [])
-            (none_there configs was frus fru.place number absent))
+        (none_there configs was frus fru.place number absent))
         ∙ of (is_hit_of configs fru number) refl
       where
         of : (b : Bool) → is_hit_of configs fru number ≡ b
             → map (λ place. Board false (name_of configs number) (index_in (kept_after kept (standing_of configs is (put fru frus)) number) place) place)
-                (cond b (Some fru.place ∷ []) []) ≡ cond b (board_at false configs kept fru.place number ∷ []) []
+            (cond b (Some fru.place ∷ []) []) ≡ cond b (board_at false configs kept fru.place number ∷ []) []
         of true e = ap (λ (n : ℕ). Board false (name_of configs number) n (Some fru.place) ∷ []) (index number e)
         of false e = refl
 
@@ -86,36 +86,36 @@ pub unplug_kept : (configs : List Config) (plugged : Bool) (place : Place) (frus
     → list_all (has_board (kept number)) (boards (standing_of configs plugged (without place frus)) number) ≡ true
 unplug_kept configs plugged place frus kept all number =
     pass_all _ _ (λ x h. all_pass (has_board (kept number)) _ (all number) x
-        (all_pass (has_board (boards (standing_of configs plugged frus) number)) _ (unplug_stood configs plugged place frus number) x h))
+    (all_pass (has_board (boards (standing_of configs plugged frus) number)) _ (unplug_stood configs plugged place frus number) x h))
 
 -- and its boards are gone
 pub unplug_changes : (configs : List Config) (plugged : Bool) (place : Place) (fru : Fru) (frus : List Fru) (kept : ℕ → List (Option Place))
     → ((number : ℕ) → list_all (has_board (kept number)) (boards (standing_of configs plugged frus) number) ≡ true)
     → ((test : Fru → Bool) → flat_map (gone_one test place) frus ≡ cond (test fru) (Some place ∷ []) [])
     → changes_between (standing_of configs plugged frus) kept (standing_of configs plugged (without place frus))
-        (kept_after kept (standing_of configs plugged (without place frus))) ≡ map (board_at true configs kept place) (hits_of configs fru)
+    (kept_after kept (standing_of configs plugged (without place frus))) ≡ map (board_at true configs kept place) (hits_of configs fru)
 unfolding changes_between
 unplug_changes configs plugged place fru frus kept all own =
     ap (λ (l : List Change). flat_map (boards_left true (standing_of configs plugged frus) kept (standing_of configs plugged (without place frus)))
-        (range_with_len 0 (length configs)) ++ l)
+    (range_with_len 0 (length configs)) ++ l)
     (flat_map_none _ (λ number. ap (map (λ it. Board false (name_of configs number)
-        (index_in (kept_after kept (standing_of configs plugged (without place frus)) number) it) it))
-        (except_none (has_board (boards (standing_of configs plugged frus) number)) (boards (standing_of configs plugged (without place frus)) number)
-        (unplug_stood configs plugged place frus number))) (range_with_len 0 (length configs)))
+    (index_in (kept_after kept (standing_of configs plugged (without place frus)) number) it) it))
+    (except_none (has_board (boards (standing_of configs plugged frus) number)) (boards (standing_of configs plugged (without place frus)) number)
+    (unplug_stood configs plugged place frus number))) (range_with_len 0 (length configs)))
     ∙ append-nil _
     ∙ flat_map_hits _ (board_at true configs kept place) (is_hit_of configs fru) gone (range_with_len 0 (length configs))
   where
     gone : (number : ℕ)
         → boards_left true (standing_of configs plugged frus) kept (standing_of configs plugged (without place frus)) number ≡ cond
-            (is_hit_of configs fru number) (board_at true configs kept place number ∷ []) []
+        (is_hit_of configs fru number) (board_at true configs kept place number ∷ []) []
     gone number =
         ap (map (λ it. Board true (name_of configs number) (index_in (kept number) it) it))
-            (unplug_gone configs plugged place frus number ∙ own (λ it. is_hit_of configs it number))
+        (unplug_gone configs plugged place frus number ∙ own (λ it. is_hit_of configs it number))
         ∙ of (is_hit_of configs fru number)
       where
         of : (b : Bool)
             → map (λ it. Board true (name_of configs number) (index_in (kept number) it) it) (cond b (Some place ∷ []) []) ≡ cond b
-                (board_at true configs kept place number ∷ []) []
+            (board_at true configs kept place number ∷ []) []
         of true = refl
         of false = refl
 
@@ -133,7 +133,7 @@ configure_kept configs config plugged kept none all number =
 
     of : (b : Bool) → (number == length configs) ≡ b
         → cond b (first_kept config) (kept number) ≡ kept number ++ except (has_board (kept number))
-            (cond b (cond (value config.probe false) (None ∷ []) []) (boards (standing_of configs plugged []) number))
+        (cond b (cond (value config.probe false) (None ∷ []) []) (boards (standing_of configs plugged []) number))
     of true e = first (value config.probe false) (kept number) (ap kept (eqb-true number (length configs) e) ∙ none)
     of false e = sym (ap (λ (l : List (Option Place)). kept number ++ l)
         (except_none (has_board (kept number)) (boards (standing_of configs plugged []) number) (all number)) ∙ append-nil (kept number))
@@ -177,49 +177,49 @@ none_comes : (configs : List Config) (config : Config) (plugged : Bool) (kept : 
 none_comes configs config plugged kept n h =
     ap (map (λ place. Board false (name_of (configs ++ config ∷ []) n) (index_in (kept_after kept (behind configs config plugged) n) place) place))
     (ap (except (has_board (boards (before configs plugged) n))) (more_boards configs config plugged n ∙ ap
-        (λ (b : Bool). cond b (first_kept config) (boards (before configs plugged) n)) h)
+    (λ (b : Bool). cond b (first_kept config) (boards (before configs plugged) n)) h)
     ∙ except_none (has_board (boards (before configs plugged) n)) (boards (before configs plugged) n) (all_there (boards (before configs plugged) n)))
 
 -- and its own has the first index
 first_comes : (always : Bool) (name : List ℕ)
     → map (λ place. Board false name (index_in ([] ++ except (has_board []) (cond always (None ∷ []) [])) place) place)
-        (except (has_board []) (cond always (None ∷ []) [])) ≡ cond always (Board false name 1 None ∷ []) []
+    (except (has_board []) (cond always (None ∷ []) [])) ≡ cond always (Board false name 1 None ∷ []) []
 first_comes true name = refl
 first_comes false name = refl
 
 own_comes : (configs : List Config) (config : Config) (plugged : Bool) (kept : ℕ → List (Option Place)) → kept (length configs) ≡ []
     → boards_left false (behind configs config plugged) (kept_after kept (behind configs config plugged)) (before configs plugged) (length configs)
-        ≡ first_change config
+    ≡ first_change config
 own_comes configs config plugged kept none =
     let own : (length configs == length configs) ≡ true = eq-eqb (length configs) (length configs) refl in
     let boards_are : boards (behind configs config plugged) (length configs) ≡ first_kept config = more_boards configs config plugged (length configs) ∙ ap
-        (λ (b : Bool). cond b (first_kept config) (boards (before configs plugged) (length configs))) own in
+    (λ (b : Bool). cond b (first_kept config) (boards (before configs plugged) (length configs))) own in
     let name_is : name_of (configs ++ config ∷ []) (length configs) ≡ config.name = ap
-        (λ (o : Option Config). unwrap_or (option_map (λ config. config.name) o) []) (get_more configs config (length configs)) ∙ ap
-        (λ (b : Bool). unwrap_or (option_map (λ config. config.name) (cond b (Some config) (slice_get configs (length configs)))) []) own in
+    (λ (o : Option Config). unwrap_or (option_map (λ config. config.name) o) []) (get_more configs config (length configs)) ∙ ap
+    (λ (b : Bool). unwrap_or (option_map (λ config. config.name) (cond b (Some config) (slice_get configs (length configs)))) []) own in
     ap (λ (l : List (Option Place)). map (λ place. Board false (name_of (configs ++ config ∷ []) (length configs))
-        (index_in (kept_after kept (behind configs config plugged) (length configs)) place) place)
-        (except (has_board l) (boards (behind configs config plugged) (length configs)))) (no_boards_yet configs plugged)
+    (index_in (kept_after kept (behind configs config plugged) (length configs)) place) place)
+    (except (has_board l) (boards (behind configs config plugged) (length configs)))) (no_boards_yet configs plugged)
     ∙ ap (λ (l : List (Option Place)). map (λ place. Board false (name_of (configs ++ config ∷ []) (length configs))
-        (index_in (kept (length configs) ++ except (has_board (kept (length configs))) l) place) place) (except (has_board []) l)) boards_are
+    (index_in (kept (length configs) ++ except (has_board (kept (length configs))) l) place) place) (except (has_board []) l)) boards_are
     ∙ ap (λ (k : List (Option Place)). map (λ place. Board false (name_of (configs ++ config ∷ []) (length configs))
-        (index_in (k ++ except (has_board k) (first_kept config)) place) place) (except (has_board []) (first_kept config))) none
+    (index_in (k ++ except (has_board k) (first_kept config)) place) place) (except (has_board []) (first_kept config))) none
     ∙ first_comes (value config.probe false) (name_of (configs ++ config ∷ []) (length configs))
     ∙ ap (λ (name : List ℕ). cond (value config.probe false) (Board false name 1 None ∷ []) []) name_is
 
 -- and what changes
 pub configure_changes : (configs : List Config) (config : Config) (plugged : Bool) (kept : ℕ → List (Option Place)) → kept (length configs) ≡ []
     → changes_between (standing_of configs plugged []) kept (standing_of (configs ++ config ∷ []) plugged [])
-        (kept_after kept (standing_of (configs ++ config ∷ []) plugged [])) ≡ first_change config
+    (kept_after kept (standing_of (configs ++ config ∷ []) plugged [])) ≡ first_change config
 unfolding changes_between
 configure_changes configs config plugged kept none =
     ap (λ (l : List Change). l ++ flat_map (boards_left false (behind configs config plugged) (kept_after kept (behind configs config plugged))
-        (before configs plugged)) (range_with_len 0 (length (configs ++ config ∷ []))))
+    (before configs plugged)) (range_with_len 0 (length (configs ++ config ∷ []))))
     (flat_map_none (boards_left true (before configs plugged) kept (behind configs config plugged)) (none_goes configs config plugged kept)
-        (range_with_len 0 (length configs)))
+    (range_with_len 0 (length configs)))
     ∙ ap (λ n. flat_map (boards_left false (behind configs config plugged) (kept_after kept (behind configs config plugged)) (before configs plugged))
-        (range_with_len 0 n)) (length-append configs (config ∷ []))
+    (range_with_len 0 n)) (length-append configs (config ∷ []))
     ∙ only_last (boards_left false (behind configs config plugged) (kept_after kept (behind configs config plugged)) (before configs plugged)) 0
-        (length configs) (λ n h. none_comes configs config plugged kept n (grind (arith, nat_tests, h)))
+    (length configs) (λ n h. none_comes configs config plugged kept n (grind (arith, nat_tests, h)))
     ∙ ap (boards_left false (behind configs config plugged) (kept_after kept (behind configs config plugged)) (before configs plugged)) (omega arith)
     ∙ own_comes configs config plugged kept none

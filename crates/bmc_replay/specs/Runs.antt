@@ -1,11 +1,11 @@
 -- What a run does with a step and with an item.
-use Rattle.std.specs.Prelude.{ℕ, ◌≡◌, ◌+◌, ◌||◌, ◌++◌, Bool, false, is_some, List, [], Option, Some, None, string_bytes}
+use Rattle.std.specs.Prelude.{ℕ, ◌≡◌, ◌+◌, ◌||◌, ◌++◌, false, is_some, List, [], Option, Some, None, string_bytes}
 use Rattle.std.specs.List.{flat_map}
 use Rattle.bmc_text.specs.Items.{Item}
 use Rattle.bmc_report.specs.Refusals.{refused_line}
 use Rattle.bmc_report.specs.declared.refusal.Refusal.{Refusal}
 use Rattle.bmc_report.specs.Changes.{change_line}
-use Rattle.bmc_machine.specs.Histories.{Step, standing, tick_of}
+use Rattle.bmc_machine.specs.Histories.{Step, standing}
 use Rattle.bmc_machine.specs.Indexes.{kept}
 use Rattle.bmc_machine.specs.Refusals.{refusal_of}
 use Rattle.bmc_machine.specs.Answers.{Answer, answer}

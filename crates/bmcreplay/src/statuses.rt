@@ -37,9 +37,7 @@ pub fn reason_of(status: Status) -> Option<&'static str> {
         Status::OutOfMemory => Some("bmcreplay: out of memory\n"),
         Status::ReadFault => Some("bmcreplay: the input could not be read\n"),
         Status::WriteFault => Some("bmcreplay: the output could not be written\n"),
-        Status::TooLong => {
-            Some("bmcreplay: the input has at least 1,099,511,627,776 bytes\n")
-        }
+        Status::TooLong => { Some("bmcreplay: the input has at least 1,099,511,627,776 bytes\n") }
     }
 }
 

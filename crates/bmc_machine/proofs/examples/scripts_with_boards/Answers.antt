@@ -31,7 +31,7 @@ use Rattle.bmc_machine.proofs.examples.scripts_with_boards.Goals as goal
 pub returns : goal.returns
 unfolding encode is_utf8 chars digits hex_on_literals without_return line_item whole_block whole_item cut_most cut block_size hex_decoded digits_in number
     place_named plug_of unplug_of words_of command_of header area_at first_field walk raw_fields text_of name_text area_fields area_text refusal_name
-        refusal_text
+    refusal_text
     quoted field_row fru_row fields_of_area fields_at fields_under record_of change_text text_named serde_json_on_literals config_in config_of text_in
     plain_probe_of stands_in boards kept changes_between standing answers final_list
 returns c = record { always = refl; found = refl; refused = refl; kept = refl }

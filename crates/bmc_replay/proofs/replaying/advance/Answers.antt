@@ -9,4 +9,4 @@ returns-in_err-next-2-clause-stops g c =
     let same : c.next_buffered.new.self ≡ c.args.items.now = search rules in
     rw (p.1, p.2)
     (stops_unbuffered c.in_err-next-2.field-0.0 _ c.next_buffered.new.self _ _ _ _ _ _ same c.in_ok-flush.ensures.all c.in_err-next-2.ensures.lacks
-        c.in_err-next-2.ensures.cause)
+    c.in_err-next-2.ensures.cause)
