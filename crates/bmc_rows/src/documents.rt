@@ -1,14 +1,13 @@
-use crate::play::{AMPLE, SOUND, filled, played};
-use bmc_base::OutOfMemory;
-use bmc_replay::Status;
-use std::alloc::Global;
-use std::fmt::Write;
-use std::process::Abort;
+use crate::play::Part::{Block, Config, Text, Times};
+use crate::play::{ALWAYS_BOARD, Row, play, play_rows, push_block, script_of};
+use bmc_replay::Status::{self, Done, Refused};
 use std::test::Fail;
 
-// Documents that are accepted, and what is printed for each: one that is always found has a board.
+const NOT_JSON: &str = "line 1 refused NotJson\n";
+
+// Documents that are accepted, and what is printed of them: one that is always found has a board.
 const ACCEPTED: [(&str, &str); 15] = [
-    (r#"{"Name":"A","Probe":"TRUE"}"#, "0 new board \"A\" 1\n"),
+    (r#"{"Name":"A","Probe":"TRUE"}"#, ALWAYS_BOARD),
     (
         " {\t\"Probe\" : \"TRUE\" ,\n\"Name\" : \"A B\" }\r\n",
         "0 new board \"A B\" 1\n",
@@ -51,11 +50,11 @@ const ACCEPTED: [(&str, &str); 15] = [
     ),
     (
         r#"{"Name":"A","Probe":"TRUE","x":[18446744073709551615,-9223372036854775808,0,null,true,{"y":"\n\/"}]}"#,
-        "0 new board \"A\" 1\n",
+        ALWAYS_BOARD,
     ),
     (
         r#"{"Name":"A","Probe":"TRUE","exposes":[],"name":5,"":{}}"#,
-        "0 new board \"A\" 1\n",
+        ALWAYS_BOARD,
     ),
     (
         r#"{"x":0.5,"x":1,"Name":0.5,"Name":"","Name":"B","Probe":5,"Probe":"TRUE"}"#,
@@ -63,12 +62,13 @@ const ACCEPTED: [(&str, &str); 15] = [
     ),
     (
         r#"{"Name":"A","Probe":"TRUE","x":{"y":[1e9]},"x":{}}"#,
-        "0 new board \"A\" 1\n",
+        ALWAYS_BOARD,
     ),
 ];
 
-// Documents in which a key is given twice: of its values the last counts.
-const TWICE: [(&str, &str); 4] = [
+// Documents that are refused, and the first rule that they break.
+const BROKEN: [(&str, &str); 100] = [
+    // a key is given twice: of its values the last counts
     (r#"{"Name":"A","Name":5,"Probe":"TRUE"}"#, "WrongKind"),
     (r#"{"Name":"A","Probe":"TRUE","x":1,"x":0.5}"#, "Fraction"),
     (r#"{"Name":"A","Probe":"TRUE","x":1e400,"x":1}"#, "NotJson"),
@@ -76,10 +76,6 @@ const TWICE: [(&str, &str); 4] = [
         r#"{"Name":"A","Probe":"TRUE","x":"\ud800","x":1}"#,
         "NotJson",
     ),
-];
-
-// Documents that are no JSON text.
-const NO_JSON: [(&str, &str); 26] = [
     // no JSON text
     ("", "NotJson"),
     (" \n", "NotJson"),
@@ -116,10 +112,6 @@ const NO_JSON: [(&str, &str); 26] = [
         "NotJson",
     ),
     (r#"{"Name":"A","Probe":"TRUE","\udc00":1}"#, "NotJson"),
-];
-
-// Documents with a fraction.
-const FRACTIONS: [(&str, &str); 11] = [
     // a fraction anywhere comes before the kind of the document and its members
     ("0.5", "Fraction"),
     ("[[1.0]]", "Fraction"),
@@ -141,10 +133,6 @@ const FRACTIONS: [(&str, &str); 11] = [
         r#"{"Name":"A","Probe":"TRUE","Exposes":[{"Index":0.1}]}"#,
         "Fraction",
     ),
-];
-
-// Documents whose members break a rule, and which.
-const MEMBERS: [(&str, &str); 30] = [
     // the document, its name, its probe and its exposes, in this order
     ("null", "WrongKind"),
     ("true", "WrongKind"),
@@ -185,148 +173,183 @@ const MEMBERS: [(&str, &str); 30] = [
         r#"{"Name":"A","Probe":"TRUE","Exposes":[{"Name":"x"}]}"#,
         "ProbeForm",
     ),
+    // probes that are not plain
+    (r#"{"Name":"R","Probe":""}"#, "ProbeForm"),
+    (r#"{"Name":"R","Probe":"true"}"#, "ProbeForm"),
+    (r#"{"Name":"R","Probe":"TRUE "}"#, "ProbeForm"),
+    (r#"{"Name":"R","Probe":" TRUE"}"#, "ProbeForm"),
+    (r#"{"Name":"R","Probe":"FALSE"}"#, "ProbeForm"),
+    (r#"{"Name":"R","Probe":"TRUE\n"}"#, "ProbeForm"),
+    (
+        r#"{"Name":"R","Probe":"xyz.openbmc_project.FruDevice({})"}"#,
+        "ProbeForm",
+    ),
+    (
+        r#"{"Name":"R","Probe":"xyz.openbmc_project.FruDevice({'PRODUCT_PRODUCT_NAME': 'RSR1'})"}"#,
+        "ProbeForm",
+    ),
+    (
+        r#"{"Name":"R","Probe":"xyz.openbmc_project.FruDevice({'CHASSIS_PART_NUMBER': 'P1'})"}"#,
+        "ProbeForm",
+    ),
+    (
+        r#"{"Name":"R","Probe":"xyz.openbmc_project.FruDevice({'BOARD_MANUFACTURE_DATE': '1'})"}"#,
+        "ProbeForm",
+    ),
+    (
+        r#"{"Name":"R","Probe":"xyz.openbmc_project.FruDevice({'BOARD_INFO_AM1': 'A'})"}"#,
+        "ProbeForm",
+    ),
+    (
+        r#"{"Name":"R","Probe":"xyz.openbmc_project.FruDevice({'board_product_name': 'A'})"}"#,
+        "ProbeForm",
+    ),
+    (
+        r#"{"Name":"R","Probe":"xyz.openbmc_project.FruDevice({'BOARD_PRODUCT_NAME': ''})"}"#,
+        "ProbeForm",
+    ),
+    (
+        "{\"Name\":\"R\",\"Probe\":\"xyz.openbmc_project.FruDevice({'BOARD_PRODUCT_NAME': \
+        'A1A1A1A1A1A1A1A1A1A1A1A1A1A1A1A1A1A1A1A1A1A1A1A1A1A1A1A1A1A1A1A1A'})\"}",
+        "ProbeForm",
+    ),
+    (
+        r#"{"Name":"R","Probe":"xyz.openbmc_project.FruDevice({'BOARD_PRODUCT_NAME': 'RSR-1'})"}"#,
+        "ProbeForm",
+    ),
+    (
+        r#"{"Name":"R","Probe":"xyz.openbmc_project.FruDevice({'BOARD_PRODUCT_NAME': 'RSR 1'})"}"#,
+        "ProbeForm",
+    ),
+    (
+        r#"{"Name":"R","Probe":"xyz.openbmc_project.FruDevice({'BOARD_PRODUCT_NAME': '.*'})"}"#,
+        "ProbeForm",
+    ),
+    (
+        r#"{"Name":"R","Probe":"xyz.openbmc_project.FruDevice({'BOARD_PRODUCT_NAME': 'é'})"}"#,
+        "ProbeForm",
+    ),
+    (
+        r#"{"Name":"R","Probe":"xyz.openbmc_project.FruDevice({'BOARD_PRODUCT_NAME': '\u0663'})"}"#,
+        "ProbeForm",
+    ),
+    (
+        r#"{"Name":"R","Probe":"xyz.openbmc_project.FruDevice({'BOARD_PRODUCT_NAME':'RSR1'})"}"#,
+        "ProbeForm",
+    ),
+    (
+        r#"{"Name":"R","Probe":"xyz.openbmc_project.FruDevice({'BOARD_PRODUCT_NAME' : 'RSR1'})"}"#,
+        "ProbeForm",
+    ),
+    (
+        r#"{"Name":"R","Probe":"xyz.openbmc_project.FruDevice({ 'BOARD_PRODUCT_NAME': 'RSR1'})"}"#,
+        "ProbeForm",
+    ),
+    (
+        r#"{"Name":"R","Probe":"xyz.openbmc_project.FruDevice ({'BOARD_PRODUCT_NAME': 'RSR1'})"}"#,
+        "ProbeForm",
+    ),
+    (
+        r#"{"Name":"R","Probe":"xyz.openbmc_project.FruDevice({'BOARD_PRODUCT_NAME': 'RSR1'}) "}"#,
+        "ProbeForm",
+    ),
+    (
+        r#"{"Name":"R","Probe":"xyz.openbmc_project.FruDevice({'BOARD_PRODUCT_NAME': 'RSR1'"}"#,
+        "ProbeForm",
+    ),
+    (
+        r#"{"Name":"R","Probe":"xyz.openbmc_project.FruDevice({'BOARD_PRODUCT_NAME': 5})"}"#,
+        "ProbeForm",
+    ),
+    (
+        r#"{"Name":"R","Probe":"xyz.openbmc_project.FruDevice({'BOARD_PRODUCT_NAME': 'RSR1', 'BOARD_PART_NUMBER': 'P1'})"}"#,
+        "ProbeForm",
+    ),
+    (
+        r#"{"Name":"R","Probe":"FruDevice({'BOARD_PRODUCT_NAME': 'RSR1'})"}"#,
+        "ProbeForm",
+    ),
+    (
+        r#"{"Name":"R","Probe":"xyz-openbmc_project.FruDevice({'BOARD_PRODUCT_NAME': 'RSR1'})"}"#,
+        "ProbeForm",
+    ),
 ];
-
-// Documents with probes that are not plain.
-const NO_PROBES: [&str; 29] = [
-    r#"{"Name":"R","Probe":""}"#,
-    r#"{"Name":"R","Probe":"true"}"#,
-    r#"{"Name":"R","Probe":"TRUE "}"#,
-    r#"{"Name":"R","Probe":" TRUE"}"#,
-    r#"{"Name":"R","Probe":"FALSE"}"#,
-    r#"{"Name":"R","Probe":"TRUE\n"}"#,
-    r#"{"Name":"R","Probe":"xyz.openbmc_project.FruDevice({})"}"#,
-    r#"{"Name":"R","Probe":"xyz.openbmc_project.FruDevice({'PRODUCT_PRODUCT_NAME': 'RSR1'})"}"#,
-    r#"{"Name":"R","Probe":"xyz.openbmc_project.FruDevice({'CHASSIS_PART_NUMBER': 'P1'})"}"#,
-    r#"{"Name":"R","Probe":"xyz.openbmc_project.FruDevice({'BOARD_MANUFACTURE_DATE': '1'})"}"#,
-    r#"{"Name":"R","Probe":"xyz.openbmc_project.FruDevice({'BOARD_INFO_AM1': 'A'})"}"#,
-    r#"{"Name":"R","Probe":"xyz.openbmc_project.FruDevice({'board_product_name': 'A'})"}"#,
-    r#"{"Name":"R","Probe":"xyz.openbmc_project.FruDevice({'BOARD_PRODUCT_NAME': ''})"}"#,
-    r#"{"Name":"R","Probe":"xyz.openbmc_project.FruDevice({'BOARD_PRODUCT_NAME': 'A1A1A1A1A1A1A1A1A1A1A1A1A1A1A1A1A1A1A1A1A1A1A1A1A1A1A1A1A1A1A1A1A'})"}"#,
-    r#"{"Name":"R","Probe":"xyz.openbmc_project.FruDevice({'BOARD_PRODUCT_NAME': 'RSR-1'})"}"#,
-    r#"{"Name":"R","Probe":"xyz.openbmc_project.FruDevice({'BOARD_PRODUCT_NAME': 'RSR 1'})"}"#,
-    r#"{"Name":"R","Probe":"xyz.openbmc_project.FruDevice({'BOARD_PRODUCT_NAME': '.*'})"}"#,
-    r#"{"Name":"R","Probe":"xyz.openbmc_project.FruDevice({'BOARD_PRODUCT_NAME': 'é'})"}"#,
-    r#"{"Name":"R","Probe":"xyz.openbmc_project.FruDevice({'BOARD_PRODUCT_NAME': '\u0663'})"}"#,
-    r#"{"Name":"R","Probe":"xyz.openbmc_project.FruDevice({'BOARD_PRODUCT_NAME':'RSR1'})"}"#,
-    r#"{"Name":"R","Probe":"xyz.openbmc_project.FruDevice({'BOARD_PRODUCT_NAME' : 'RSR1'})"}"#,
-    r#"{"Name":"R","Probe":"xyz.openbmc_project.FruDevice({ 'BOARD_PRODUCT_NAME': 'RSR1'})"}"#,
-    r#"{"Name":"R","Probe":"xyz.openbmc_project.FruDevice ({'BOARD_PRODUCT_NAME': 'RSR1'})"}"#,
-    r#"{"Name":"R","Probe":"xyz.openbmc_project.FruDevice({'BOARD_PRODUCT_NAME': 'RSR1'}) "}"#,
-    r#"{"Name":"R","Probe":"xyz.openbmc_project.FruDevice({'BOARD_PRODUCT_NAME': 'RSR1'"}"#,
-    r#"{"Name":"R","Probe":"xyz.openbmc_project.FruDevice({'BOARD_PRODUCT_NAME': 5})"}"#,
-    r#"{"Name":"R","Probe":"xyz.openbmc_project.FruDevice({'BOARD_PRODUCT_NAME': 'RSR1', 'BOARD_PART_NUMBER': 'P1'})"}"#,
-    r#"{"Name":"R","Probe":"FruDevice({'BOARD_PRODUCT_NAME': 'RSR1'})"}"#,
-    r#"{"Name":"R","Probe":"xyz-openbmc_project.FruDevice({'BOARD_PRODUCT_NAME': 'RSR1'})"}"#,
-];
-
-// A line with its block alone prints this, and no line is refused where it is accepted.
-fn one_prints<R: Abort>(
-    rt: &R,
-    alloc: Global,
-    document: &[u8],
-    text: &[u8],
-    done: bool,
-) -> Result<(), Fail> {
-    let size = document.len();
-    let mut line = String::new(alloc);
-    write!(line, "config {size}\n")?;
-    let mut script = Vec::from_slice(alloc, line.as_bytes())?;
-    script.extend_from_slice(document)?;
-    let (status, taken) = played(rt, alloc, script.as_slice(), &[AMPLE], SOUND)?;
-    assert_eq!(rt; taken.as_slice(), text, "{document:?}");
-    assert_eq!(rt; status == Status::Done, done, "{document:?}");
-    Ok(())
-}
-
-// It is refused by this rule.
-fn one_gives<R: Abort>(rt: &R, alloc: Global, document: &[u8], rule: &str) -> Result<(), Fail> {
-    let text = filled(alloc, "line 1 refused $\n", rule)?;
-    one_prints(rt, alloc, document, text.as_bytes(), false)
-}
-
-// An accepted document with a member of so many arrays, one in the other.
-fn nested(alloc: Global, arrays: usize) -> Result<String, OutOfMemory> {
-    let mut document = String::from_str(alloc, r#"{"Name":"A","Probe":"TRUE","x":"#)?;
-    for _ in 0..arrays {
-        document.push('[')?;
-    }
-    for _ in 0..arrays {
-        document.push(']')?;
-    }
-    document.push('}')?;
-    Ok(document)
-}
-
-// Each of these is refused by its rule.
-fn all_give<R: Abort>(rt: &R, alloc: Global, rows: &[(&str, &str)]) -> Result<(), Fail> {
-    for (document, rule) in rows {
-        one_gives(rt, alloc, document.as_bytes(), rule)?;
-    }
-    Ok(())
-}
 
 #[test]
 fn accepted_documents(rt: HostRuntime) -> Result<(), Fail> {
     for (document, text) in ACCEPTED {
-        one_prints(&rt, rt.alloc(), document.as_bytes(), text.as_bytes(), true)?;
+        let script = script_of(rt.alloc(), &[Config(document)])?;
+        play(&rt, rt.alloc(), script.as_slice(), Status::Done, text)?;
     }
     Ok(())
 }
 
 #[test]
-fn documents_with_keys_given_twice(rt: HostRuntime) -> Result<(), Fail> {
-    all_give(&rt, rt.alloc(), &TWICE)
-}
-
-#[test]
-fn documents_that_are_no_json(rt: HostRuntime) -> Result<(), Fail> {
-    all_give(&rt, rt.alloc(), &NO_JSON)
-}
-
-#[test]
-fn documents_with_fractions(rt: HostRuntime) -> Result<(), Fail> {
-    all_give(&rt, rt.alloc(), &FRACTIONS)
-}
-
-#[test]
-fn documents_with_other_members(rt: HostRuntime) -> Result<(), Fail> {
-    all_give(&rt, rt.alloc(), &MEMBERS)
-}
-
-#[test]
-fn probes_that_are_not_plain(rt: HostRuntime) -> Result<(), Fail> {
-    for document in NO_PROBES {
-        one_gives(&rt, rt.alloc(), document.as_bytes(), "ProbeForm")?;
+fn broken_documents(rt: HostRuntime) -> Result<(), Fail> {
+    for (document, rule) in BROKEN {
+        let script = script_of(rt.alloc(), &[Config(document)])?;
+        let text = format!(in rt.alloc(); "line 1 refused {rule}\n")?;
+        play(
+            &rt,
+            rt.alloc(),
+            script.as_slice(),
+            Status::Refused,
+            text.as_str(),
+        )?;
     }
     Ok(())
 }
 
+// Blocks that are no text: a byte of none, half a character, a surrogate, and a byte behind a document.
+const ANY_BYTES: [Row; 4] = [
+    (&[Block(b"\xFF")], Refused, NOT_JSON),
+    (
+        &[Block(b"{\"Name\":\"\xC3\",\"Probe\":\"TRUE\"}")],
+        Refused,
+        NOT_JSON,
+    ),
+    (
+        &[Block(b"{\"Name\":\"\xED\xA0\x80\",\"Probe\":\"TRUE\"}")],
+        Refused,
+        NOT_JSON,
+    ),
+    (
+        &[Block(b"{\"Name\":\"A\",\"Probe\":\"TRUE\"}\x00")],
+        Refused,
+        NOT_JSON,
+    ),
+];
+
 #[test]
-fn documents_of_other_bytes(rt: HostRuntime) -> Result<(), Fail> {
-    // a byte of no text, half a character, and a surrogate
-    let bytes: [&[u8]; 4] = [
-        b"\xFF",
-        b"{\"Name\":\"\xC3\",\"Probe\":\"TRUE\"}",
-        b"{\"Name\":\"\xED\xA0\x80\",\"Probe\":\"TRUE\"}",
-        b"{\"Name\":\"A\",\"Probe\":\"TRUE\"}\x00",
-    ];
-    for document in bytes {
-        one_gives(&rt, rt.alloc(), document, "NotJson")?;
-    }
-    Ok(())
+fn blocks_of_any_bytes(rt: HostRuntime) -> Result<(), Fail> {
+    play_rows(&rt, rt.alloc(), &ANY_BYTES)
 }
+
+// How many arrays stand in one another in a member of a document, how the run ends, and what is printed.
+const NESTED: [(usize, Status, &str); 5] = [
+    (1, Done, ALWAYS_BOARD),
+    (126, Done, ALWAYS_BOARD),
+    (127, Refused, NOT_JSON),
+    (128, Refused, NOT_JSON),
+    (100_000, Refused, NOT_JSON),
+];
 
 #[test]
 fn nested_documents(rt: HostRuntime) -> Result<(), Fail> {
-    for arrays in [1, 126] {
-        let document = nested(rt.alloc(), arrays)?;
-        let board = b"0 new board \"A\" 1\n";
-        one_prints(&rt, rt.alloc(), document.as_bytes(), board, true)?;
-    }
-    for arrays in [127, 100_000] {
-        let document = nested(rt.alloc(), arrays)?;
-        one_gives(&rt, rt.alloc(), document.as_bytes(), "NotJson")?;
+    for (arrays, status, text) in NESTED {
+        let head = r#"{"Name":"A","Probe":"TRUE","x":"#;
+        let document = script_of(
+            rt.alloc(),
+            &[
+                Text(head),
+                Times(arrays, "["),
+                Times(arrays, "]"),
+                Text("}"),
+            ],
+        )?;
+        let mut script = Vec::new(rt.alloc());
+        push_block(&mut script, rt.alloc(), document.as_slice())?;
+        play(&rt, rt.alloc(), script.as_slice(), status, text)?;
     }
     Ok(())
 }

@@ -1,59 +1,35 @@
-use crate::play::{AMPLE, FIELDS, R1, SOUND, filled, played};
+use crate::play::Part::{Bytes, Text};
+use crate::play::{BOARD_FIELDS, Row, UNKNOWN, filled, play, play_rows, script_of};
 use bmc_replay::Status;
-use std::alloc::Global;
-use std::process::Abort;
+use bmc_replay::Status::{Done, Refused};
 use std::test::Fail;
 
-const UNKNOWN: &str = "line 1 refused UnknownCommand\n";
+// Lines that do nothing.
+const IDLE: [&str; 8] = [
+    "\n",
+    "\r\n",
+    "\r",
+    "#",
+    "# comment\n",
+    "# comment\r\n",
+    "#\r\r\n",
+    "#plug 1 80 $\n",
+];
 
-const ABSENT: &str = "line 1 refused NotPresent\n";
-
-// Each of these lines alone ends with this status, and prints this.
-fn all_give<R: Abort>(
-    rt: &R,
-    alloc: Global,
-    lines: &[&str],
-    status: Status,
-    text: &str,
-) -> Result<(), Fail> {
-    let text = filled(alloc, text, FIELDS)?;
-    for line in lines {
-        let script = filled(alloc, line, R1)?;
-        let (ended, taken) = played(rt, alloc, script.as_bytes(), &[AMPLE], SOUND)?;
-        assert_eq!(rt; ended, status, "{line:?}");
-        assert_eq!(rt; taken.as_slice(), text.as_bytes(), "{line:?}");
-    }
-    Ok(())
-}
-
-#[test]
-fn accepted_lines(rt: HostRuntime) -> Result<(), Fail> {
-    let nothing = [
-        "\n",
-        "\r\n",
-        "\r",
-        "#",
-        "# comment\n",
-        "# comment\r\n",
-        "#\r\r\n",
-        "#plug 1 80 $\n",
-    ];
-    all_give(&rt, rt.alloc(), &nothing, Status::Done, "")?;
-    let plugged = [
-        "plug 1 80 $\n",
-        "plug 1 80 $",
-        "plug 1 80 $\r\n",
-        "plug 1 80 $\r",
-        "plug 001 080 $\n",
-        "plug 000000001 000000080 $\n",
-        "plug 1 80 01000001000000fe010300000000c341434dc452535231c25331c0c0c10000f5\n",
-        "plug 1 80 01000001000000Fe010300000000c341434DC452535231c25331C0c0C10000F5\n",
-    ];
-    all_give(&rt, rt.alloc(), &plugged, Status::Done, "fru 1 80$\n")
-}
+// Lines that plug the board record at bus 1, address 80.
+const PLUGS: [&str; 8] = [
+    "plug 1 80 $\n",
+    "plug 1 80 $",
+    "plug 1 80 $\r\n",
+    "plug 1 80 $\r",
+    "plug 001 080 $\n",
+    "plug 000000001 000000080 $\n",
+    "plug 1 80 01000001000000fe010300000000c341434dc452535231c25331c0c0c10000f5\n",
+    "plug 1 80 01000001000000Fe010300000000c341434DC452535231c25331C0c0C10000F5\n",
+];
 
 // Lines that take away what is not there.
-const ABSENT_FRUS: [&str; 7] = [
+const ABSENT: [&str; 7] = [
     "unplug 1 80",
     "unplug 1 80\n",
     "unplug 1 80\r\n",
@@ -63,8 +39,8 @@ const ABSENT_FRUS: [&str; 7] = [
     "unplug 255 127\n",
 ];
 
-// Lines that are no command in its form.
-const UNKNOWN_LINES: [&str; 39] = [
+// Lines that are no command in its form. Those that would ask for a block have a comment behind them, which is none.
+const FORMLESS: [&str; 54] = [
     "unplug 1 80\r\r\n",
     "unplug 0000000001 80\n",
     "unplug 1 0000000080\n",
@@ -104,49 +80,53 @@ const UNKNOWN_LINES: [&str; 39] = [
     "   \n",
     "\r\r\n",
     "\0\n",
+    "config 0000000001\n#\n",
+    "config x\n#\n",
+    "config \n#\n",
+    "config\n#\n",
+    "config  1\n#\n",
+    "config 1 \n#\n",
+    " config 1\n#\n",
+    "config\t1\n#\n",
+    "config +1\n#\n",
+    "config -1\n#\n",
+    "config 1 1\n#\n",
+    "config 1.\n#\n",
+    "Config 1\n#\n",
+    "config1\n#\n",
+    "config 1\r\r\n#\n",
+];
+
+// Scripts of one line that end alike, how they end, and what is printed.
+const KINDS: [(&[&str], Status, &str); 4] = [
+    (&IDLE, Done, ""),
+    (&PLUGS, Done, "fru 1 80$\n"),
+    (&ABSENT, Refused, "line 1 refused NotPresent\n"),
+    (&FORMLESS, Refused, UNKNOWN),
 ];
 
 #[test]
-fn refused_lines(rt: HostRuntime) -> Result<(), Fail> {
-    all_give(&rt, rt.alloc(), &ABSENT_FRUS, Status::Refused, ABSENT)?;
-    all_give(&rt, rt.alloc(), &UNKNOWN_LINES, Status::Refused, UNKNOWN)
-}
-
-#[test]
-fn lines_of_any_bytes(rt: HostRuntime) -> Result<(), Fail> {
-    let script = b"\xFF\xFE\n# \xFF\nunplug 1 80\xC3\nplug 1 80 \x80\xBF";
-    let (status, taken) = played(&rt, rt.alloc(), script, &[AMPLE], SOUND)?;
-    assert_eq!(rt; status, Status::Refused);
-    let text =
-        "line 1 refused UnknownCommand\nline 3 refused UnknownCommand\nline 4 refused UnknownCommand\n";
-    assert_eq!(rt; taken.as_slice(), text.as_bytes());
-    Ok(())
-}
-
-#[test]
-fn long_lines(rt: HostRuntime) -> Result<(), Fail> {
-    let rows = [
-        (9000, "", ""),
-        (9000, "\n", ""),
-        (9001, "", UNKNOWN),
-        (9001, "\n", UNKNOWN),
-        (9000, "\r\n", UNKNOWN),
-        (8999, "\r\n", ""),
-        (8999, "\r", ""),
-        (200_000, "\n#", UNKNOWN),
-        (70_000, "\n#\n\n", UNKNOWN),
-    ];
-    for (count, end, text) in rows {
-        let mut script = String::new(rt.alloc());
-        for _ in 0..count {
-            script.push('#')?;
-        }
-        script.push_str(end)?;
-        for size in [AMPLE, 1] {
-            let (status, taken) = played(&rt, rt.alloc(), script.as_bytes(), &[size], SOUND)?;
-            assert_eq!(rt; status == Status::Done, text.is_empty(), "{count} {end:?}");
-            assert_eq!(rt; taken.as_slice(), text.as_bytes(), "{count} {end:?}");
+fn single_lines(rt: HostRuntime) -> Result<(), Fail> {
+    for (lines, status, text) in KINDS {
+        let text = filled(rt.alloc(), text, BOARD_FIELDS)?;
+        for line in lines {
+            let script = script_of(rt.alloc(), &[Text(line)])?;
+            play(&rt, rt.alloc(), script.as_slice(), status, text.as_str())?;
         }
     }
     Ok(())
+}
+
+// Lines with bytes that are no text.
+const ANY_BYTES: [Row; 5] = [
+    (&[Bytes(b"\xFF\xFE")], Refused, UNKNOWN),
+    (&[Bytes(b"# \xFF\n#\x80\xBF")], Done, ""),
+    (&[Bytes(b"unplug 1 80\xC3\n")], Refused, UNKNOWN),
+    (&[Bytes(b"plug 1 80 \x80\xBF")], Refused, UNKNOWN),
+    (&[Bytes(b"config \xB1\n#")], Refused, UNKNOWN),
+];
+
+#[test]
+fn lines_of_any_bytes(rt: HostRuntime) -> Result<(), Fail> {
+    play_rows(&rt, rt.alloc(), &ANY_BYTES)
 }
