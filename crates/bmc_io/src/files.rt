@@ -48,6 +48,11 @@ impl From<AllocError> for FileFault {
 }
 
 impl From<io::Error> for FileFault {
+    ghost use Rattle.std.specs.IoError.{error_kind};
+    ghost use Rattle.bmc_io.specs.FileFaults.{fault_of};
+
+    ghost from_gives = { λ error fault. fault ≡ fault_of (error_kind error) };
+
     fn from(error: io::Error) -> Self {
         match error.kind() {
             ErrorKind::OutOfMemory => FileFault::OutOfMemory,

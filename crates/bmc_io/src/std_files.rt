@@ -80,7 +80,7 @@ fn read_piece<R: Read>(
 }
 
 // Reads to the end, or to one byte above the limit.
-#[tactic(auto, using(crate::proofs::StdFilesLemmas::gathered_more, crate::proofs::WholesLemmas::gathered_all, crate::proofs::WholesLemmas::gathered_longer))]
+#[tactic(auto, using(crate::proofs::StdFilesLemmas::gathered_more, crate::proofs::StdFilesLemmas::gathered_all, crate::proofs::StdFilesLemmas::gathered_longer))]
 pub(crate) fn read_to_limit<R: Read>(
     alloc: Global,
     reader: &mut R,

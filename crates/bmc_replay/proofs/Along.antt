@@ -1,6 +1,6 @@
 -- A run of the machine over the outside, so far.
 use Rattle.std.proofs.Common.{◌≡◌, ◌<◌, ◌≤◌, ◌+◌, ℕ, List, [], ◌∷◌, ◌++◌, length, Bool, true, false, ◌||◌, Option, Some, None, Ok, Err, refl, ap, sym, ◌∙◌, subst, arith, append_assoc, append-nil, length-append, string_bytes}
-use Rattle.std.specs.Prelude.{⊤, ◌^◌}
+use Rattle.std.specs.Prelude.{⊤}
 use Rattle.std.specs.Io.KnownBytes.{Consumes, IsAtEnd}
 use Rattle.std.proofs.KnownBytes.{Consumes-nil, Consumes-trans}
 use Rattle.bmc_base.specs.Calls.{Calls}
@@ -10,9 +10,12 @@ use Rattle.bmc_io.specs.Sinks.{Output, AppendsFront}
 use Rattle.bmc_io.proofs.ToldLemmas.{added_none, added_more}
 use Rattle.bmc_io.proofs.Fronts.{front_none, front_after, front_so_far, front_all}
 use Rattle.bmc_text.specs.Items.{Item, items_of}
-use Rattle.bmc_text.specs.Taking.{ItemFeed, item_next, TakesNextItem, TakesItem as IsTaken, SpendsItem}
+use Rattle.bmc_text.specs.Feeds.{ItemFeed, Reads, longest_script}
+use Rattle.bmc_text.specs.Faults.{HasFault}
+use Rattle.bmc_text.specs.NextItems.{item_next, TakesNextItem, TakesItem as IsTaken, LacksItem}
+use Rattle.bmc_text.specs.declared.lines.LineFault.{LineFault}
+use Rattle.bmc_text.specs.declared.lines.LineFault.TheVariants as faults
 use Rattle.bmc_text.specs.declared.items.NextItem.{NextItem}
-use Rattle.bmc_text.specs.declared.items.NextItem.TheVariants.{Line, LineTooLong, Block, BlockTooLong, BlockShort, End}
 use Rattle.bmc_report.specs.Refusals.{refused_line}
 use Rattle.bmc_machine.specs.Standings.{Standing}
 use Rattle.bmc_machine.specs.Histories.{Step, standing}
@@ -25,7 +28,7 @@ use Rattle.bmc_replay.specs.Runs.{Stands, Follows, TakesItem, TakesNext, IsNew}
 use Rattle.bmc_replay.specs.Gathering.{Gathers}
 use Rattle.bmc_replay.specs.Outside.{Outside, outside}
 use Rattle.bmc_replay.specs.Stops.{GetsNothing, StopsShort, StopsAt}
-use Rattle.bmc_replay.specs.Statuses.{Replays, WritesTold, Reaches, Takes, WritesWhole, WriteCause, status_of}
+use Rattle.bmc_replay.specs.Statuses.{Replays, WritesTold, Reaches, Takes, WritesWhole, WriteCause, stop_of, status_of}
 use Rattle.bmc_replay.proofs.SoFar.{SoFar, with_item, so_far_none, so_far_more, so_far_last, so_far_end, so_far_whole, number_after, answer_after}
 use Rattle.bmc_replay.proofs.StandsLemmas.{stands_none}
 
@@ -107,16 +110,25 @@ none_written None told = tt
 none_written (Some script) told = front_so_far told told [] (out script) (out script) (sym (added_none told)) refl
 
 -- nothing is taken yet
-pub none_taken : (before : Outside) → Takes before before (λ count. count ≤ (2 ^ 40))
+pub none_taken : (before : Outside) → Takes before before (λ count. count ≤ longest_script)
 none_taken before = record { bytes = []; consumed = Consumes-nil before.input.left; count = omega arith }
 
 -- a run stops before anything was read or written
 pub stops_unread : (old new : ItemFeed) (before : Outside) (text : List ℕ) → new.read ≡ old.read → StopsShort old new before before text
 stops_unread old new before text same = record {
-  piece = [];
-  consumed = Consumes-nil before.input.left;
-  read = omega (arith, same);
+  reading = record { piece = []; consumed = Consumes-nil before.input.left; count = omega (arith, same); bytes = tt };
   writing = front_none before.output.taken text;
+}
+
+-- it stops where the source gives no item, after what was gathered was written
+pub stops_reading : (fault : LineFault) (old new : ItemFeed) (input input_now : Input) (output output_now : Output) (text : List ℕ)
+    → output_now.taken ≡ added output.taken text → Reads old.waiting old.read new.read input input_now (LacksItem fault) → HasFault fault new.read input.calls input_now.calls
+    → StopsAt (stop_of fault) old new (outside input output) (outside input_now output_now) text
+stops_reading faults.ReadFault old new input input_now output output_now text writing lacks cause = record { reading = lacks; count = cause.1; writing = writing }
+stops_reading faults.Spent old new input input_now output output_now text writing lacks cause = record { reading = lacks; count = cause.1; writing = writing }
+stops_reading faults.OutOfMemory old new input input_now output output_now text writing lacks cause = record {
+  reading = record { piece = lacks.piece; consumed = lacks.consumed; count = lacks.count; bytes = tt };
+  writing = front_all output.taken output_now.taken text writing;
 }
 
 -- what is printed of the bytes that were taken is the front of what is printed of the script
@@ -221,7 +233,7 @@ along_whole : (before now new : Outside) (feed feed_now : ItemFeed) (run : Run) 
     → Along false before now feed run → GetsNothing feed feed_now now new (string_bytes run.text) IsCount → WritesWhole before new IsCount
 unfolding along_piece
 along_whole before now new feed feed_now run IsCount along gets =
-    let counted = along_piece before now new feed feed_now run gets.reading.piece IsCount along gets.reading.consumed gets.reading.read gets.count in
+    let counted = along_piece before now new feed feed_now run gets.reading.piece IsCount along gets.reading.consumed gets.reading.count gets.count in
     record {
       bytes = counted.bytes;
       consumed = counted.consumed;
@@ -230,33 +242,33 @@ along_whole before now new feed feed_now run IsCount along gets =
           gets.writing ∙ ap (λ (told : Told). added told (string_bytes run.text)) along.printed.told
           ∙ added_more before.output.taken along.printed.written (string_bytes run.text)
           ∙ ap (added before.output.taken) (along.printed.parts
-          ∙ sym (ap (λ (answer : Answer). answer.text) (so_far_whole along.taken feed.waiting gets.reading.piece run.number along.so_far along.machine gets.reading.none)));
+          ∙ sym (ap (λ (answer : Answer). answer.text) (so_far_whole along.taken feed.waiting gets.reading.piece run.number along.so_far along.machine gets.reading.bytes)));
     }
 
 -- the run stops where an item is wanted
-pub along_stops : (stop : Stop) (before now new : Outside) (feed feed_now : ItemFeed) (run : Run) → feed_now.read ≤ (2 ^ 40)
+pub along_stops : (stop : Stop) (before now new : Outside) (feed feed_now : ItemFeed) (run : Run) → feed_now.read ≤ longest_script
     → Along false before now feed run → StopsAt stop feed feed_now now new (string_bytes run.text)
     → Replays (status_of (Err stop)) before new × Reaches (status_of (Err stop)) before new
 along_stops stops.OutOfMemory before now new feed feed_now run limit along how =
     (stopped stops.OutOfMemory before.input.left before.output.taken new.output.taken (along_cut false before now new feed run along (λ no. absurd (cc)) how.writing),
-    along_piece before now new feed feed_now run how.piece (λ count. count ≤ (2 ^ 40)) along how.consumed how.read limit)
+    along_piece before now new feed feed_now run how.reading.piece (λ count. count ≤ longest_script) along how.reading.consumed how.reading.count limit)
 along_stops stops.WriteFault before now new feed feed_now run limit along how =
     (stopped stops.WriteFault before.input.left before.output.taken new.output.taken (along_cut false before now new feed run along (λ no. absurd (cc)) how.writing),
-    along_piece before now new feed feed_now run how.piece (λ count. count ≤ (2 ^ 40)) along how.consumed how.read limit)
+    along_piece before now new feed feed_now run how.reading.piece (λ count. count ≤ longest_script) along how.reading.consumed how.reading.count limit)
 along_stops stops.ReadFault before now new feed feed_now run limit along how =
     (stopped stops.ReadFault before.input.left before.output.taken new.output.taken
     (along_cut false before now new feed run along (λ no. absurd (cc)) (front_all now.output.taken new.output.taken (string_bytes run.text) how.writing)),
-    along_whole before now new feed feed_now run (λ count. count < (2 ^ 40)) along how)
+    along_whole before now new feed feed_now run (λ count. count < longest_script) along how)
 along_stops stops.TooLong before now new feed feed_now run limit along how =
     (stopped stops.TooLong before.input.left before.output.taken new.output.taken
     (along_cut false before now new feed run along (λ no. absurd (cc)) (front_all now.output.taken new.output.taken (string_bytes run.text) how.writing)),
-    along_whole before now new feed feed_now run (λ count. count ≡ (2 ^ 40)) along how)
+    along_whole before now new feed feed_now run (λ count. count ≡ longest_script) along how)
 
 -- the machine takes what came
 has_come : (item : Option Item) (ended : Bool) (taken waiting piece rest : List ℕ) (number : ℕ) (so_far : Answer)
     → SoFar taken waiting number so_far → IsTaken item ended (waiting ++ piece) rest
     → HasCome ended (taken ++ piece) rest (number_after number item) (answer_after so_far number item)
-has_come None false taken waiting piece rest number so_far machine none = absurd (let no = none.end in cc)
+has_come None false taken waiting piece rest number so_far machine none = absurd (let no = none.at_end in cc)
 has_come None true taken waiting piece rest number so_far machine none = so_far_end taken waiting piece rest number so_far true machine none
 has_come (Some item) true taken waiting piece rest number so_far machine last = so_far_last taken waiting piece rest number so_far item machine last
 has_come (Some item) false taken waiting piece rest number so_far machine begins = so_far_more taken waiting piece rest number so_far item machine begins
@@ -287,7 +299,7 @@ has_taken (Some item) so_far moved run_now stood refused takes =
 
 -- what came is taken, after what was gathered moved
 pub along_next : (next : NextItem) (before now new : Outside) (feed feed_now : ItemFeed) (run moved run_now : Run)
-    → moved ≡ record run { text = moved.text } → Along false before now feed run → TakesNextItem next feed feed_now now.input.left new.input.left
+    → moved ≡ record run { text = moved.text } → Along false before now feed run → TakesNextItem next feed feed_now now.input new.input
     → Gathers now.output.taken new.output.taken (string_bytes run.text) (string_bytes moved.text) [] → TakesNext (item_next next feed_now) moved run_now
     → Along feed_now.ended before new feed_now run_now
 unfolding along_piece
@@ -297,7 +309,7 @@ along_next next before now new feed feed_now run moved run_now same along came g
     let refused : moved.refused ≡ along.so_far.refused = ap (λ (run : Run). run.refused) same ∙ along.refused in
     let number : run.number ≡ moved.number = sym (ap (λ (run : Run). run.number) same) in
     let taken = has_taken item along.so_far moved run_now stood refused takes in
-    let counted = along_piece before now new feed feed_now run came.piece (λ n. n ≡ feed_now.read) along came.consumed came.read refl in
+    let counted = along_piece before now new feed feed_now run came.piece (λ n. n ≡ feed_now.read) along came.consumed came.count refl in
     record {
       taken = along.taken ++ came.piece;
       so_far = answer_after along.so_far moved.number item;
@@ -311,7 +323,7 @@ along_next next before now new feed feed_now run moved run_now same along came g
       machine =
           subst (λ (count : ℕ). HasCome feed_now.ended (along.taken ++ came.piece) feed_now.waiting count (answer_after along.so_far moved.number item)) (sym taken.number)
           (has_come item feed_now.ended along.taken feed.waiting came.piece feed_now.waiting moved.number along.so_far
-          (subst (λ (count : ℕ). SoFar along.taken feed.waiting count along.so_far) number along.machine) came.item);
+          (subst (λ (count : ℕ). SoFar along.taken feed.waiting count along.so_far) number along.machine) came.bytes);
     }
 
 -- what is gathered moves
@@ -376,33 +388,31 @@ ended_text before now new feed run at_end along text =
     ∙ ap (λ (text : List ℕ). text ++ final_list run.state.now.frus) along.printed.parts ∙ list_of before now feed run along))
 
 -- all was taken
-pub ended_reached : (before : Outside) (input : Input) (output output_now : Output) (feed : ItemFeed) (run : Run) → IsAtEnd input.left → feed.read < (2 ^ 40)
+pub ended_reached : (before : Outside) (input : Input) (output output_now : Output) (feed : ItemFeed) (run : Run) → IsAtEnd input.left → feed.read < longest_script
     → Along true before (outside input output) feed run → Reaches (status_of (Ok run.refused)) before (outside input output_now)
 ended_reached before input output output_now feed run at_end few along =
-    of run.refused (along_count true before input output output_now feed run (λ count. count < (2 ^ 40)) along few)
+    of run.refused (along_count true before input output output_now feed run (λ count. count < longest_script) along few)
   where
-    of : (refused : Bool) → Takes before (outside input output_now) (λ count. count < (2 ^ 40)) → Reaches (status_of (Ok refused)) before (outside input output_now)
+    of : (refused : Bool) → Takes before (outside input output_now) (λ count. count < longest_script) → Reaches (status_of (Ok refused)) before (outside input output_now)
     of true takes = (at_end, takes)
     of false takes = (at_end, takes)
 
 -- at least a byte was taken of an item that is not the end
-pub spends_item : (next : NextItem) (feed feed_now : ItemFeed) (bytes : List ℕ) → feed_now.ended ≡ false → IsTaken (item_next next feed_now) feed_now.ended bytes feed_now.waiting
-    → SpendsItem next feed feed_now → feed.read + length feed_now.waiting + 1 ≤ feed_now.read + length feed.waiting
-spends_item Line feed feed_now bytes going taken spends = spends
-spends_item LineTooLong feed feed_now bytes going taken spends = spends
-spends_item Block feed feed_now bytes going taken spends = spends
-spends_item BlockTooLong feed feed_now bytes going taken spends = spends
-spends_item BlockShort feed feed_now bytes going taken spends = spends
-spends_item End feed feed_now bytes going taken spends = absurd (let no = taken.end in cc)
+pub spends_item : (item : Option Item) (feed feed_now : ItemFeed) (piece : List ℕ) (ended : Bool) → ended ≡ false
+    → IsTaken item ended (feed.waiting ++ piece) feed_now.waiting → feed_now.read ≡ feed.read + length piece
+    → feed.read + length feed_now.waiting + 1 ≤ feed_now.read + length feed.waiting
+spends_item None feed feed_now piece ended going taken read = absurd (let no = taken.at_end in cc)
+spends_item (Some item) feed feed_now piece true going taken read = absurd (cc)
+spends_item (Some item) feed feed_now piece false going taken read = omega (arith, taken.shorter, read, length-append feed.waiting piece)
 
 -- the number of the next item
 pub numbered : (item : Option Item) (moved run_now : Run) (ended : Bool) (bytes rest : List ℕ) → ended ≡ false → IsTaken item ended bytes rest → TakesNext item moved run_now
     → run_now.number ≡ moved.number + 1
-numbered None moved run_now ended bytes rest going taken takes = absurd (let no = taken.end in cc)
+numbered None moved run_now ended bytes rest going taken takes = absurd (let no = taken.at_end in cc)
 numbered (Some item) moved run_now ended bytes rest going taken takes = takes.number
 
 -- a write in the final list stops for want of memory or by a fault of the sink
-pub stops_after : (stop : Stop) (before now : Outside) (calls calls_now : Calls) → Takes before now (λ count. count ≤ (2 ^ 40)) → WriteCause stop calls calls_now → Reaches (status_of (Err stop)) before now
+pub stops_after : (stop : Stop) (before now : Outside) (calls calls_now : Calls) → Takes before now (λ count. count ≤ longest_script) → WriteCause stop calls calls_now → Reaches (status_of (Err stop)) before now
 stops_after stops.OutOfMemory before now calls calls_now takes cause = takes
 stops_after stops.WriteFault before now calls calls_now takes cause = takes
 stops_after stops.ReadFault before now calls calls_now takes cause = absurd cause

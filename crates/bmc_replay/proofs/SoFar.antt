@@ -1,8 +1,8 @@
 -- How far the machine has come in a script.
 use Rattle.std.proofs.Common.{◌≡◌, ℕ, ◌+◌, List, [], ◌∷◌, ◌++◌, Bool, true, false, ◌||◌, refl, ap, sym, ◌∙◌, append_assoc, append-nil, Option, Some, None}
 use Rattle.bmc_text.specs.Items.{Item, cut_most, cut, items_of, whole_items}
-use Rattle.bmc_text.specs.Reading.{AreNone}
-use Rattle.bmc_text.specs.Taking.{BeginsWith, AreLast}
+use Rattle.bmc_text.specs.Lines.{AreNone}
+use Rattle.bmc_text.specs.NextItems.{BeginsWith, AreLast}
 use Rattle.bmc_report.specs.Refusals.{refused_line}
 use Rattle.bmc_machine.specs.Histories.{Step}
 use Rattle.bmc_machine.specs.Answers.{Answer, silent, answer, and_then, answers, answer_of, whole_answer_of}

@@ -1,9 +1,10 @@
 -- How a run ends: what it has written and taken by then, and why.
-use Rattle.std.specs.Prelude.{ℕ, ◌≡◌, ◌<◌, ◌≤◌, ◌^◌, Bool, true, false, List, length, ⊤, Option, Some, None, Result, Ok, Err}
+use Rattle.std.specs.Prelude.{ℕ, ◌≡◌, ◌<◌, ◌≤◌, Bool, true, false, List, length, ⊤, Option, Some, None, Result, Ok, Err}
 use Rattle.std.specs.Io.KnownBytes.{Consumes, IsAtEnd}
 use Rattle.bmc_base.specs.Calls.{Calls, Fails}
 use Rattle.bmc_io.specs.Told.{Told, added}
 use Rattle.bmc_io.specs.Sinks.{AppendsFront}
+use Rattle.bmc_text.specs.Feeds.{longest_script}
 use Rattle.bmc_text.specs.declared.lines.LineFault.{LineFault}
 use Rattle.bmc_text.specs.declared.lines.LineFault.TheVariants as faults
 use Rattle.bmc_machine.specs.Answers.{answer_of, whole_answer_of, out}
@@ -66,12 +67,12 @@ pub record WritesWhole (before now : Outside) (IsCount : ℕ → Type 0) : Type 
 -- fewer on ReadFault. On these two exactly the texts of the items that are whole in the bytes taken were written. No more than that
 -- was ever taken.
 abbrev pub Reaches : Status → Outside → Outside → Type 0
-Reaches Done before now = IsAtEnd now.input.left × Takes before now (λ count. count < (2 ^ 40))
-Reaches Refused before now = IsAtEnd now.input.left × Takes before now (λ count. count < (2 ^ 40))
-Reaches OutOfMemory before now = Takes before now (λ count. count ≤ (2 ^ 40))
-Reaches ReadFault before now = WritesWhole before now (λ count. count < (2 ^ 40))
-Reaches WriteFault before now = Takes before now (λ count. count ≤ (2 ^ 40))
-Reaches TooLong before now = WritesWhole before now (λ count. count ≡ (2 ^ 40))
+Reaches Done before now = IsAtEnd now.input.left × Takes before now (λ count. count < longest_script)
+Reaches Refused before now = IsAtEnd now.input.left × Takes before now (λ count. count < longest_script)
+Reaches OutOfMemory before now = Takes before now (λ count. count ≤ longest_script)
+Reaches ReadFault before now = WritesWhole before now (λ count. count < longest_script)
+Reaches WriteFault before now = Takes before now (λ count. count ≤ longest_script)
+Reaches TooLong before now = WritesWhole before now (λ count. count ≡ longest_script)
 
 -- no call of the source failed; none of the sink
 abbrev pub ReadsWell : Outside → Outside → Type 0

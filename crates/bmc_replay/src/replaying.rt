@@ -1,8 +1,9 @@
-ghost use Rattle.std.specs.Prelude.{◌≡◌, ◌<◌, ◌≤◌, ◌^◌, ◌++◌, [], true, false, Ok, Err, OnOk, OnErr, IfOk, IfErr, MatchResult, string_bytes};
+ghost use Rattle.std.specs.Prelude.{◌≡◌, ◌++◌, [], true, false, Ok, Err, OnOk, OnErr, IfOk, IfErr, MatchResult, string_bytes};
 ghost use Rattle.std.specs.Io.KnownBytes.{IsAtEnd};
 ghost use Rattle.bmc_io.specs.Told.{added};
 ghost use Rattle.bmc_io.specs.Sinks.{AppendsFront};
-ghost use Rattle.bmc_text.specs.Taking.{TakesNextItem, SpendsItem};
+ghost use Rattle.bmc_text.specs.Feeds.{IsWithin};
+ghost use Rattle.bmc_text.specs.NextItems.{TakesNextItem};
 ghost use Rattle.bmc_machine.specs.Answers.{final_list};
 ghost use Rattle.bmc_replay.specs.Gathering.{Gathers};
 ghost use Rattle.bmc_replay.specs.Outside.{outside};
@@ -27,13 +28,11 @@ fn advance<S: Source, K: Sink>(
     output: &mut K,
 ) -> Result<NextItem, Stop>
     requires { items.old.ended ≡ false }
-    ensures next { IfOk result (λ next. TakesNextItem next items.old items.new (S.seen input.old).left (S.seen input.new).left) }
-    ensures spends { IfOk result (λ next. SpendsItem next items.old items.new) }
+    ensures next { IfOk result (λ next. TakesNextItem next items.old items.new (S.seen input.old) (S.seen input.new)) }
     ensures gathered { OnOk result (Gathers (K.seen output.old).taken (K.seen output.new).taken (string_bytes text.old) (string_bytes text.new) []) }
     ensures at_end { OnOk result (items.new.ended ≡ true → IsAtEnd (S.seen input.new).left) }
     ensures stops { IfErr result (λ stop. StopsAt stop items.old items.new (outside (S.seen input.old) (K.seen output.old)) (outside (S.seen input.new) (K.seen output.new)) (string_bytes text.old)) }
-    ensures limit { items.new.read ≤ (2 ^ 40) }
-    ensures below { items.new.ended ≡ true → items.new.read < (2 ^ 40) }
+    ensures limit { IsWithin items.new.read items.new.ended }
     ensures reason { MatchResult result (λ _. HasReason Status.Done (outside (S.seen input.old) (K.seen output.old)) (outside (S.seen input.new) (K.seen output.new))) (λ stop. HasReason (status_of (Err stop)) (outside (S.seen input.old) (K.seen output.old)) (outside (S.seen input.new) (K.seen output.new))) }
 {
     if let Some(next) = items.next_buffered(alloc)? {

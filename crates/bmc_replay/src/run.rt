@@ -1,6 +1,6 @@
 ghost use Rattle.std.specs.Prelude.{◌≡◌, ◌<◌, ◌^◌, Ok, IfOk, OnOk, string_bytes};
 ghost use Rattle.bmc_text.specs.Items as items;
-ghost use Rattle.bmc_text.specs.Taking.{item_next};
+ghost use Rattle.bmc_text.specs.NextItems.{item_next};
 ghost use Rattle.bmc_machine.specs.Answers.{answer, answer_command};
 ghost use Rattle.bmc_replay.specs.Runs.{Answers, CountsItem, IsNew, TakesNext};
 

@@ -1,14 +1,15 @@
 -- What changes, as text.
 use Rattle.std.specs.Prelude.{ℕ, Bool, true, false, List, [], ◌++◌, codes, decimal, Option, Some, None}
 use Rattle.bmc_base.specs.Places.{Place}
-use Rattle.bmc_report.specs.Rows.{quoted}
+use Rattle.bmc_report.specs.Places.{place_text}
+use Rattle.bmc_report.specs.Quoted.{quoted}
 use Rattle.bmc_report.specs.declared.change.Change.{Change}
 use Rattle.bmc_report.specs.declared.change.Change.TheVariants.{Board}
 
 -- the place of a board; one without a place has no text there
 abbrev pub at_text : Option Place → List ℕ
 at_text None = []
-at_text (Some place) = codes " at " ++ decimal place.bus ++ codes " " ++ decimal place.address
+at_text (Some place) = codes " at " ++ place_text place
 
 abbrev pub verb_text : Bool → List ℕ
 verb_text true = codes "gone"

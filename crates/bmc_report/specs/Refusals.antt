@@ -1,5 +1,5 @@
 -- Why lines are refused, as text.
-use Rattle.std.specs.Prelude.{ℕ, List, ◌++◌, codes, decimal}
+use Rattle.std.specs.Prelude.{ℕ, List, [], ◌++◌, codes, decimal, Option, Some, None}
 use Rattle.fru_area.specs.declared.fault.Area.{Area}
 use Rattle.fru_area.specs.declared.fault.Area.TheVariants.{Chassis, Board, Product}
 use Rattle.bmc_report.specs.declared.refusal.Refusal.{Refusal}
@@ -15,32 +15,51 @@ area_text Chassis = codes "Chassis"
 area_text Board = codes "Board"
 area_text Product = codes "Product"
 
--- the name of a refusal; the name of a broken rule on areas is followed by its area
+-- the name of a refusal
+unfoldable pub refusal_name : Refusal → List ℕ
+refusal_name UnknownCommand = codes "UnknownCommand"
+refusal_name ConfigTooLong = codes "ConfigTooLong"
+refusal_name ConfigShort = codes "ConfigShort"
+refusal_name NotJson = codes "NotJson"
+refusal_name Fraction = codes "Fraction"
+refusal_name MissingKey = codes "MissingKey"
+refusal_name WrongKind = codes "WrongKind"
+refusal_name OutOfRange = codes "OutOfRange"
+refusal_name ProbeForm = codes "ProbeForm"
+refusal_name ConfigAfterPlug = codes "ConfigAfterPlug"
+refusal_name DuplicateName = codes "DuplicateName"
+refusal_name ConfigLimit = codes "ConfigLimit"
+refusal_name Occupied = codes "Occupied"
+refusal_name FruShort = codes "FruShort"
+refusal_name FruTooLong = codes "FruTooLong"
+refusal_name HeaderVersion = codes "HeaderVersion"
+refusal_name HeaderChecksum = codes "HeaderChecksum"
+refusal_name (AreaOutside area) = codes "AreaOutside"
+refusal_name (AreaVersion area) = codes "AreaVersion"
+refusal_name (AreaLength area) = codes "AreaLength"
+refusal_name (AreaChecksum area) = codes "AreaChecksum"
+refusal_name (FieldOutside area) = codes "FieldOutside"
+refusal_name (NoEnd area) = codes "NoEnd"
+refusal_name NotPresent = codes "NotPresent"
+
+-- the area that breaks a rule, if the rule is one on areas
+abbrev pub area_of : Refusal → Option Area
+area_of (AreaOutside area) = Some area
+area_of (AreaVersion area) = Some area
+area_of (AreaLength area) = Some area
+area_of (AreaChecksum area) = Some area
+area_of (FieldOutside area) = Some area
+area_of (NoEnd area) = Some area
+area_of _ = None
+
+-- the area is printed behind the name
+abbrev pub area_ending : Option Area → List ℕ
+area_ending None = []
+area_ending (Some area) = codes " " ++ area_text area
+
+-- what is printed of a refusal
 unfoldable pub refusal_text : Refusal → List ℕ
-refusal_text UnknownCommand = codes "UnknownCommand"
-refusal_text ConfigTooLong = codes "ConfigTooLong"
-refusal_text ConfigShort = codes "ConfigShort"
-refusal_text NotJson = codes "NotJson"
-refusal_text Fraction = codes "Fraction"
-refusal_text MissingKey = codes "MissingKey"
-refusal_text WrongKind = codes "WrongKind"
-refusal_text OutOfRange = codes "OutOfRange"
-refusal_text ProbeForm = codes "ProbeForm"
-refusal_text ConfigAfterPlug = codes "ConfigAfterPlug"
-refusal_text DuplicateName = codes "DuplicateName"
-refusal_text ConfigLimit = codes "ConfigLimit"
-refusal_text Occupied = codes "Occupied"
-refusal_text FruShort = codes "FruShort"
-refusal_text FruTooLong = codes "FruTooLong"
-refusal_text HeaderVersion = codes "HeaderVersion"
-refusal_text HeaderChecksum = codes "HeaderChecksum"
-refusal_text (AreaOutside area) = codes "AreaOutside " ++ area_text area
-refusal_text (AreaVersion area) = codes "AreaVersion " ++ area_text area
-refusal_text (AreaLength area) = codes "AreaLength " ++ area_text area
-refusal_text (AreaChecksum area) = codes "AreaChecksum " ++ area_text area
-refusal_text (FieldOutside area) = codes "FieldOutside " ++ area_text area
-refusal_text (NoEnd area) = codes "NoEnd " ++ area_text area
-refusal_text NotPresent = codes "NotPresent"
+refusal_text refusal = refusal_name refusal ++ area_ending (area_of refusal)
 
 -- what is printed of a line, by its number, that is refused
 abbrev pub refused_line : ℕ → Refusal → List ℕ

@@ -1,42 +1,71 @@
 ghost use Rattle.std.specs.Prelude.{◌≡◌, ◌++◌, OnOk, string_bytes};
-ghost use Rattle.bmc_report.specs.Changes.{at_text, change_line};
+ghost use Rattle.bmc_report.specs.Changes.{at_text, verb_text, change_text, change_line};
 
-use crate::row::push_quoted;
+use crate::decimal::push_decimal;
+use crate::place::push_place;
+use crate::quoted::push_quoted;
 use bmc_base::{Name, OutOfMemory, Place};
-use std::fmt::Write;
 
 /// What an event changed.
 #[derive(Drop)]
 pub enum Change {
-    /// A board is gone or new: its configuration's name, its index among the boards of that
-    /// configuration, from 1, and the place of the FRU that it was found by, if it was found by one.
+    /// A board is gone or new.
     Board {
+        /// Whether it is gone, and not new.
         gone: bool,
+        /// The name of its configuration.
         name: Name,
+        /// Its number among the boards of that configuration, from 1.
         index: u32,
+        /// The place of the FRU that it was found by, if it was found by one.
         place: Option<Place>,
     },
 }
 
+impl Change {
+    /// Returns an equal change. It takes no memory.
+    pub fn copied(&self) -> Change
+        ensures { result ≡ self.now }
+    {
+        match self {
+            Change::Board {
+                gone,
+                name,
+                index,
+                place,
+            } => Change::Board {
+                gone: *gone,
+                name: name.copied(),
+                index: *index,
+                place: *place,
+            },
+        }
+    }
+}
+
 // Appends where a board is, if it was found by a FRU at a place.
-fn push_place(out: &mut String, place: Option<Place>) -> Result<(), OutOfMemory>
+#[tactic(auto, using(std::proofs::Common::append_assoc))]
+fn push_at(out: &mut String, place: Option<Place>) -> Result<(), OutOfMemory>
     ensures { OnOk result (string_bytes out.new ≡ string_bytes out.old ++ at_text place) }
 {
-    match place {
-        Some(place) => {
-            let bus = place.bus();
-            let address = place.address();
-            write!(out, " at {bus} {address}")?;
-        }
-        None => {}
+    if let Some(place) = place {
+        out.push_str(" at ")?;
+        push_place(out, place)?;
     }
     Ok(())
 }
 
-/// Appends what is printed of a change at this tick.
+// What became of a board.
+fn verb(gone: bool) -> &'static str
+    ensures { result.now ≡ verb_text gone }
+{
+    if gone { "gone" } else { "new" }
+}
+
+// Appends what is printed of a change, without the tick.
 #[tactic(auto, using(std::proofs::Common::append_assoc), unfolding(crate::specs::Changes::change_text))]
-pub fn push_change(out: &mut String, tick: u64, change: &Change) -> Result<(), OutOfMemory>
-    ensures { OnOk result (string_bytes out.new ≡ string_bytes out.old ++ change_line tick change.now) }
+fn push_change_text(out: &mut String, change: &Change) -> Result<(), OutOfMemory>
+    ensures { OnOk result (string_bytes out.new ≡ string_bytes out.old ++ change_text change.now) }
 {
     match change {
         Change::Board {
@@ -45,13 +74,24 @@ pub fn push_change(out: &mut String, tick: u64, change: &Change) -> Result<(), O
             index,
             place,
         } => {
-            let verb = if *gone { "gone" } else { "new" };
-            write!(out, "{tick} {verb} board ")?;
+            out.push_str(verb(*gone))?;
+            out.push_str(" board ")?;
             push_quoted(out, name.as_str())?;
-            write!(out, " {index}")?;
-            push_place(out, *place)?;
+            out.push(' ')?;
+            push_decimal(out, u64::from(*index))?;
+            push_at(out, *place)
         }
     }
+}
+
+/// Appends the line that is printed of a change. `tick` counts the ticks before it, of 100 milliseconds each.
+#[tactic(auto, using(std::proofs::Common::append_assoc))]
+pub fn push_change(out: &mut String, tick: u64, change: &Change) -> Result<(), OutOfMemory>
+    ensures { OnOk result (string_bytes out.new ≡ string_bytes out.old ++ change_line tick change.now) }
+{
+    push_decimal(out, tick)?;
+    out.push(' ')?;
+    push_change_text(out, change)?;
     out.push('\n')?;
     Ok(())
 }

@@ -2,11 +2,16 @@
 #![tactic(auto)]
 
 mod change;
+mod decimal;
+mod examples;
+mod place;
+mod quoted;
 mod refusal;
 mod row;
 #[cfg(test)]
 mod tests;
 
 pub use change::{Change, push_change};
+pub use examples::printed_texts;
 pub use refusal::{Refusal, push_refused_line};
 pub use row::push_fru_row;

@@ -1,31 +1,31 @@
-ghost use Rattle.std.specs.Prelude.{◌≡◌, ◌++◌, Some, OnOk, string_bytes};
-ghost use Rattle.bmc_report.specs.Refusals.{area_text, refusal_text, refused_line};
+ghost use Rattle.std.specs.Prelude.{◌≡◌, ◌++◌, OnOk, string_bytes};
+ghost use Rattle.bmc_report.specs.Refusals.{area_text, refusal_name, area_of, area_ending, refusal_text, refused_line};
 
+use crate::decimal::push_decimal;
 use bmc_base::OutOfMemory;
 use fru_area::Area;
-use std::fmt;
-use std::fmt::Write;
 
-/// Why a line is refused. Its `Display` is the name that is printed, with the area where one broke its rule.
+/// Why a line is refused. Each variant has the name that is printed. A rule of records that an area breaks has
+/// that area, whose name is printed too.
 #[derive(Clone, Copy, Debug, PartialEq, Eq)]
 pub enum Refusal {
     /// The line is no command in its form.
     UnknownCommand,
-    /// The block of a configuration has more than 262,144 bytes.
+    /// The block has more than 262,144 bytes.
     ConfigTooLong,
-    /// The script ends within the block of a configuration.
+    /// The script ends within the block.
     ConfigShort,
-    /// The document is no JSON, or more than 127 of its values are nested.
+    /// The block is no JSON text in UTF-8, or nests deeper than 127.
     NotJson,
     /// A number of the document is no whole number of 64 bits.
     Fraction,
-    /// The document lacks a required member.
+    /// The document lacks a member that it has to have.
     MissingKey,
-    /// The document, or a member of it, has another JSON kind than its form.
+    /// The document or a member of it has another JSON kind than it has to have.
     WrongKind,
-    /// A text of the document is shorter or longer than its form.
+    /// A length in the document is out of its range.
     OutOfRange,
-    /// The probe of the document is no pattern in its form.
+    /// The probe of the document is not plain, or the document has exposes.
     ProbeForm,
     /// A FRU was plugged before the configuration.
     ConfigAfterPlug,
@@ -35,85 +35,124 @@ pub enum Refusal {
     ConfigLimit,
     /// A FRU is at the place already.
     Occupied,
-    /// The record has fewer than 8 bytes, so no common header.
+    /// The record has fewer than 8 bytes.
     FruShort,
     /// The record has more than 4,096 bytes.
     FruTooLong,
-    /// The format version of the common header is not 1.
+    /// The version of the common header is not 1 (FRU definition 1.0, section 8).
     HeaderVersion,
-    /// The bytes of the common header do not sum to 0.
+    /// The bytes of the common header do not sum to zero modulo 256.
     HeaderChecksum,
-    /// The area reaches beyond the record.
+    /// The area reaches past the end of the record.
     AreaOutside(Area),
-    /// The format version of the area is not 1.
+    /// The version of the area is not 1 (FRU definition 1.0, sections 10 to 12).
     AreaVersion(Area),
-    /// The area states a length of 0.
+    /// The length of the area is zero.
     AreaLength(Area),
-    /// The bytes of the area do not sum to 0.
+    /// The bytes of the area do not sum to zero modulo 256.
     AreaChecksum(Area),
-    /// A field reaches the checksum of the area or goes beyond it.
+    /// A field of the area reaches its checksum or past it (section 13).
     FieldOutside(Area),
-    /// No end mark stands before the checksum of the area.
+    /// No end mark C1h stands before the checksum of the area.
     NoEnd(Area),
     /// No FRU is at the place.
     NotPresent,
 }
 
-// The name of an area.
-#[derive(Clone, Copy)]
-struct AreaName(Area);
-
-#[tactic(auto, unfolding(crate::specs::Refusals::area_text))]
-impl fmt::Display for AreaName {
-    ghost output = { λ name. Some (area_text name.0) };
-
-    fn fmt<W: fmt::Write>(&self, f: &mut fmt::Formatter<W>) -> fmt::Result {
-        match self.0 {
-            Area::Chassis => f.write_str("Chassis"),
-            Area::Board => f.write_str("Board"),
-            Area::Product => f.write_str("Product"),
-        }
-    }
-}
-
-#[tactic(auto, unfolding(crate::specs::Refusals::refusal_text))]
-impl fmt::Display for Refusal {
-    ghost output = { λ refusal. Some (refusal_text refusal) };
-
-    fn fmt<W: fmt::Write>(&self, f: &mut fmt::Formatter<W>) -> fmt::Result {
+impl Refusal {
+    // The name, without the area.
+    #[tactic(auto, unfolding(crate::specs::Refusals::refusal_name))]
+    fn name(self) -> &'static str
+        ensures { result.now ≡ refusal_name self }
+    {
         match self {
-            Refusal::UnknownCommand => f.write_str("UnknownCommand"),
-            Refusal::ConfigTooLong => f.write_str("ConfigTooLong"),
-            Refusal::ConfigShort => f.write_str("ConfigShort"),
-            Refusal::NotJson => f.write_str("NotJson"),
-            Refusal::Fraction => f.write_str("Fraction"),
-            Refusal::MissingKey => f.write_str("MissingKey"),
-            Refusal::WrongKind => f.write_str("WrongKind"),
-            Refusal::OutOfRange => f.write_str("OutOfRange"),
-            Refusal::ProbeForm => f.write_str("ProbeForm"),
-            Refusal::ConfigAfterPlug => f.write_str("ConfigAfterPlug"),
-            Refusal::DuplicateName => f.write_str("DuplicateName"),
-            Refusal::ConfigLimit => f.write_str("ConfigLimit"),
-            Refusal::Occupied => f.write_str("Occupied"),
-            Refusal::FruShort => f.write_str("FruShort"),
-            Refusal::FruTooLong => f.write_str("FruTooLong"),
-            Refusal::HeaderVersion => f.write_str("HeaderVersion"),
-            Refusal::HeaderChecksum => f.write_str("HeaderChecksum"),
-            Refusal::AreaOutside(area) => write!(f, "AreaOutside {}", AreaName(*area)),
-            Refusal::AreaVersion(area) => write!(f, "AreaVersion {}", AreaName(*area)),
-            Refusal::AreaLength(area) => write!(f, "AreaLength {}", AreaName(*area)),
-            Refusal::AreaChecksum(area) => write!(f, "AreaChecksum {}", AreaName(*area)),
-            Refusal::FieldOutside(area) => write!(f, "FieldOutside {}", AreaName(*area)),
-            Refusal::NoEnd(area) => write!(f, "NoEnd {}", AreaName(*area)),
-            Refusal::NotPresent => f.write_str("NotPresent"),
+            Refusal::UnknownCommand => "UnknownCommand",
+            Refusal::ConfigTooLong => "ConfigTooLong",
+            Refusal::ConfigShort => "ConfigShort",
+            Refusal::NotJson => "NotJson",
+            Refusal::Fraction => "Fraction",
+            Refusal::MissingKey => "MissingKey",
+            Refusal::WrongKind => "WrongKind",
+            Refusal::OutOfRange => "OutOfRange",
+            Refusal::ProbeForm => "ProbeForm",
+            Refusal::ConfigAfterPlug => "ConfigAfterPlug",
+            Refusal::DuplicateName => "DuplicateName",
+            Refusal::ConfigLimit => "ConfigLimit",
+            Refusal::Occupied => "Occupied",
+            Refusal::FruShort => "FruShort",
+            Refusal::FruTooLong => "FruTooLong",
+            Refusal::HeaderVersion => "HeaderVersion",
+            Refusal::HeaderChecksum => "HeaderChecksum",
+            Refusal::AreaOutside(_) => "AreaOutside",
+            Refusal::AreaVersion(_) => "AreaVersion",
+            Refusal::AreaLength(_) => "AreaLength",
+            Refusal::AreaChecksum(_) => "AreaChecksum",
+            Refusal::FieldOutside(_) => "FieldOutside",
+            Refusal::NoEnd(_) => "NoEnd",
+            Refusal::NotPresent => "NotPresent",
+        }
+    }
+
+    // The area that breaks a rule, if the rule is one on areas.
+    fn area(self) -> Option<Area>
+        ensures { result ≡ area_of self }
+    {
+        match self {
+            Refusal::AreaOutside(area)
+            | Refusal::AreaVersion(area)
+            | Refusal::AreaLength(area)
+            | Refusal::AreaChecksum(area)
+            | Refusal::FieldOutside(area)
+            | Refusal::NoEnd(area) => Some(area),
+            _ => None,
         }
     }
 }
 
-/// Appends what is printed of a line, by its number from 1, that is refused.
+// The name of an area.
+#[tactic(auto, unfolding(crate::specs::Refusals::area_text))]
+fn area_name(area: Area) -> &'static str
+    ensures { result.now ≡ area_text area }
+{
+    match area {
+        Area::Chassis => "Chassis",
+        Area::Board => "Board",
+        Area::Product => "Product",
+    }
+}
+
+// Appends the area that breaks a rule, behind its name.
+#[tactic(auto, using(std::proofs::Common::append_assoc))]
+fn push_area(out: &mut String, area: Option<Area>) -> Result<(), OutOfMemory>
+    ensures { OnOk result (string_bytes out.new ≡ string_bytes out.old ++ area_ending area) }
+{
+    if let Some(area) = area {
+        out.push(' ')?;
+        out.push_str(area_name(area))?;
+    }
+    Ok(())
+}
+
+// Appends what is printed of a refusal.
+#[inline]
+#[tactic(auto, using(std::proofs::Common::append_assoc), unfolding(crate::specs::Refusals::refusal_text))]
+fn push_refusal(out: &mut String, refusal: Refusal) -> Result<(), OutOfMemory>
+    ensures { OnOk result (string_bytes out.new ≡ string_bytes out.old ++ refusal_text refusal) }
+{
+    out.push_str(refusal.name())?;
+    push_area(out, refusal.area())
+}
+
+/// Appends the line that is printed of a refused line of the script. `number` counts the lines of the script,
+/// from 1.
+#[tactic(auto, using(std::proofs::Common::append_assoc))]
 pub fn push_refused_line(out: &mut String, number: u64, refusal: Refusal) -> Result<(), OutOfMemory>
     ensures { OnOk result (string_bytes out.new ≡ string_bytes out.old ++ refused_line number refusal) }
 {
-    write!(out, "line {number} refused {refusal}\n")?;
+    out.push_str("line ")?;
+    push_decimal(out, number)?;
+    out.push_str(" refused ")?;
+    push_refusal(out, refusal)?;
+    out.push('\n')?;
     Ok(())
 }

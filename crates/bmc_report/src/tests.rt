@@ -119,6 +119,7 @@ fn lines_of_changes(rt: HostRuntime) -> Result<(), Fail> {
             place,
         };
         assert_printed(&rt, rt.alloc(), &change, text)?;
+        assert_printed(&rt, rt.alloc(), &change.copied(), text)?;
     }
     Ok(())
 }

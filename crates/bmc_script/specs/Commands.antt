@@ -18,9 +18,9 @@ None >>= f = None
 -- the place that these two words name
 unfoldable pub place_named : List ℕ → List ℕ → Option Place
 place_named bus address = do
-  b ← number bus
-  a ← number address
-  place_of b a
+  bus_number ← number bus
+  address_number ← number address
+  place_of bus_number address_number
 
 -- the bytes of at least two hexadecimal digits
 abbrev pub some_bytes : List ℕ → Option (List ℕ)
@@ -43,28 +43,33 @@ unplug_of rest = do
   Some (Unplug place)
 
 -- the command of this first word with what stands behind it
-abbrev pub verb_of : List ℕ → List ℕ → Option Command
-verb_of verb rest =
+abbrev pub verb_command : List ℕ → List ℕ → Option Command
+verb_command verb rest =
     if bytes_eq verb (codes "plug") then plug_of rest
     else if bytes_eq verb (codes "unplug") then unplug_of rest
     else None
 
+-- the command of a line that is no comment
 unfoldable pub words_of : List ℕ → Option Command
 words_of line = do
   verb ← split_space line
-  verb_of verb.0 verb.1
+  verb_command verb.0 verb.1
 
--- the command of a line: an empty one and a comment, which begins with # (35), do nothing
+-- what a comment begins with, `#`
+abbrev pub comment_mark : ℕ
+comment_mark = 35
+
+-- the command of a line: an empty one and a comment do nothing
 unfoldable pub command_of : List ℕ → Result Command ScriptFault
 command_of [] = Ok Nothing
-command_of (first ∷ rest) = if first == 35 then Ok Nothing else ok_or (words_of (first ∷ rest)) UnknownCommand
+command_of (first ∷ rest) = if first == comment_mark then Ok Nothing else ok_or (words_of (first ∷ rest)) UnknownCommand
 
--- the line has this command, or none
+-- what is answered of a line whose command is read so: just that, but for want of memory
 abbrev pub GivesCommand : Result Command ScriptFault → Result Command ScriptFault → Type 0
 GivesCommand (Ok command) read = read ≡ Ok command
 GivesCommand (Err UnknownCommand) read = read ≡ Err UnknownCommand
 GivesCommand (Err OutOfMemory) read = ⊤
 
--- the same, where the line has a command or none
-abbrev pub GivesOption : Result Command ScriptFault → Option Command → Type 0
-GivesOption result read = GivesCommand result (ok_or read UnknownCommand)
+-- the same, where no command is an unknown one
+abbrev pub GivesIfKnown : Result Command ScriptFault → Option Command → Type 0
+GivesIfKnown answer read = GivesCommand answer (ok_or read UnknownCommand)

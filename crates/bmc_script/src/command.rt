@@ -1,6 +1,6 @@
 ghost use Rattle.std.specs.Prelude.{◌≡◌, ◌<◌, ◌==◌, length, Some, IfSome, option_map, position};
 ghost use Rattle.bmc_text.specs.Words.{split_space};
-ghost use Rattle.bmc_script.specs.Commands.{GivesCommand, GivesOption, command_of, words_of, plug_of, unplug_of, place_named};
+ghost use Rattle.bmc_script.specs.Commands.{GivesCommand, GivesIfKnown, command_of, words_of, plug_of, unplug_of, place_named};
 
 use bmc_base::{Bytes, Place};
 use bmc_text::{HexFault, hex_bytes, read_number};
@@ -10,11 +10,12 @@ use thiserror::Error;
 /// What a line asks for.
 #[derive(Drop)]
 pub enum Command {
-    /// `plug B A HEX`: a FRU with these bytes appears at a place.
+    /// `plug B A HEX`: a FRU with these bytes appears at a place. HEX is two digits of either case for each byte,
+    /// and at least one byte. B and A have 1 to 9 digits.
     Plug(Place, Bytes),
-    /// `unplug B A`: the FRU at a place is taken away.
+    /// `unplug B A`: the FRU at a place goes away.
     Unplug(Place),
-    /// An empty line or a comment.
+    /// An empty line, or a comment, which begins with `#`.
     Nothing,
 }
 
@@ -24,20 +25,20 @@ pub enum ScriptFault {
     /// The line is no command in its form.
     #[error("unknown command")]
     UnknownCommand,
-    /// There was no memory.
+    /// There was no memory. It says nothing of the line.
     #[error("out of memory")]
     OutOfMemory,
 }
 
-// The first space.
+// Returns where the first space is.
 fn space(bytes: &[u8]) -> Option<usize>
-    ensures place { result ≡ position (λ byte. byte == 32) bytes.now }
+    ensures first { result ≡ position (λ byte. byte == 32) bytes.now }
     ensures within { IfSome result (λ at. at < length bytes.now) }
 {
     bytes.iter().position(|byte| *byte == b' ')
 }
 
-// A word, and what stands behind the space that ends it.
+// Splits bytes at the first space: a word, and what stands behind it.
 fn word(bytes: &[u8]) -> Option<(&[u8], &[u8])>
     ensures { option_map (λ parts. (parts.0.now, parts.1.now)) result ≡ split_space bytes.now }
 {
@@ -47,6 +48,7 @@ fn word(bytes: &[u8]) -> Option<(&[u8], &[u8])>
     }
 }
 
+// Reads a place, from a bus of 0 to 255 and an address of 0 to 127.
 #[inline]
 #[tactic(auto, unfolding(crate::specs::Commands::place_named))]
 fn read_place(bus: &[u8], address: &[u8]) -> Option<Place>
@@ -57,9 +59,10 @@ fn read_place(bus: &[u8], address: &[u8]) -> Option<Place>
     Place::new(bus, address)
 }
 
+// Reads what stands behind `plug `.
 #[tactic(auto, unfolding(crate::specs::Commands::plug_of))]
 fn read_plug(alloc: Global, rest: &[u8]) -> Result<Command, ScriptFault>
-    ensures { GivesOption result (plug_of rest.now) }
+    ensures { GivesIfKnown result (plug_of rest.now) }
 {
     let Some((bus, rest)) = word(rest) else {
         return Err(ScriptFault::UnknownCommand);
@@ -80,6 +83,7 @@ fn read_plug(alloc: Global, rest: &[u8]) -> Result<Command, ScriptFault>
     }
 }
 
+// Reads what stands behind `unplug `.
 #[inline(always)]
 #[tactic(auto, unfolding(crate::specs::Commands::unplug_of))]
 fn read_unplug(rest: &[u8]) -> Option<Command>
@@ -90,23 +94,22 @@ fn read_unplug(rest: &[u8]) -> Option<Command>
     Some(Command::Unplug(place))
 }
 
-#[tactic(auto, unfolding(crate::specs::Commands::words_of))]
+// Reads a line that is no comment. Its first word is compared and not searched for, which is faster.
 fn read_words(alloc: Global, line: &[u8]) -> Result<Command, ScriptFault>
-    ensures { GivesOption result (words_of line.now) }
+    ensures { GivesIfKnown result (words_of line.now) }
 {
-    let Some((verb, rest)) = word(line) else {
-        return Err(ScriptFault::UnknownCommand);
-    };
-    match verb {
-        b"plug" => read_plug(alloc, rest),
-        b"unplug" => read_unplug(rest).ok_or(ScriptFault::UnknownCommand),
-        _ => Err(ScriptFault::UnknownCommand),
+    if let Some(rest) = line.strip_prefix(b"plug ") {
+        return read_plug(alloc, rest);
+    }
+    match line.strip_prefix(b"unplug ") {
+        Some(rest) => read_unplug(rest).ok_or(ScriptFault::UnknownCommand),
+        None => Err(ScriptFault::UnknownCommand),
     }
 }
 
 impl Command {
-    /// The command of a line without its newline. `UnknownCommand` comes exactly where the line is
-    /// none: it may hold any bytes.
+    /// Reads the command of a line, without its newline. The line may hold any bytes, and `UnknownCommand` comes
+    /// exactly where it is no command in its form.
     #[tactic(auto, unfolding(crate::specs::Commands::command_of))]
     pub fn read(alloc: Global, line: &[u8]) -> Result<Command, ScriptFault>
         ensures { GivesCommand result (command_of line.now) }

@@ -2,7 +2,9 @@
 #![tactic(auto)]
 
 mod command;
+mod examples;
 #[cfg(test)]
 mod tests;
 
 pub use command::{Command, ScriptFault};
+pub use examples::commands_of_lines;

@@ -33,17 +33,28 @@ fn described(alloc: Global, line: &[u8]) -> Result<String, Fail> {
 fn reads_lines(rt: HostRuntime) -> Result<(), Fail> {
     let rows = [
         ("", "nothing"),
+        ("#", "nothing"),
         ("# unplug 1 80", "nothing"),
         ("plug 1 80 00", "plug 1 80 [0]"),
         ("plug 000000255 127 0aFFc0", "plug 255 127 [10, 255, 192]"),
         ("plug 1 80 0", "unknown command"),
+        ("plug 1 80 0g", "unknown command"),
+        ("plug 1 80 00 ", "unknown command"),
         ("plug 1 80 ", "unknown command"),
+        ("plug 1 80", "unknown command"),
+        ("plug 256 80 00", "unknown command"),
         ("unplug 0 9", "unplug 0 9"),
         ("unplug 000000001 000000080", "unplug 1 80"),
         ("unplug 0000000001 80", "unknown command"),
         ("unplug 256 80", "unknown command"),
         ("unplug 1 128", "unknown command"),
         ("unplug 1  80", "unknown command"),
+        ("unplug\t1 80", "unknown command"),
+        (" unplug 1 80", "unknown command"),
+        ("unplug 1 80 ", "unknown command"),
+        ("unplug", "unknown command"),
+        ("UNPLUG 1 80", "unknown command"),
+        ("remove 1 80", "unknown command"),
         ("\u{e9}", "unknown command"),
     ];
     for (line, words) in rows {

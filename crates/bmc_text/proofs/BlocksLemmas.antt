@@ -1,6 +1,7 @@
 -- Blocks that are taken of bytes.
-use Rattle.std.proofs.Common.{◌≡◌, ℕ, ◌+◌, ◌-◌, ◌≤◌, ◌<◌, List, [], ◌++◌, length, take, drop, Bool, true, cond, arith, ap, sym, ◌∙◌, refl, subst, length-append, length-take, length-drop, append-nil, inl, inr}
-use Rattle.std.specs.Prelude.{Option, Some, nat_lt}
+use Rattle.std.proofs.Common.{◌≡◌, ℕ, ◌-◌, ◌≤◌, ◌<◌, List, [], ◌++◌, length, take, drop, Bool, true, cond, arith, ap, sym, ◌∙◌, refl, subst}
+use Rattle.std.proofs.Common.{length-append, length-take, append-nil, inl, inr}
+use Rattle.std.specs.Prelude.{Some, nat_lt}
 use Rattle.std.proofs.lemmas.Bool.{cases_lt, lt-ltb, le-ltb}
 use Rattle.std.proofs.Math.Seq.{take-append-add, drop-append-add}
 use Rattle.bmc_text.specs.Blocks.{Part, HoldsFront, TakesBlockOf}
@@ -9,13 +10,16 @@ use Rattle.bmc_text.specs.Items.{Item, longest_block, behind_block, block_item, 
 use Rattle.bmc_text.proofs.ItemsLemmas.{whole_block-some}
 
 -- a choice by a limit, where the limit is passed and where it is not
-choose : {A : Type 0} (long fitting : A) (limit n : ℕ) → (limit < n → cond (nat_lt limit n) long fitting ≡ long) × (n ≤ limit → cond (nat_lt limit n) long fitting ≡ fitting)
-choose long fitting limit n = (λ above. ap (λ (t : Bool). cond t long fitting) (lt-ltb limit n above), λ within. ap (λ (t : Bool). cond t long fitting) (le-ltb limit n within))
+choose : {A : Type 0} (long fitting : A) (limit n : ℕ)
+    → (limit < n → cond (nat_lt limit n) long fitting ≡ long) × (n ≤ limit → cond (nat_lt limit n) long fitting ≡ fitting)
+choose long fitting limit n =
+    (λ above. ap (λ (t : Bool). cond t long fitting) (lt-ltb limit n above), λ within. ap (λ (t : Bool). cond t long fitting) (le-ltb limit n within))
 
 -- where all bytes are there that are wanted, the end changes nothing
 all_there : (n : ℕ) (bytes : List ℕ) → length bytes ≡ n → block_item n bytes ≡ last_block n bytes
 all_there n bytes all =
-    ap (λ (fitting : Item). cond (nat_lt longest_block n) items.BlockTooLong fitting) (sym ((choose items.BlockShort (items.Block bytes) (length bytes) n).1 (omega arith)))
+    ap (λ (fitting : Item). cond (nat_lt longest_block n) items.BlockTooLong fitting)
+    (sym ((choose items.BlockShort (items.Block bytes) (length bytes) n).1 (omega arith)))
 
 -- of a block that is too long no byte matters
 same_last : (n : ℕ) (bytes kept : List ℕ) → (n ≤ longest_block → kept ≡ bytes) → last_block n bytes ≡ last_block n kept
@@ -55,13 +59,15 @@ pub takes_rest : (part : Part) (front waiting kept rest : List ℕ) (item : Item
 takes_rest part front waiting kept rest item holds more bytes is behind =
     let all = front ++ take part.wanted waiting in
     let size : length all ≡ part.size = omega (arith, holds.size, length-append front (take part.wanted waiting), length-take part.wanted waiting) in
-    let before : take part.size (front ++ waiting) ≡ all = ap (λ (n : ℕ). take n (front ++ waiting)) (sym holds.size) ∙ take-append-add front waiting part.wanted in
+    let before : take part.size (front ++ waiting) ≡ all =
+    ap (λ (n : ℕ). take n (front ++ waiting)) (sym holds.size) ∙ take-append-add front waiting part.wanted in
     let after : drop part.size (front ++ waiting) ≡ drop part.wanted waiting =
     ap (λ (n : ℕ). drop n (front ++ waiting)) (sym holds.size) ∙ drop-append-add front waiting part.wanted in
     let same : last_block part.size all ≡ last_block part.size kept =
     same_last part.size all kept (λ within. bytes within ∙ ap (λ (xs : List ℕ). xs ++ take part.wanted waiting) (holds.bytes within)) in
     whole_block-some part.size (front ++ waiting) (omega (arith, holds.size, length-append front waiting))
-    ∙ ap (λ (found : Item). Some (found, behind_block (drop part.size (front ++ waiting)))) (ap (block_item part.size) before ∙ all_there part.size all size ∙ same ∙ sym is)
+    ∙ ap (λ (found : Item). Some (found, behind_block (drop part.size (front ++ waiting))))
+    (ap (block_item part.size) before ∙ all_there part.size all size ∙ same ∙ sym is)
     ∙ ap (λ (xs : List ℕ). Some (item, xs)) (ap behind_block after ∙ sym behind)
 
 -- the bytes are the front of a block, the last of which wait

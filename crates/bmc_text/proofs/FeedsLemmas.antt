@@ -1,7 +1,7 @@
 -- Pieces of a source that are read one behind the other.
-use Rattle.std.proofs.Common.{◌≡◌, ℕ, ◌+◌, ◌-◌, ◌≤◌, List, [], ◌++◌, length, take, drop, slice_range, arith, ap, sym, ◌∙◌, refl, Bool, subst, length-append, length-take, length-drop, append_assoc, append-nil}
+use Rattle.std.proofs.Common.{◌≡◌, ℕ, ◌+◌, ◌-◌, ◌≤◌, List, [], ◌++◌, length, take, drop, slice_range, arith, ap, sym, ◌∙◌, refl, subst, length-append}
+use Rattle.std.proofs.Common.{length-take, length-drop, append_assoc, append-nil}
 use Rattle.std.specs.Io.KnownBytes.{Consumes}
-use Rattle.std.specs.Prelude.{Option}
 use Rattle.std.proofs.KnownBytes.{Consumes-nil, Consumes-trans}
 use Rattle.std.proofs.lemmas.List.{nil_from_length, drop-drop}
 use Rattle.std.proofs.lemmas.Slice.{between_is}
@@ -20,7 +20,8 @@ pub ended_of : {feed is : Feed} → feed ≡ is → feed.ended ≡ is.ended
 ended_of e = ap (λ (feed : Feed). feed.ended) e
 
 -- nothing is read
-pub Reads-none : (waiting : List ℕ) (read read_now : ℕ) (input : Input) (Are : List ℕ → Type 0) → read_now ≡ read → Are waiting → Reads waiting read read_now input input Are
+pub Reads-none : (waiting : List ℕ) (read read_now : ℕ) (input : Input) (Are : List ℕ → Type 0) → read_now ≡ read → Are waiting
+    → Reads waiting read read_now input input Are
 Reads-none waiting read read_now input Are same are = record {
   piece = [];
   consumed = Consumes-nil input.left;
@@ -29,7 +30,8 @@ Reads-none waiting read read_now input Are same are = record {
 }
 
 -- and where no more was read, the bytes are those that waited
-pub Reads-waiting : {waiting : List ℕ} {read read_now : ℕ} {before now : Input} {Are : List ℕ → Type 0} → Reads waiting read read_now before now Are → read_now ≡ read → Are waiting
+pub Reads-waiting : {waiting : List ℕ} {read read_now : ℕ} {before now : Input} {Are : List ℕ → Type 0} → Reads waiting read read_now before now Are
+    → read_now ≡ read → Are waiting
 Reads-waiting {waiting} {read} {read_now} {before} {now} {Are} reads same =
     let none : reads.piece ≡ [] = nil_from_length reads.piece (omega (arith, reads.count)) in
     subst Are (ap (λ (piece : List ℕ). waiting ++ piece) none ∙ append-nil waiting) reads.bytes

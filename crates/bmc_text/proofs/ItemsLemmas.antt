@@ -1,17 +1,20 @@
 -- Bytes that are cut into items.
-use Rattle.std.proofs.Common.{◌≡◌, ℕ, zero, suc, ◌+◌, ◌≤◌, ◌<◌, List, [], ◌∷◌, ◌++◌, length, take, drop, Bool, true, false, cond, arith, ap, sym, ◌∙◌, refl, length-append, length-drop, append_assoc, inl, inr}
+use Rattle.std.proofs.Common.{◌≡◌, ℕ, zero, suc, ◌+◌, ◌≤◌, ◌<◌, List, [], ◌∷◌, ◌++◌, length, take, drop, Bool, true, false, cond, arith, ap, sym, ◌∙◌, refl}
+use Rattle.std.proofs.Common.{length-append, length-drop, append_assoc, inl, inr}
 use Rattle.std.specs.Prelude.{Option, Some, None, option_and_then}
 use Rattle.std.specs.List.{before_first, after_first, position_or_len}
 use Rattle.std.proofs.lemmas.Bool.{cases_lt, lt-ltb, le-ltb}
 use Rattle.std.proofs.lemmas.List.{take_at, drop_at, take-append-le, drop-append-le, take_all, drop_all}
 use Rattle.bmc_text.specs.Newlines.{HasNoNewline}
-use Rattle.bmc_text.specs.Items.{Item, is_newline, line_item, asks, behind_block, block_item, whole_block, whole_behind, whole_item, Cut, cut_off, cut_most, cut, whole_items, unfinished, last_behind, last_item, items_of}
+use Rattle.bmc_text.specs.Items.{Item, is_newline, line_item, asks, behind_block, block_item, whole_block, whole_behind, whole_item, Cut, cut_off, cut_most}
+use Rattle.bmc_text.specs.Items.{cut, whole_items, unfinished, last_behind, last_item, items_of}
 use Rattle.bmc_text.specs.NextItems.{BeginsWith}
 use Rattle.bmc_text.proofs.NewlinesLemmas.{position-none, position-line, len_none, len_line, Front, NoLine, LineThen, front_of}
 
 pub whole_item-none : (raw : List ℕ) → HasNoNewline raw → whole_item raw ≡ None
 unfolding whole_item
-whole_item-none raw h = ap (option_and_then (λ (at : ℕ). whole_behind (line_item (take at raw)) (asks (line_item (take at raw))) (drop (at + 1) raw))) (position-none raw h)
+whole_item-none raw h =
+    ap (option_and_then (λ (at : ℕ). whole_behind (line_item (take at raw)) (asks (line_item (take at raw))) (drop (at + 1) raw))) (position-none raw h)
 
 behind_line : (raw rest : List ℕ) → drop (length raw + 1) (raw ++ 10 ∷ rest) ≡ rest
 behind_line raw rest =
@@ -21,8 +24,11 @@ behind_line raw rest =
 pub whole_item-line : (raw rest : List ℕ) → HasNoNewline raw → whole_item (raw ++ 10 ∷ rest) ≡ whole_behind (line_item raw) (asks (line_item raw)) rest
 unfolding whole_item
 whole_item-line raw rest h =
-    ap (option_and_then (λ (at : ℕ). whole_behind (line_item (take at (raw ++ 10 ∷ rest))) (asks (line_item (take at (raw ++ 10 ∷ rest)))) (drop (at + 1) (raw ++ 10 ∷ rest)))) (position-line raw rest h)
-    ∙ ap (λ (line : List ℕ). whole_behind (line_item line) (asks (line_item line)) (drop (length raw + 1) (raw ++ 10 ∷ rest))) (take_at raw (10 ∷ rest) (length raw) refl)
+    ap (option_and_then
+    (λ (at : ℕ). whole_behind (line_item (take at (raw ++ 10 ∷ rest))) (asks (line_item (take at (raw ++ 10 ∷ rest)))) (drop (at + 1) (raw ++ 10 ∷ rest))))
+    (position-line raw rest h)
+    ∙ ap (λ (line : List ℕ). whole_behind (line_item line) (asks (line_item line)) (drop (length raw + 1) (raw ++ 10 ∷ rest)))
+    (take_at raw (10 ∷ rest) (length raw) refl)
     ∙ ap (whole_behind (line_item raw) (asks (line_item raw))) (behind_line raw rest)
 
 pub whole_block-some : (n : ℕ) (bytes : List ℕ) → n < length bytes → whole_block n bytes ≡ Some (block_item n (take n bytes), behind_block (drop n bytes))
@@ -68,24 +74,31 @@ block_shorter n bytes others item e =
       | inr l ↦ let cut = whole_block-none n bytes (omega arith) in absurd cc
     ]
 
-block_more : (n : ℕ) (bytes others more : List ℕ) (item : Item) → whole_block n bytes ≡ Some (item, others) → whole_block n (bytes ++ more) ≡ Some (item, others ++ more)
+block_more : (n : ℕ) (bytes others more : List ℕ) (item : Item) → whole_block n bytes ≡ Some (item, others)
+    → whole_block n (bytes ++ more) ≡ Some (item, others ++ more)
 block_more n bytes others more item e =
     elim (cases_lt n (length bytes)) [
       | inl l ↦
           let whole = whole_block-some n bytes l in
           let longer = whole_block-some n (bytes ++ more) (omega (arith, length-append bytes more)) in
           let front : take n (bytes ++ more) ≡ take n bytes = take-append-le n bytes more (omega arith) in
-          let behind : behind_block (drop n (bytes ++ more)) ≡ behind_block (drop n bytes) ++ more = ap behind_block (drop-append-le n bytes more (omega arith)) ∙ behind_block-more (drop n bytes) more (omega (arith, length-drop n bytes)) in
+          let behind : behind_block (drop n (bytes ++ more)) ≡ behind_block (drop n bytes) ++ more =
+          ap behind_block (drop-append-le n bytes more (omega arith)) ∙ behind_block-more (drop n bytes) more (omega (arith, length-drop n bytes)) in
           let same = same_found (sym e ∙ whole) in
-          longer ∙ ap (λ (found : Item × List ℕ). Some found) (ap (λ (xs : List ℕ). (block_item n xs, behind_block (drop n (bytes ++ more)))) front ∙ ap (λ (xs : List ℕ). (block_item n (take n bytes), xs)) (behind ∙ ap (λ (xs : List ℕ). xs ++ more) (sym same.1)) ∙ ap (λ (found : Item). (found, others ++ more)) (sym same.0))
+          longer ∙ ap (λ (found : Item × List ℕ). Some found)
+          (ap (λ (xs : List ℕ). (block_item n xs, behind_block (drop n (bytes ++ more)))) front
+          ∙ ap (λ (xs : List ℕ). (block_item n (take n bytes), xs)) (behind ∙ ap (λ (xs : List ℕ). xs ++ more) (sym same.1))
+          ∙ ap (λ (found : Item). (found, others ++ more)) (sym same.0))
       | inr l ↦ let cut = whole_block-none n bytes (omega arith) in absurd cc
     ]
 
-behind_shorter : (line : Item) (asked : Option ℕ) (bytes others : List ℕ) (item : Item) → whole_behind line asked bytes ≡ Some (item, others) → length others ≤ length bytes
+behind_shorter : (line : Item) (asked : Option ℕ) (bytes others : List ℕ) (item : Item) → whole_behind line asked bytes ≡ Some (item, others)
+    → length others ≤ length bytes
 behind_shorter line None bytes others item e = let same = (same_found e).1 in omega (arith, ap length same)
 behind_shorter line (Some n) bytes others item e = block_shorter n bytes others item e
 
-behind_more : (line : Item) (asked : Option ℕ) (bytes others more : List ℕ) (item : Item) → whole_behind line asked bytes ≡ Some (item, others) → whole_behind line asked (bytes ++ more) ≡ Some (item, others ++ more)
+behind_more : (line : Item) (asked : Option ℕ) (bytes others more : List ℕ) (item : Item) → whole_behind line asked bytes ≡ Some (item, others)
+    → whole_behind line asked (bytes ++ more) ≡ Some (item, others ++ more)
 behind_more line None bytes others more item e =
     let same = same_found e in ap (λ (found : Item). Some (found, bytes ++ more)) same.0 ∙ ap (λ (xs : List ℕ). Some (item, xs ++ more)) same.1
 behind_more line (Some n) bytes others more item e = block_more n bytes others more item e
@@ -100,7 +113,8 @@ shorter_from bytes others item (LineThen raw rest none parts) e =
 item_shorter : (bytes others : List ℕ) (item : Item) → whole_item bytes ≡ Some (item, others) → length others < length bytes
 item_shorter bytes others item e = shorter_from bytes others item (front_of bytes) e
 
-more_from : (bytes others more : List ℕ) (item : Item) → Front bytes → whole_item bytes ≡ Some (item, others) → whole_item (bytes ++ more) ≡ Some (item, others ++ more)
+more_from : (bytes others more : List ℕ) (item : Item) → Front bytes → whole_item bytes ≡ Some (item, others)
+    → whole_item (bytes ++ more) ≡ Some (item, others ++ more)
 more_from bytes others more item (NoLine none) e = let no = whole_item-none bytes none in absurd cc
 more_from bytes others more item (LineThen raw rest none parts) e =
     ap whole_item (ap (λ (xs : List ℕ). xs ++ more) parts ∙ append_assoc raw (10 ∷ rest) more) ∙ whole_item-line raw (rest ++ more) none
@@ -119,7 +133,8 @@ unfolding cut_most
 cut_most-none zero bytes h = refl
 cut_most-none (suc most) bytes h = ap (cut_off (cut_most most) bytes) h
 
-cut_most-item : (most : ℕ) (bytes others : List ℕ) (item : Item) → whole_item bytes ≡ Some (item, others) → cut_most (suc most) bytes ≡ put_on item (cut_most most others)
+cut_most-item : (most : ℕ) (bytes others : List ℕ) (item : Item) → whole_item bytes ≡ Some (item, others)
+    → cut_most (suc most) bytes ≡ put_on item (cut_most most others)
 unfolding cut_most
 cut_most-item most bytes others item h = ap (cut_off (cut_most most) bytes) h
 
@@ -174,11 +189,14 @@ begins_with bytes others item e = record {
 }
 
 -- the last item of bytes with no item that is whole
-last_of : (bytes : List ℕ) → 0 < length bytes → last_item bytes ≡ last_behind (line_item (before_first is_newline bytes)) (asks (line_item (before_first is_newline bytes))) (after_first is_newline bytes) ∷ []
+last_of : (bytes : List ℕ) → 0 < length bytes
+    → last_item bytes
+    ≡ last_behind (line_item (before_first is_newline bytes)) (asks (line_item (before_first is_newline bytes))) (after_first is_newline bytes) ∷ []
 last_of [] l = absurd (omega arith)
 last_of (byte ∷ bytes) l = refl
 
-last_parts : (bytes raw rest : List ℕ) → 0 < length bytes → before_first is_newline bytes ≡ raw → after_first is_newline bytes ≡ rest → last_item bytes ≡ last_behind (line_item raw) (asks (line_item raw)) rest ∷ []
+last_parts : (bytes raw rest : List ℕ) → 0 < length bytes → before_first is_newline bytes ≡ raw → after_first is_newline bytes ≡ rest
+    → last_item bytes ≡ last_behind (line_item raw) (asks (line_item raw)) rest ∷ []
 last_parts bytes raw rest l before after =
     last_of bytes l
     ∙ ap (λ (line : List ℕ). last_behind (line_item line) (asks (line_item line)) (after_first is_newline bytes) ∷ []) before
@@ -192,7 +210,8 @@ items_of-last raw l h =
     ∙ last_parts raw raw [] l (take_all (position_or_len is_newline raw) raw (omega arith)) (drop_all (position_or_len is_newline raw + 1) raw (omega arith))
 
 -- a line whose block the end cuts is the last item
-pub items_of-cut : (raw rest : List ℕ) → HasNoNewline raw → whole_behind (line_item raw) (asks (line_item raw)) rest ≡ None → items_of (raw ++ 10 ∷ rest) ≡ last_behind (line_item raw) (asks (line_item raw)) rest ∷ []
+pub items_of-cut : (raw rest : List ℕ) → HasNoNewline raw → whole_behind (line_item raw) (asks (line_item raw)) rest ≡ None
+    → items_of (raw ++ 10 ∷ rest) ≡ last_behind (line_item raw) (asks (line_item raw)) rest ∷ []
 items_of-cut raw rest h none =
     let at : position_or_len is_newline (raw ++ 10 ∷ rest) ≡ length raw = len_line raw rest h in
     ap (λ (c : Cut). c.items ++ last_item c.rest) (cut-none (raw ++ 10 ∷ rest) (whole_item-line raw rest h ∙ none))
@@ -229,7 +248,8 @@ line_alone raw (Some n) none e =
     ap length
     (items_of-cut raw [] none (ap (λ (size : Option ℕ). whole_behind (line_item raw) size []) e ∙ whole_block-none n [] (omega arith)))
 
-block_alone : (raw rest : List ℕ) (n : ℕ) → HasNoNewline raw → asks (line_item raw) ≡ Some n → length rest ≤ n → length (items_of (raw ++ 10 ∷ (rest ++ 10 ∷ []))) ≡ 1
+block_alone : (raw rest : List ℕ) (n : ℕ) → HasNoNewline raw → asks (line_item raw) ≡ Some n → length rest ≤ n
+    → length (items_of (raw ++ 10 ∷ (rest ++ 10 ∷ []))) ≡ 1
 block_alone raw rest n none e few =
     let behind = whole_item-line raw (rest ++ 10 ∷ []) none ∙ ap (λ (size : Option ℕ). whole_behind (line_item raw) size (rest ++ 10 ∷ [])) e in
     elim (cases_lt n (length (rest ++ 10 ∷ []))) [
@@ -239,7 +259,8 @@ block_alone raw rest n none e few =
           (behind ∙ whole_block-some n (rest ++ 10 ∷ []) more
           ∙ ap (λ (xs : List ℕ). Some (block_item n (take n (rest ++ 10 ∷ [])), behind_block xs)) (drop_at rest (10 ∷ []) n all))
       | inr few_now ↦ ap length
-          (items_of-cut raw (rest ++ 10 ∷ []) none (ap (λ (size : Option ℕ). whole_behind (line_item raw) size (rest ++ 10 ∷ [])) e ∙ whole_block-none n (rest ++ 10 ∷ []) (omega arith)))
+          (items_of-cut raw (rest ++ 10 ∷ []) none
+          (ap (λ (size : Option ℕ). whole_behind (line_item raw) size (rest ++ 10 ∷ [])) e ∙ whole_block-none n (rest ++ 10 ∷ []) (omega arith)))
     ]
 
 block_few : (raw rest : List ℕ) (asked : Option ℕ) → HasNoNewline raw → asks (line_item raw) ≡ asked → whole_behind (line_item raw) asked rest ≡ None

@@ -1,5 +1,6 @@
 -- Lines that are taken of bytes.
-use Rattle.std.proofs.Common.{◌≡◌, ℕ, ◌+◌, ◌<◌, ◌≤◌, List, [], ◌∷◌, ◌++◌, length, take, drop, Bool, true, false, arith, ap, sym, ◌∙◌, refl, subst, length-append, append_assoc, append-nil}
+use Rattle.std.proofs.Common.{◌≡◌, ℕ, ◌+◌, ◌<◌, List, [], ◌∷◌, ◌++◌, length, take, drop, Bool, true, false, arith, ap, sym, ◌∙◌, refl, subst}
+use Rattle.std.proofs.Common.{length-append, append_assoc, append-nil}
 use Rattle.std.specs.Prelude.{Option, Some}
 use Rattle.std.proofs.lemmas.Grind.{common_steps}
 use Rattle.bmc_text.specs.Items as items
@@ -23,7 +24,8 @@ begins_behind front waiting rest at none newline behind = record {
 }
 
 -- the line at the front, whose newline stands there
-pub takes_line : (got : Got) (line waiting rest : List ℕ) (at : ℕ) → line_got got line ≡ Some (line_item (take at waiting)) → IsNewline waiting at → rest ≡ drop (at + 1) waiting
+pub takes_line : (got : Got) (line waiting rest : List ℕ) (at : ℕ) → line_got got line ≡ Some (line_item (take at waiting)) → IsNewline waiting at
+    → rest ≡ drop (at + 1) waiting
     → TakesLine (line_got got line) false waiting rest
 takes_line got line waiting rest at item newline behind =
     subst (λ (found : Option Item). TakesLine found false waiting rest) (sym item) (begins_behind [] waiting rest at HasNoNewline-nil newline behind)
@@ -59,7 +61,8 @@ pub takes_long : (bytes more rest : List ℕ) (at : ℕ) (ended : Bool) → AreT
     → TakesLine (Some items.LineTooLong) ended (bytes ++ more) rest
 takes_long bytes more rest at ended are newline behind going =
     subst (λ (e : Bool). TakesLine (Some items.LineTooLong) e (bytes ++ more) rest) (sym going)
-    (subst (λ (found : Item). BeginsWithLine (bytes ++ more) found rest) (too_long (bytes ++ take at more) (omega (arith, are.long, length-append bytes (take at more))))
+    (subst (λ (found : Item). BeginsWithLine (bytes ++ more) found rest)
+    (too_long (bytes ++ take at more) (omega (arith, are.long, length-append bytes (take at more))))
     (begins_behind bytes more rest at are.none newline behind))
 
 -- it ends with the script

@@ -1,5 +1,6 @@
 -- Newlines in bytes.
-use Rattle.std.proofs.Common.{◌≡◌, ◌≢◌, ℕ, zero, suc, ◌+◌, ◌≤◌, ◌<◌, List, [], ◌∷◌, ◌++◌, length, take, drop, slice_index, cond, not, ltb, Bool, arith, ap, sym, ◌∙◌, refl, subst, length-append, length-take, length-drop, inl, inr, ◌-◌}
+use Rattle.std.proofs.Common.{◌≡◌, ◌≢◌, ℕ, zero, suc, ◌+◌, ◌≤◌, ◌<◌, List, [], ◌∷◌, ◌++◌, length, take, drop, slice_index, cond, not, ltb, Bool, arith, ap}
+use Rattle.std.proofs.Common.{sym, ◌∙◌, refl, subst, length-append, length-take, length-drop, inl, inr, ◌-◌}
 use Rattle.std.specs.Prelude.{Some, None, ◌==◌, position, ◌⊎◌}
 use Rattle.std.specs.List.{position_or_len}
 use Rattle.std.proofs.lemmas.Bool.{ne_eqb, lt-ltb, le-ltb, cases_eq, cases_lt, eq-eqb, eqb-true}
@@ -24,7 +25,8 @@ HasNoNewline-tail b bytes none k l = none (suc k) (omega arith)
 
 pub HasNoNewline-append : (front bytes : List ℕ) → HasNoNewline front → HasNoNewline bytes → HasNoNewline (front ++ bytes)
 HasNoNewline-append [] bytes h none = none
-HasNoNewline-append (b ∷ front) bytes h none = HasNoNewline-cons b (front ++ bytes) (h 0 (omega arith)) (HasNoNewline-append front bytes (HasNoNewline-tail b front h) none)
+HasNoNewline-append (b ∷ front) bytes h none =
+    HasNoNewline-cons b (front ++ bytes) (h 0 (omega arith)) (HasNoNewline-append front bytes (HasNoNewline-tail b front h) none)
 
 pub HasNoNewline-take : (bytes : List ℕ) (at : ℕ) → IsNewline bytes at → HasNoNewline (take at bytes)
 HasNoNewline-take bytes at h k l =
@@ -40,7 +42,8 @@ HasNoNewline-front n bytes more all parts within none =
 pub newline_parts : (bytes : List ℕ) (at : ℕ) → IsNewline bytes at → bytes ≡ take at bytes ++ 10 ∷ drop (at + 1) bytes
 newline_parts bytes at h =
     let next : at + 1 ≡ suc at = omega arith in
-    sym (take-append-drop at bytes) ∙ ap (λ (rest : List ℕ). take at bytes ++ rest) (drop-cons bytes at 0 h.within ∙ ap (λ (b : ℕ). b ∷ drop (suc at) bytes) h.found)
+    sym (take-append-drop at bytes)
+    ∙ ap (λ (rest : List ℕ). take at bytes ++ rest) (drop-cons bytes at 0 h.within ∙ ap (λ (b : ℕ). b ∷ drop (suc at) bytes) h.found)
     ∙ ap (λ (n : ℕ). take at bytes ++ 10 ∷ drop n bytes) (sym next)
 
 step : (b n len : ℕ) → b ≢ 10 → n ≡ len → cond (not (b == 10)) (1 + n) 0 ≡ suc len
@@ -52,7 +55,8 @@ len_none (b ∷ raw) h = step b (position_or_len is_newline raw) (length raw) (h
 
 pub len_line : (raw rest : List ℕ) → HasNoNewline raw → position_or_len is_newline (raw ++ 10 ∷ rest) ≡ length raw
 len_line [] rest h = refl
-len_line (b ∷ raw) rest h = step b (position_or_len is_newline (raw ++ 10 ∷ rest)) (length raw) (h 0 (omega arith)) (len_line raw rest (HasNoNewline-tail b raw h))
+len_line (b ∷ raw) rest h =
+    step b (position_or_len is_newline (raw ++ 10 ∷ rest)) (length raw) (h 0 (omega arith)) (len_line raw rest (HasNoNewline-tail b raw h))
 
 placed : (at n len : ℕ) → at ≡ n → n < len → cond (ltb at len) (Some at) None ≡ Some n
 placed at n len e l = ap (λ (m : ℕ). cond (ltb m len) (Some m) None) e ∙ ap (λ (t : Bool). cond t (Some n) None) (lt-ltb n len l)
@@ -64,7 +68,9 @@ pub position-none : (raw : List ℕ) → HasNoNewline raw → position is_newlin
 position-none raw h = nowhere (position_or_len is_newline raw) (length raw) (len_none raw h)
 
 pub position-line : (raw rest : List ℕ) → HasNoNewline raw → position is_newline (raw ++ 10 ∷ rest) ≡ Some (length raw)
-position-line raw rest h = placed (position_or_len is_newline (raw ++ 10 ∷ rest)) (length raw) (length (raw ++ 10 ∷ rest)) (len_line raw rest h) (omega (arith, length-append raw (10 ∷ rest)))
+position-line raw rest h =
+    placed (position_or_len is_newline (raw ++ 10 ∷ rest)) (length raw) (length (raw ++ 10 ∷ rest)) (len_line raw rest h)
+    (omega (arith, length-append raw (10 ∷ rest)))
 
 -- how bytes begin: with a line, or they have no newline
 pub data Front (bytes : List ℕ) : Type 0 where
@@ -94,7 +100,8 @@ not_yet : (bytes behind : List ℕ) (from end k : ℕ) → behind ≡ drop from 
 not_yet bytes behind from end k e l none nowhere h =
     elim (cases_lt k from) [
       | inl below ↦ before bytes from k l none below
-      | inr above ↦ λ is. nowhere (k - from) (omega arith) (omega arith) (eq-eqb (slice_index behind (k - from)) 10 (index_behind bytes behind from k e above ∙ is))
+      | inr above ↦ λ is. nowhere (k - from) (omega arith) (omega arith)
+          (eq-eqb (slice_index behind (k - from)) 10 (index_behind bytes behind from k e above ∙ is))
     ]
 
 pub no_newline-behind : (bytes behind : List ℕ) (from : ℕ) → behind ≡ drop from bytes → from ≤ length bytes → HasNoNewline (take from bytes)

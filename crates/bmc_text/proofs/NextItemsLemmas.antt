@@ -1,20 +1,20 @@
 -- A line, with the block that it asks for, as an item.
-use Rattle.std.proofs.Common.{◌≡◌, ◌≢◌, inl, inr, ℕ, ◌+◌, ◌≤◌, ◌<◌, List, [], ◌∷◌, ◌++◌, length, take, drop, Bool, true, false, arith, ap, sym, ◌∙◌, refl, subst, length-append, length-take, append_assoc, append-nil}
+use Rattle.std.proofs.Common.{◌≡◌, ◌≢◌, inl, inr, ℕ, ◌+◌, ◌≤◌, ◌<◌, List, [], ◌∷◌, ◌++◌, length, take, drop, Bool, true, false, arith, ap, sym, ◌∙◌, refl}
+use Rattle.std.proofs.Common.{subst, length-take, append_assoc, append-nil}
 use Rattle.std.specs.Prelude.{Option, Some, None, IsSomeAnd, option_and_then}
-use Rattle.std.specs.List.{before_first, position_or_len}
+use Rattle.std.specs.List.{position_or_len}
 use Rattle.std.proofs.lemmas.Bool.{cases_lt}
 use Rattle.std.proofs.lemmas.List.{take_at, take_all, take-take, nil_from_length}
 use Rattle.bmc_io.specs.Sources.{Input}
 use Rattle.bmc_text.specs.Newlines.{HasNoNewline, IsNewline}
 use Rattle.bmc_text.specs.Feeds.{Feed, ItemFeed, Reads}
-use Rattle.bmc_text.specs.Items.{Item, longest_block, is_newline, line_item, asks, asked_first, whole_block, whole_behind, whole_item, whole_items, last_block, last_behind, items_of}
+use Rattle.bmc_text.specs.Items.{Item, longest_block, is_newline, line_item, asks, asked_first, whole_block, whole_behind, whole_item, whole_items}
+use Rattle.bmc_text.specs.Items.{last_block, last_behind, items_of}
 use Rattle.bmc_text.specs.Lines.{TakesLine, TakesNext, line_got}
-use Rattle.bmc_text.specs.Blocks.{TakesBlockOf, TakesBlock, LacksBlock, item_of_block}
+use Rattle.bmc_text.specs.Blocks.{TakesBlockOf, LacksBlock}
 use Rattle.bmc_text.specs.NextItems.{item_next, TakesItem, TakesNextItem, WantsMemory, LacksItem}
-use Rattle.bmc_text.specs.declared.block.Block.{Block}
 use Rattle.bmc_text.specs.declared.items.NextItem.{NextItem}
 use Rattle.bmc_text.specs.declared.lines.Got.{Got}
-use Rattle.bmc_text.specs.declared.lines.Got.TheVariants.{End}
 use Rattle.bmc_text.specs.declared.lines.LineFault.{LineFault}
 use Rattle.bmc_text.specs.declared.lines.LineFault.TheVariants.{ReadFault, Spent, OutOfMemory}
 use Rattle.bmc_text.proofs.NewlinesLemmas.{newline_parts, HasNoNewline-take, len_none, len_line}
@@ -26,7 +26,8 @@ abbrev pub seen : Feed → List ℕ → ItemFeed
 seen feed block = record { line = feed.line; block = block; waiting = feed.waiting; read = feed.read; ended = feed.ended }
 
 -- a line that asks for no block is an item
-pub alone : (found : Option Item) (ended : Bool) (bytes rest : List ℕ) → option_and_then asks found ≡ None → TakesLine found ended bytes rest → TakesItem found ended bytes rest
+pub alone : (found : Option Item) (ended : Bool) (bytes rest : List ℕ) → option_and_then asks found ≡ None → TakesLine found ended bytes rest
+    → TakesItem found ended bytes rest
 alone None ended bytes rest none line = line
 alone (Some item) false bytes rest none line =
     begins_with bytes rest item
@@ -48,7 +49,8 @@ none_left : (rest piece : List ℕ) → rest ≡ [] → piece ≡ [] → rest ++
 none_left rest piece r p = ap (λ (xs : List ℕ). xs ++ piece) r ∙ p
 
 -- a line and its block are an item
-with_block : (item block : Item) (n : ℕ) (ended ended_now : Bool) (bytes rest piece others : List ℕ) → TakesLine (Some item) ended bytes rest → asks item ≡ Some n → (ended ≡ true → piece ≡ [])
+with_block : (item block : Item) (n : ℕ) (ended ended_now : Bool) (bytes rest piece others : List ℕ) → TakesLine (Some item) ended bytes rest
+    → asks item ≡ Some n → (ended ≡ true → piece ≡ [])
     → TakesBlockOf n block ended_now (rest ++ piece) others → TakesItem (Some block) ended_now (bytes ++ piece) others
 with_block item block n false false bytes rest piece others line asked no_more b =
     begins_with (bytes ++ piece) others block
@@ -59,7 +61,8 @@ with_block item block n false true bytes rest piece others line asked no_more b 
     record {
       all =
           ap items_of (more_parts bytes line.raw rest piece line.parts)
-          ∙ items_of-cut line.raw (rest ++ piece) line.none (ap (λ (size : Option ℕ). whole_behind (line_item line.raw) size (rest ++ piece)) size ∙ whole_block-none n (rest ++ piece) b.0)
+          ∙ items_of-cut line.raw (rest ++ piece) line.none
+          (ap (λ (size : Option ℕ). whole_behind (line_item line.raw) size (rest ++ piece)) size ∙ whole_block-none n (rest ++ piece) b.0)
           ∙ ap (λ (size : Option ℕ). last_behind (line_item line.raw) size (rest ++ piece) ∷ []) size
           ∙ ap (λ (found : Item). found ∷ []) b.1;
       none = b.2;
@@ -105,7 +108,8 @@ lacks_block : (item : Item) (n : ℕ) (bytes rest more : List ℕ) → TakesLine
 lacks_block item n bytes rest more line asked few =
     whole_items-none (bytes ++ more)
     (ap whole_item (more_parts bytes line.raw rest more line.parts) ∙ whole_item-line line.raw (rest ++ more) line.none
-    ∙ ap (λ (size : Option ℕ). whole_behind (line_item line.raw) size (rest ++ more)) (ap asks (sym line.item_is) ∙ asked) ∙ whole_block-none n (rest ++ more) few)
+    ∙ ap (λ (size : Option ℕ). whole_behind (line_item line.raw) size (rest ++ more)) (ap asks (sym line.item_is) ∙ asked)
+    ∙ whole_block-none n (rest ++ more) few)
 
 pub no_item : (bytes : List ℕ) → HasNoNewline bytes → whole_items bytes ≡ []
 no_item bytes none = whole_items-none bytes (whole_item-none bytes none)
@@ -144,7 +148,8 @@ lacks_after Spent item n true bytes rest more asked line last few = let other = 
 lacks_after OutOfMemory item n ended bytes rest more asked line last kept =
     wants_memory (bytes ++ more) n (asked_of item ended bytes rest more line (λ at_end. (last at_end).1) ∙ asked) kept
 
-pub lacks_its_block : (fault : LineFault) (got : Got) (line : List ℕ) (n : ℕ) (ended : Bool) (bytes rest more : List ℕ) → option_and_then asks (line_got got line) ≡ Some n
+pub lacks_its_block : (fault : LineFault) (got : Got) (line : List ℕ) (n : ℕ) (ended : Bool) (bytes rest more : List ℕ)
+    → option_and_then asks (line_got got line) ≡ Some n
     → TakesLine (line_got got line) ended bytes rest → (ended ≡ true → (fault ≡ OutOfMemory) × (more ≡ [])) → LacksBlock fault n (rest ++ more)
     → LacksItem fault (bytes ++ more)
 lacks_its_block fault got line n ended bytes rest more asked took last lacks =
@@ -159,7 +164,7 @@ waits_whole item n false waiting rest asked line whole =
     elim (cases_lt n (length rest)) [
       | inl more ↦ more
       | inr few ↦ absurd
-            (whole (ap whole_items (sym (append-nil waiting)) ∙ lacks_block item n waiting rest [] line asked (omega (arith, few, ap length (append-nil rest)))))
+          (whole (ap whole_items (sym (append-nil waiting)) ∙ lacks_block item n waiting rest [] line asked (omega (arith, few, ap length (append-nil rest)))))
     ]
 
 waits_with_block : (got : Got) (line : List ℕ) (n : ℕ) (ended : Bool) (waiting rest : List ℕ) → option_and_then asks (line_got got line) ≡ Some n
@@ -169,7 +174,8 @@ waits_with_block got line n ended waiting rest asked took whole =
     waits_whole found.item n ended waiting rest found.size (subst (λ (is : Option Item). TakesLine is ended waiting rest) found.is took) whole
 
 -- what is read of this reader of items is read of this one
-pub Reads-seen : {feed old : ItemFeed} {read_now : ℕ} {before now : Input} {Are : List ℕ → Type 0} → feed ≡ old → Reads feed.waiting feed.read read_now before now Are
+pub Reads-seen : {feed old : ItemFeed} {read_now : ℕ} {before now : Input} {Are : List ℕ → Type 0} → feed ≡ old
+    → Reads feed.waiting feed.read read_now before now Are
     → Reads old.waiting old.read read_now before now Are
 Reads-seen {read_now = read_now} {before} {now} {Are} e reads = subst (λ (feed : ItemFeed). Reads feed.waiting feed.read read_now before now Are) e reads
 
@@ -194,14 +200,16 @@ pub line_waits : (feed : Feed) (block : List ℕ) (old : ItemFeed) → seen feed
 line_waits feed block old is whole none = whole (ap (λ (feed : ItemFeed). whole_items feed.waiting) (sym is) ∙ no_item feed.waiting none)
 
 -- and neither for its block
-pub block_waits : (got : Got) (feed between : Feed) (block : List ℕ) (old : ItemFeed) (n : ℕ) {before now : Input} → seen feed block ≡ old → (whole_items old.waiting ≡ [] → ⊥)
+pub block_waits : (got : Got) (feed between : Feed) (block : List ℕ) (old : ItemFeed) (n : ℕ) {before now : Input} → seen feed block ≡ old
+    → (whole_items old.waiting ≡ [] → ⊥)
     → TakesNext got feed between before now → between.read ≡ feed.read → option_and_then asks (line_got got between.line) ≡ Some n → n < length between.waiting
 block_waits got feed between block old n is whole next same asked =
     waits_with_block got between.line n between.ended feed.waiting between.waiting asked (Reads-waiting next same)
     (λ none. whole (ap (λ (feed : ItemFeed). whole_items feed.waiting) (sym is) ∙ none))
 
 -- the line at the front of what waits, whose newline stands there
-whole_at : (waiting : List ℕ) (at : ℕ) → IsNewline waiting at → whole_item waiting ≡ whole_behind (line_item (take at waiting)) (asks (line_item (take at waiting))) (drop (at + 1) waiting)
+whole_at : (waiting : List ℕ) (at : ℕ) → IsNewline waiting at
+    → whole_item waiting ≡ whole_behind (line_item (take at waiting)) (asks (line_item (take at waiting))) (drop (at + 1) waiting)
 whole_at waiting at newline =
     ap whole_item (newline_parts waiting at newline) ∙ whole_item-line (take at waiting) (drop (at + 1) waiting) (HasNoNewline-take waiting at newline)
 
@@ -210,21 +218,26 @@ pub whole_alone : (waiting : List ℕ) (at : ℕ) → IsNewline waiting at → a
 whole_alone waiting at newline none =
     whole_at waiting at newline ∙ ap (λ (size : Option ℕ). whole_behind (line_item (take at waiting)) size (drop (at + 1) waiting)) none
 
-pub whole_with : (waiting : List ℕ) (at n : ℕ) → IsNewline waiting at → asks (line_item (take at waiting)) ≡ Some n → whole_item waiting ≡ whole_block n (drop (at + 1) waiting)
+pub whole_with : (waiting : List ℕ) (at n : ℕ) → IsNewline waiting at → asks (line_item (take at waiting)) ≡ Some n
+    → whole_item waiting ≡ whole_block n (drop (at + 1) waiting)
 whole_with waiting at n newline some =
     whole_at waiting at newline ∙ ap (λ (size : Option ℕ). whole_behind (line_item (take at waiting)) size (drop (at + 1) waiting)) some
 
-pub wants_memory_at : (waiting : List ℕ) (at n : ℕ) → IsNewline waiting at → asks (line_item (take at waiting)) ≡ Some n → n ≤ longest_block → WantsMemory waiting
+pub wants_memory_at : (waiting : List ℕ) (at n : ℕ) → IsNewline waiting at → asks (line_item (take at waiting)) ≡ Some n → n ≤ longest_block
+    → WantsMemory waiting
 wants_memory_at waiting at n newline some kept =
     wants_memory waiting n
-    (ap asked_first (newline_parts waiting at newline) ∙ asked_line (take at waiting) (drop (at + 1) waiting) (HasNoNewline-take waiting at newline) ∙ some) kept
+    (ap asked_first (newline_parts waiting at newline) ∙ asked_line (take at waiting) (drop (at + 1) waiting) (HasNoNewline-take waiting at newline)
+    ∙ some) kept
 
 -- an item that is whole in what waits
-pub item_here : (next : NextItem) (old new : ItemFeed) (item : Item) (input : Input) → whole_item old.waiting ≡ Some (item, new.waiting) → item_next next new ≡ Some item
+pub item_here : (next : NextItem) (old new : ItemFeed) (item : Item) (input : Input) → whole_item old.waiting ≡ Some (item, new.waiting)
+    → item_next next new ≡ Some item
     → new.ended ≡ false → new.read ≡ old.read → TakesNextItem next old new input input
 item_here next old new item input whole is going read =
     Reads-none old.waiting old.read new.read input (λ bytes. TakesItem (item_next next new) new.ended bytes new.waiting) read
-    (takes_item (item_next next new) (Some item) new.ended false old.waiting new.waiting new.waiting is going refl (begins_with old.waiting new.waiting item whole))
+    (takes_item (item_next next new) (Some item) new.ended false old.waiting new.waiting new.waiting is going refl
+    (begins_with old.waiting new.waiting item whole))
 
 -- the line before a newline is taken of what waits
 pub record TakenLine (got : Got) (old new : Feed) (at : ℕ) : Type 0 where
@@ -250,7 +263,8 @@ taken_line got old between new shown line at same is item front within new_is =
     }
 
 -- the question is asked of the line before the newline
-pub asks_raw : (got : Got) (line shown waiting : List ℕ) (at : ℕ) (asked size : Option ℕ) → line_got got line ≡ Some (line_item (take at shown)) → shown ≡ waiting
+pub asks_raw : (got : Got) (line shown waiting : List ℕ) (at : ℕ) (asked size : Option ℕ) → line_got got line ≡ Some (line_item (take at shown))
+    → shown ≡ waiting
     → asked ≡ option_and_then asks (line_got got line) → size ≡ asked → asks (line_item (take at waiting)) ≡ size
 asks_raw got line shown waiting at asked size item is answer same =
     ap (λ (bytes : List ℕ). asks (line_item (take at bytes))) (sym is) ∙ ap (option_and_then asks) (sym item) ∙ sym answer ∙ sym same

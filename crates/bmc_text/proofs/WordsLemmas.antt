@@ -1,6 +1,8 @@
 -- Words of lines, and numbers that are read back from their texts.
-use Rattle.std.proofs.Common.{◌≡◌, ◌≢◌, ◌<◌, ◌≤◌, ◌*◌, ◌^◌, ℕ, suc, List, ◌∷◌, ◌++◌, length, Bool, true, false, cond, refl, sym, ap, ◌∙◌, arith, lt-ltb, le-leb, ne_eqb, eqb-true, rules, ltb, slice_index, take, drop, ◌+◌}
-use Rattle.std.specs.Prelude.{Option, Some, None, option_map, option_and_then, position, codes, bytes_eq, decimal, fold, ℤ, pos, negsuc, neg_ℤ, nat_abs, ◌*ℤ◌, ◌==◌}
+use Rattle.std.proofs.Common.{◌≡◌, ◌≢◌, ◌<◌, ◌≤◌, ◌*◌, ◌^◌, ℕ, suc, List, ◌∷◌, ◌++◌, length, Bool, true, false, cond, refl, sym, ap, ◌∙◌, arith, lt-ltb}
+use Rattle.std.proofs.Common.{le-leb, ne_eqb, eqb-true, rules, ltb, slice_index, take, drop, ◌+◌}
+use Rattle.std.specs.Prelude.{Option, Some, None, option_map, option_and_then, position, codes, bytes_eq, decimal, fold, ℤ, pos, negsuc, neg_ℤ, nat_abs}
+use Rattle.std.specs.Prelude.{◌*ℤ◌, ◌==◌}
 use Rattle.std.specs.Fmt.{signed_decimal}
 use Rattle.std.specs.List.{list_all, position_or_len}
 use Rattle.std.specs.Str.Parse.{starts_with_minus}
@@ -13,7 +15,8 @@ use Rattle.std.proofs.Math.Seq.{drop-cons}
 use Rattle.bmc_text.proofs.Powers.{below_power}
 use Rattle.std.proofs.lemmas.Str.Parse.{IsNumeralModel, numerals_by_fold, not_in_digits}
 use Rattle.std.proofs.lemmas.Fmt.{digits_decimal, digits_value-decimal, decimal_nonempty, length-decimal-le}
-use Rattle.bmc_text.specs.Words.{is_digit, with_digit, digits, number, number_digits, raw, raw_digits, whole_digits, signed, units, decimal_units, split_at, split_space, size_of, block_size}
+use Rattle.bmc_text.specs.Words.{is_digit, with_digit, digits, number, number_digits, raw, raw_digits, whole_digits, signed, units, decimal_units, split_at}
+use Rattle.bmc_text.specs.Words.{split_space, size_of, block_size}
 
 abbrev all_digits : List ℕ → Type 0
 all_digits text = list_all is_digit text ≡ true
@@ -51,9 +54,11 @@ no_minus n fits = other_byte 45 n (omega arith) fits 0 (decimal_nonempty n fits)
 no_point : (n : ℕ) → n < 2 ^ 64 → split_at 46 (decimal n) ≡ None
 no_point n fits =
     let all : position_or_len (λ byte. byte == 46) (decimal n) ≡ length (decimal n) =
-    position_or_len_is (λ byte. byte == 46) (decimal n) (length (decimal n)) 0 (omega arith) (λ k within. other_byte 46 n (omega arith) fits k within) (λ beyond. absurd (omega arith)) in
+    position_or_len_is (λ byte. byte == 46) (decimal n) (length (decimal n)) 0 (omega arith) (λ k within. other_byte 46 n (omega arith) fits k within)
+    (λ beyond. absurd (omega arith)) in
     ap (option_map (λ at. (take at (decimal n), drop (at + 1) (decimal n))))
-    (ap (λ at. cond (ltb at (length (decimal n))) (Some at) None) all ∙ ap (λ t. cond t (Some (length (decimal n))) None) (le-ltb (length (decimal n)) (length (decimal n)) (omega arith)))
+    (ap (λ at. cond (ltb at (length (decimal n))) (Some at) None) all
+    ∙ ap (λ t. cond t (Some (length (decimal n))) None) (le-ltb (length (decimal n)) (length (decimal n)) (omega arith)))
 
 -- the number with the sign of z
 abbrev signed_as : ℤ → ℕ → ℤ
@@ -94,7 +99,8 @@ is_space byte = byte == 32
 
 split_config : (digits : List ℕ) → split_space (codes "config " ++ digits) ≡ Some (codes "config", digits)
 split_config digits =
-    ap (λ (t : Bool). option_map (λ (at : ℕ). (take at (codes "config " ++ digits), drop (at + 1) (codes "config " ++ digits))) (cond t (Some 6) None)) (lt-ltb 6 (length (codes "config " ++ digits)) (omega arith))
+    ap (λ (t : Bool). option_map (λ (at : ℕ). (take at (codes "config " ++ digits), drop (at + 1) (codes "config " ++ digits))) (cond t (Some 6) None))
+    (lt-ltb 6 (length (codes "config " ++ digits)) (omega arith))
 
 -- a line of the form
 pub asks_for : (line digits : List ℕ) → line ≡ codes "config " ++ digits → block_size line ≡ number digits
@@ -105,16 +111,20 @@ parts_at : (line : List ℕ) (at : ℕ) → position is_space line ≡ Some at �
 parts_at line at e =
     let found = position-Some is_space line at 0 e in
     let next : at + 1 ≡ suc at = omega arith in
-    sym (take-append-drop at line) ∙ ap (λ (rest : List ℕ). take at line ++ rest) (drop-cons line at 0 found.0 ∙ ap (λ (b : ℕ). b ∷ drop (suc at) line) (eqb-true (slice_index line at) 32 found.1))
+    sym (take-append-drop at line)
+    ∙ ap (λ (rest : List ℕ). take at line ++ rest)
+    (drop-cons line at 0 found.0 ∙ ap (λ (b : ℕ). b ∷ drop (suc at) line) (eqb-true (slice_index line at) 32 found.1))
     ∙ ap (λ (n : ℕ). take at line ++ 32 ∷ drop n line) (sym next)
 
-none_named : (first rest line : List ℕ) (t : Bool) → bytes_eq first (codes "config") ≡ t → line ≡ first ++ 32 ∷ rest → ((digits : List ℕ) → line ≢ codes "config " ++ digits) → cond t (number rest) None ≡ None
+none_named : (first rest line : List ℕ) (t : Bool) → bytes_eq first (codes "config") ≡ t → line ≡ first ++ 32 ∷ rest
+    → ((digits : List ℕ) → line ≢ codes "config " ++ digits) → cond t (number rest) None ≡ None
 none_named first rest line true e parts other =
     let config : first ≡ codes "config" = (bytes_eq-Decides first (codes "config")).0 e in
     absurd (other rest (parts ∙ ap (λ (word : List ℕ). word ++ 32 ∷ rest) config))
 none_named first rest line false e parts other = refl
 
-none_at : (line : List ℕ) (place : Option ℕ) → position is_space line ≡ place → ((digits : List ℕ) → line ≢ codes "config " ++ digits) → option_and_then size_of (option_map (λ (at : ℕ). (take at line, drop (at + 1) line)) place) ≡ None
+none_at : (line : List ℕ) (place : Option ℕ) → position is_space line ≡ place → ((digits : List ℕ) → line ≢ codes "config " ++ digits)
+    → option_and_then size_of (option_map (λ (at : ℕ). (take at line, drop (at + 1) line)) place) ≡ None
 none_at line None e other = refl
 none_at line (Some at) e other = none_named (take at line) (drop (at + 1) line) line (bytes_eq (take at line) (codes "config")) refl (parts_at line at e) other
 

@@ -1,5 +1,5 @@
 -- What a reader of lines takes of a block.
-use Rattle.std.specs.Prelude.{ℕ, ◌≡◌, ◌+◌, ◌≤◌, Bool, true, false, List, [], length, Option, Some}
+use Rattle.std.specs.Prelude.{ℕ, ◌≡◌, ◌+◌, ◌≤◌, Bool, true, false, List, [], length, Some}
 use Rattle.bmc_io.specs.Sources.{Input}
 use Rattle.bmc_text.specs.Feeds.{Feed, Reads}
 use Rattle.bmc_text.specs.Items as items

@@ -1,5 +1,6 @@
 -- The items of a script: its lines, and with a line that asks for a block the block.
-use Rattle.std.specs.Prelude.{ℕ, zero, suc, ◌+◌, ◌-◌, Bool, ◌==◌, nat_lt, if◌then◌else◌, List, [], ◌∷◌, ◌++◌, length, take, drop, slice_index, position, Option, Some, None, option_and_then}
+use Rattle.std.specs.Prelude.{ℕ, zero, suc, ◌+◌, ◌-◌, Bool, ◌==◌, nat_lt, if◌then◌else◌, List, [], ◌∷◌, ◌++◌, length, take, drop, slice_index, position}
+use Rattle.std.specs.Prelude.{Option, Some, None, option_and_then}
 use Rattle.std.specs.List.{before_first, after_first}
 use Rattle.bmc_text.specs.Words.{block_size}
 
@@ -65,7 +66,8 @@ whole_behind item (Some n) bytes = whole_block n bytes
 -- The item at the front of bytes and the bytes behind it, where the item is whole: whatever follows the bytes, a script
 -- that begins with them has this item there. A line is whole with its newline.
 unfoldable pub whole_item : List ℕ → Option (Item × List ℕ)
-whole_item bytes = option_and_then (λ at. whole_behind (line_item (take at bytes)) (asks (line_item (take at bytes))) (drop (at + 1) bytes)) (position is_newline bytes)
+whole_item bytes = option_and_then (λ at. whole_behind (line_item (take at bytes)) (asks (line_item (take at bytes))) (drop (at + 1) bytes))
+    (position is_newline bytes)
 
 -- the items that are whole in bytes, and the bytes behind the last of them
 pub record Cut : Type 0 where

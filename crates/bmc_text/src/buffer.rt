@@ -86,7 +86,9 @@ pub(crate) fn refill<S: Source>(
     requires stop { stop ≤ length buffer.old }
     ensures within { IfOk result (λ count. end - start + count ≤ stop) }
     ensures front { take (end - start) buffer.new ≡ slice_range buffer.old start end }
-    ensures reads { IfOk result (λ count. Reads (slice_range buffer.old start end) 0 count (S.seen source.old) (S.seen source.new) (λ bytes. bytes ≡ slice_range buffer.new 0 (end - start + count))) }
+    ensures reads { IfOk result (λ count.
+        Reads (slice_range buffer.old start end) 0 count (S.seen source.old) (S.seen source.new)
+        (λ bytes. bytes ≡ slice_range buffer.new 0 (end - start + count))) }
     ensures at_end { IfOk result (λ count. count ≡ 0 → IsAtEnd (S.seen source.new).left) }
     ensures kept { OnErr result (Keeps (S.seen source.old).left (S.seen source.new).left) }
     ensures cause { HasCause (S.seen source.old).calls (S.seen source.new).calls result }

@@ -1,9 +1,11 @@
-ghost use Rattle.std.specs.Prelude.{◌≡◌, ◌<◌, [], true, false, Ok, Some, None, IfOk, OnOk, OnErr, IfErr, IfSome, IfNone, MatchResult, option_and_then};
+ghost use Rattle.std.specs.Prelude.{◌≡◌, ◌<◌, [], true, false, Ok, Some, None, IfOk, OnOk, OnErr, IfErr, IfSome, IfNone, MatchResult, option_and_then, codes};
+ghost use Rattle.std.specs.Prelude.{◌∷◌};
 ghost use Rattle.std.specs.Io.KnownBytes.{Keeps, IsAtEnd};
 ghost use Rattle.bmc_io.specs.Sources.{Input};
-ghost use Rattle.bmc_text.specs.Items.{asks, whole_items};
+ghost use Rattle.bmc_text.specs.Items as items;
+ghost use Rattle.bmc_text.specs.Items.{asks, items_of, whole_items, unfinished};
 ghost use Rattle.bmc_text.specs.Feeds.{ItemFeed, IsWithin, Reads};
-ghost use Rattle.bmc_text.specs.Faults.{HasFault};
+ghost use Rattle.bmc_text.specs.Faults.{HasReadCause};
 ghost use Rattle.bmc_text.specs.Lines.{line_got};
 ghost use Rattle.bmc_text.specs.Blocks.{item_of_block};
 ghost use Rattle.bmc_text.specs.NextItems.{item_next, TakesNextItem, LacksItem, WantsMemory};
@@ -139,10 +141,11 @@ impl Items {
         ensures next { IfOk result (λ next. TakesNextItem next self.old self.new (S.seen source.old) (S.seen source.new)) }
         ensures at_end { OnOk result ((self.old.ended ≡ true → IsAtEnd (S.seen source.old).left) → self.new.ended ≡ true → IsAtEnd (S.seen source.new).left) }
         ensures lacks { IfErr result (λ fault. Reads self.old.waiting self.old.read self.new.read (S.seen source.old) (S.seen source.new) (LacksItem fault)) }
-        ensures cause { MatchResult result (λ _. (S.seen source.new).calls.faults ≡ (S.seen source.old).calls.faults) (λ fault. HasFault fault self.new.read (S.seen source.old).calls (S.seen source.new).calls) }
+        ensures cause { HasReadCause result self.new.read (S.seen source.old).calls (S.seen source.new).calls }
         ensures limit { IsWithin self.new.read self.new.ended }
         ensures waits { (whole_items self.old.waiting ≡ [] → ⊥) → self.new.read ≡ self.old.read }
-        ensures after_end { self.old.ended ≡ true → (result ≡ Ok NextItem.End) × (self.new ≡ self.old) × Keeps (S.seen source.old).left (S.seen source.new).left }
+        ensures after_end { self.old.ended ≡ true
+            → (result ≡ Ok NextItem.End) × (self.new ≡ self.old) × Keeps (S.seen source.old).left (S.seen source.new).left }
     {
         let got = self.lines.next(source)?;
         match asked(got, self.lines.line()) {
@@ -169,3 +172,19 @@ impl Items {
         }
     }
 }
+
+/// The items of some scripts, computed from the definitions: a comment; carriage returns, of which one is
+/// removed; a block with a newline inside and one behind it; blocks that the end cuts short or ends; a block
+/// that is too long by its size; sizes of nine digits and of ten; and what is whole before the end is known.
+pub fn item_examples()
+    ensures comment { items_of (codes "# a comment\n") ≡ items.Line (codes "# a comment") ∷ [] }
+    ensures carriage_return { items_of (codes "a\r\nb\r\r") ≡ items.Line (codes "a") ∷ items.Line (codes "b\r") ∷ [] }
+    ensures block { items_of (codes "config 5\nab\ncd\nb\n") ≡ items.Block (codes "ab\ncd") ∷ items.Line (codes "b") ∷ [] }
+    ensures short { items_of (codes "config 5\nabcd") ≡ items.BlockShort ∷ [] }
+    ensures last { items_of (codes "config 5\nabcde") ≡ items.Block (codes "abcde") ∷ [] }
+    ensures long { items_of (codes "config 262145\nabcde") ≡ items.BlockTooLong ∷ [] }
+    ensures leading_zeros { items_of (codes "config 000000005\nabcde") ≡ items.Block (codes "abcde") ∷ [] }
+    ensures ten_digits { items_of (codes "config 0000000005\na") ≡ items.Line (codes "config 0000000005") ∷ items.Line (codes "a") ∷ [] }
+    ensures whole { whole_items (codes "a\nconfig 5\nabcde") ≡ items.Line (codes "a") ∷ [] }
+    ensures unfinished { unfinished (codes "a\nconfig 5\nabcde") ≡ codes "config 5\nabcde" }
+{}

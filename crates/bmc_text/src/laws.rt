@@ -8,12 +8,15 @@ ghost use Rattle.bmc_text.specs.Words.{number, number_digits, raw, raw_digits, d
 /// same place, are whole.
 pub fn whole_items_stay()
     ensures first { (bytes more : List ℕ) → items_of (bytes ++ more) ≡ whole_items bytes ++ items_of (unfinished bytes ++ more) }
-    ensures all { (bytes rest : List ℕ) (found : List Item) → ((more : List ℕ) → items_of (bytes ++ more) ≡ found ++ items_of (rest ++ more)) → (others : List Item) × (whole_items bytes ≡ found ++ others) }
+    ensures all { (bytes rest : List ℕ) (found : List Item)
+        → ((more : List ℕ) → items_of (bytes ++ more) ≡ found ++ items_of (rest ++ more))
+        → (others : List Item) × (whole_items bytes ≡ found ++ others) }
 {}
 
 /// The text of a number is read as that number: of a number in a line, of a raw reading, and of a decimal.
 pub fn numbers_are_read_back()
     ensures number { (n : ℕ) → n < 10 ^ number_digits → number (decimal n) ≡ Some n }
     ensures raw { (z : ℤ) → nat_abs z < 10 ^ raw_digits → raw (signed_decimal z) ≡ Some z }
-    ensures decimal { (places : ℕ) (z : ℤ) → nat_abs z < 10 ^ whole_digits → decimal_units places (signed_decimal z) ≡ Some (z *ℤ pos (10 ^ places)) }
+    ensures decimal { (places : ℕ) (z : ℤ) → nat_abs z < 10 ^ whole_digits
+        → decimal_units places (signed_decimal z) ≡ Some (z *ℤ pos (10 ^ places)) }
 {}

@@ -8,15 +8,15 @@ mod hexadecimal;
 mod items;
 mod laws;
 mod lines;
-#[cfg(test)]
-mod pieces;
 mod numbers;
+#[cfg(test)]
+mod tests;
 mod words;
 
-pub use hexadecimal::{HexFault, hex_bytes};
-pub use items::{Items, NextItem};
-pub use laws::{numbers_are_read_back, whole_items_stay};
 pub use block::Block;
+pub use hexadecimal::{HexFault, hex_bytes};
+pub use items::{Items, NextItem, item_examples};
+pub use laws::{numbers_are_read_back, whole_items_stay};
 pub use lines::{Got, LineFault, Lines};
-pub use numbers::{decimal, read_number, read_raw};
+pub use numbers::{decimal, number_examples, read_number, read_raw};
 pub use words::block_size;

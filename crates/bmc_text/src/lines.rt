@@ -1,9 +1,10 @@
-ghost use Rattle.std.specs.Prelude.{◌≡◌, ◌≢◌, ◌<◌, ◌≤◌, ◌+◌, ◌++◌, [], List, ℕ, length, take, drop, false, true, Ok, Some, IfOk, OnOk, OnErr, IfErr, IfSome, IfNone, MatchOption, MatchResult, IsOkUnless};
+ghost use Rattle.std.specs.Prelude.{◌≡◌, ◌≢◌, ◌<◌, ◌≤◌, ◌+◌, ◌++◌, [], List, ℕ, length, take, drop, false, true, Ok, Some, IfOk, OnOk, OnErr, IfErr, IfSome};
+ghost use Rattle.std.specs.Prelude.{IfNone, MatchOption, IsOkUnless};
 ghost use Rattle.std.specs.Io.KnownBytes.{Keeps, IsAtEnd};
 ghost use Rattle.bmc_text.specs.Newlines.{HasNoNewline, IsNewline};
 ghost use Rattle.bmc_text.specs.Items.{line_item, longest_line, behind_block, whole_block};
 ghost use Rattle.bmc_text.specs.Feeds.{IsWithin, Reads, longest_script, longest_piece};
-ghost use Rattle.bmc_text.specs.Faults.{HasFault};
+ghost use Rattle.bmc_text.specs.Faults.{HasReadCause};
 ghost use Rattle.bmc_text.specs.Lines.{line_got, TakesLine, TakesNext};
 ghost use Rattle.bmc_text.specs.Blocks.{item_of_block, TakesBlock, LacksBlock, HoldsFront};
 
@@ -78,9 +79,21 @@ impl Model for Lines {
 
     ghost Value = { Feed };
 
-    ghost view = { λ l. record { line = slice_range l.buffer.items l.line_start l.line_end; waiting = slice_range l.buffer.items l.start l.end; read = l.read; ended = l.ended } };
+    ghost view = { λ l. record {
+      line = slice_range l.buffer.items l.line_start l.line_end;
+      waiting = slice_range l.buffer.items l.start l.end;
+      read = l.read;
+      ended = l.ended;
+    } };
 
-    ghost invariant = { λ l. (l.line_start ≤ l.line_end) × (l.line_end ≤ vec_len l.buffer) × (l.start + l.searched ≤ l.end) × (l.end ≤ vec_len l.buffer) × (vec_len l.buffer ≡ longest_piece) × (l.read ≤ longest_script) × (l.ended ≡ true → (l.start ≡ l.end) × (l.read < longest_script)) × HasNoNewline (take l.searched (slice_range l.buffer.items l.start l.end)) };
+    ghost invariant = { λ l. (l.line_start ≤ l.line_end)
+        × (l.line_end ≤ vec_len l.buffer)
+        × (l.start + l.searched ≤ l.end)
+        × (l.end ≤ vec_len l.buffer)
+        × (vec_len l.buffer ≡ longest_piece)
+        × (l.read ≤ longest_script)
+        × (l.ended ≡ true → (l.start ≡ l.end) × (l.read < longest_script))
+        × HasNoNewline (take l.searched (slice_range l.buffer.items l.start l.end)) };
 }
 
 impl Lines {
@@ -137,7 +150,7 @@ impl Lines {
         ensures next { IfOk result (λ got. TakesNext got self.old self.new (S.seen source.old) (S.seen source.new)) }
         ensures at_end { OnOk result ((self.old.ended ≡ true → IsAtEnd (S.seen source.old).left) → self.new.ended ≡ true → IsAtEnd (S.seen source.new).left) }
         ensures lacks { OnErr result (Reads self.old.waiting self.old.read self.new.read (S.seen source.old) (S.seen source.new) HasNoNewline) }
-        ensures cause { MatchResult result (λ _. (S.seen source.new).calls.faults ≡ (S.seen source.old).calls.faults) (λ fault. HasFault fault self.new.read (S.seen source.old).calls (S.seen source.new).calls) }
+        ensures cause { HasReadCause result self.new.read (S.seen source.old).calls (S.seen source.new).calls }
         ensures memory { IfErr result (λ fault. fault ≢ LineFault.OutOfMemory) }
         ensures limit { IsWithin self.new.read self.new.ended }
         ensures waits { (HasNoNewline self.old.waiting → ⊥) → self.new.read ≡ self.old.read }
@@ -165,8 +178,9 @@ impl Lines {
         ensures block { IfOk result (λ block. TakesBlock n block self.old self.new (S.seen source.old) (S.seen source.new)) }
         ensures line { OnOk result (self.old.ended ≡ false → self.new.line ≡ []) }
         ensures at_end { OnOk result ((self.old.ended ≡ true → IsAtEnd (S.seen source.old).left) → self.new.ended ≡ true → IsAtEnd (S.seen source.new).left) }
-        ensures lacks { IfErr result (λ fault. Reads self.old.waiting self.old.read self.new.read (S.seen source.old) (S.seen source.new) (LacksBlock fault n)) }
-        ensures cause { MatchResult result (λ _. (S.seen source.new).calls.faults ≡ (S.seen source.old).calls.faults) (λ fault. HasFault fault self.new.read (S.seen source.old).calls (S.seen source.new).calls) }
+        ensures lacks { IfErr result (λ fault.
+            Reads self.old.waiting self.old.read self.new.read (S.seen source.old) (S.seen source.new) (LacksBlock fault n)) }
+        ensures cause { HasReadCause result self.new.read (S.seen source.old).calls (S.seen source.new).calls }
         ensures limit { IsWithin self.new.read self.new.ended }
         ensures waits { n < length self.old.waiting → self.new.read ≡ self.old.read }
         ensures after_end { self.old.ended ≡ true → IsOkUnless result LineFault.OutOfMemory × (self.new ≡ self.old) }
@@ -181,14 +195,19 @@ impl Lines {
 
     // Takes a block of which no byte came yet, and a newline behind it, where the source goes on.
     #[inline(never)]
-    fn read_block<S: Source>(&mut self, source: &mut S, mut part: BlockPart) -> Result<Block, LineFault>
+    fn read_block<S: Source>(
+        &mut self,
+        source: &mut S,
+        mut part: BlockPart,
+    ) -> Result<Block, LineFault>
         requires none { HoldsFront part [] }
         requires going { self.old.ended ≡ false }
         ensures block { IfOk result (λ block. TakesBlock part.size block self.old self.new (S.seen source.old) (S.seen source.new)) }
         ensures line { OnOk result (self.new.line ≡ []) }
         ensures at_end { OnOk result (self.new.ended ≡ true → IsAtEnd (S.seen source.new).left) }
-        ensures lacks { IfErr result (λ fault. Reads self.old.waiting self.old.read self.new.read (S.seen source.old) (S.seen source.new) (LacksBlock fault part.size)) }
-        ensures cause { MatchResult result (λ _. (S.seen source.new).calls.faults ≡ (S.seen source.old).calls.faults) (λ fault. HasFault fault self.new.read (S.seen source.old).calls (S.seen source.new).calls) }
+        ensures lacks { IfErr result (λ fault.
+            Reads self.old.waiting self.old.read self.new.read (S.seen source.old) (S.seen source.new) (LacksBlock fault part.size)) }
+        ensures cause { HasReadCause result self.new.read (S.seen source.old).calls (S.seen source.new).calls }
         ensures memory { IfErr result (λ fault. fault ≢ LineFault.OutOfMemory) }
         ensures limit { IsWithin self.new.read self.new.ended }
         ensures waits { part.size < length self.old.waiting → self.new.read ≡ self.old.read }
@@ -208,7 +227,8 @@ impl Lines {
     #[inline(never)]
     pub(crate) fn take_block(&mut self, mut part: BlockPart) -> Block
         requires { part.wanted < length self.old.waiting }
-        ensures block { (front : List ℕ) → HoldsFront part front → whole_block part.size (front ++ self.old.waiting) ≡ Some (item_of_block result, self.new.waiting) }
+        ensures block { (front : List ℕ) → HoldsFront part front
+            → whole_block part.size (front ++ self.old.waiting) ≡ Some (item_of_block result, self.new.waiting) }
         ensures frame { self.new ≡ record self.old { line = []; waiting = self.new.waiting } }
         ensures going { self.old.ended ≡ false }
         ensures limit { IsWithin self.new.read self.new.ended }
@@ -236,7 +256,7 @@ impl Lines {
         ensures next { IfOk result (λ got. TakesNext got self.old self.new (S.seen source.old) (S.seen source.new)) }
         ensures at_end { OnOk result (self.new.ended ≡ true → IsAtEnd (S.seen source.new).left) }
         ensures lacks { OnErr result (Reads self.old.waiting self.old.read self.new.read (S.seen source.old) (S.seen source.new) HasNoNewline) }
-        ensures cause { MatchResult result (λ _. (S.seen source.new).calls.faults ≡ (S.seen source.old).calls.faults) (λ fault. HasFault fault self.new.read (S.seen source.old).calls (S.seen source.new).calls) }
+        ensures cause { HasReadCause result self.new.read (S.seen source.old).calls (S.seen source.new).calls }
         ensures memory { IfErr result (λ fault. fault ≢ LineFault.OutOfMemory) }
         ensures limit { IsWithin self.new.read self.new.ended }
     {
@@ -259,7 +279,7 @@ impl Lines {
         ensures next { IfOk result (λ got. TakesNext got self.old self.new (S.seen source.old) (S.seen source.new)) }
         ensures at_end { OnOk result (self.new.ended ≡ true → IsAtEnd (S.seen source.new).left) }
         ensures lacks { OnErr result (Reads self.old.waiting self.old.read self.new.read (S.seen source.old) (S.seen source.new) HasNoNewline) }
-        ensures cause { MatchResult result (λ _. (S.seen source.new).calls.faults ≡ (S.seen source.old).calls.faults) (λ fault. HasFault fault self.new.read (S.seen source.old).calls (S.seen source.new).calls) }
+        ensures cause { HasReadCause result self.new.read (S.seen source.old).calls (S.seen source.new).calls }
         ensures memory { IfErr result (λ fault. fault ≢ LineFault.OutOfMemory) }
         ensures limit { IsWithin self.new.read self.new.ended }
     {
@@ -287,7 +307,7 @@ impl Lines {
         ensures same { OnErr result (self.new ≡ record self.old { line = self.new.line }) }
         ensures at_end { IfOk result (λ count. count ≡ 0 → IsAtEnd (S.seen source.new).left) }
         ensures more { OnOk result (self.old.read < longest_script) }
-        ensures cause { MatchResult result (λ _. (S.seen source.new).calls.faults ≡ (S.seen source.old).calls.faults) (λ fault. HasFault fault self.new.read (S.seen source.old).calls (S.seen source.new).calls) }
+        ensures cause { HasReadCause result self.new.read (S.seen source.old).calls (S.seen source.new).calls }
         ensures memory { IfErr result (λ fault. fault ≢ LineFault.OutOfMemory) }
         ensures limit { IsWithin self.new.read self.new.ended }
     {
@@ -401,5 +421,17 @@ impl Lines {
         ensures limit { IsWithin self.now.read self.now.ended }
     {
         &self.buffer[self.start..self.end]
+    }
+}
+
+#[cfg(test)]
+impl Lines {
+    // A reader that has read so many bytes, of which none waits.
+    pub(crate) fn behind(alloc: Global, read: u64) -> Result<Lines, OutOfMemory>
+        requires { read ≤ longest_script }
+    {
+        let mut lines = Lines::new(alloc)?;
+        lines.read = read;
+        Ok(lines)
     }
 }

@@ -1,4 +1,5 @@
-ghost use Rattle.std.specs.Prelude.{◌≡◌, ◌<◌, ◌≤◌, ◌^◌, ◌==◌, ◌*◌, ◌+◌, drop, pos, neg_ℤ, if◌then◌else◌, option_map, position, length, IfSome};
+ghost use Rattle.std.specs.Prelude.{◌≡◌, ◌<◌, ◌≤◌, ◌^◌, ◌==◌, ◌*◌, ◌+◌, drop, pos, neg_ℤ, if◌then◌else◌, option_map, position, length, IfSome, Some, None};
+ghost use Rattle.std.specs.Prelude.{codes};
 ghost use Rattle.std.specs.Str.Parse.{starts_with_minus};
 ghost use Rattle.bmc_text.specs.Words.{digits, number, raw, units, decimal_units, split_at, raw_digits, whole_digits};
 
@@ -129,3 +130,20 @@ pub fn decimal(text: &str, places: u32) -> Option<i64>
     let units = read_units(digits, places)?;
     Some(with_sign(negative, units))
 }
+
+/// What some texts are read as, computed from the definitions: numbers, raw readings and decimals in
+/// thousandths, and texts that are none.
+pub fn number_examples()
+    ensures leading_zeros { number (codes "000000080") ≡ Some 80 }
+    ensures ten_digits { number (codes "1234567890") ≡ None }
+    ensures raw_reading { raw (codes "-41000") ≡ Some (neg_ℤ (pos 41000)) }
+    ensures raw_longest { raw (codes "999999999999999999") ≡ Some (pos 999999999999999999) }
+    ensures raw_too_long { raw (codes "1000000000000000000") ≡ None }
+    ensures raw_none { raw (codes "-") ≡ None }
+    ensures whole { decimal_units 3 (codes "30") ≡ Some (pos 30000) }
+    ensures tenths { decimal_units 3 (codes "-0.3") ≡ Some (neg_ℤ (pos 300)) }
+    ensures thousandths { decimal_units 3 (codes "40.001") ≡ Some (pos 40001) }
+    ensures too_fine { decimal_units 3 (codes "40.0015") ≡ None }
+    ensures no_fraction { decimal_units 3 (codes "40.") ≡ None }
+    ensures no_whole { decimal_units 3 (codes ".5") ≡ None }
+{}

@@ -34,5 +34,7 @@ same_bytes : (texts names : List ℕ) (same : Bool) → Decides same (texts ≡ 
 same_bytes texts names same decides = search (rules, bytes_eq-Decides)
 
 -- a test for the name is a test for its text
-pub same_name : (name other : FieldName) (same : Bool) → is_board_name other ≡ true → Decides same (name ≡ other) → same ≡ bytes_eq (name_text name) (name_text other)
-same_name name other same board decides = same_bytes (name_text name) (name_text other) same (λ yes. ap name_text (decides.0 yes), λ texts. decides.1 (same_text name other board texts))
+pub same_name : (name other : FieldName) (same : Bool) → is_board_name other ≡ true → Decides same (name ≡ other)
+    → same ≡ bytes_eq (name_text name) (name_text other)
+same_name name other same board decides =
+    same_bytes (name_text name) (name_text other) same (λ yes. ap name_text (decides.0 yes), λ texts. decides.1 (same_text name other board texts))

@@ -1,5 +1,6 @@
 -- What a probe is read as, by how it is written.
-use Rattle.std.proofs.Common.{◌≡◌, ℕ, ◌+◌, ◌-◌, ◌<◌, List, ◌++◌, length, drop, get_or, Bool, true, false, Option, Some, None, refl, sym, ◌∙◌, ap, arith, append_assoc, length-append, add-one, drop-cons}
+use Rattle.std.proofs.Common.{◌≡◌, ℕ, ◌+◌, ◌-◌, ◌<◌, List, ◌++◌, length, drop, get_or, Bool, true, false, Option, Some, None}
+use Rattle.std.proofs.Common.{refl, sym, ◌∙◌, ap, arith, append_assoc, length-append, add-one, drop-cons}
 use Rattle.std.specs.Borrow.{Bor}
 use Rattle.std.specs.Option.{MatchOption, IfSome, IfNone, option_or, option_map}
 use Rattle.std.specs.Str.Pattern.{StripsPrefix, StripsSuffix, FindsTextPrefix, FindsTextSuffix}
@@ -16,10 +17,12 @@ use Rattle.cfg_json.specs.declared.probe.PlainProbe.TheVariants.{Contains}
 between : (head text tail : List ℕ) → slice_range (head ++ text ++ tail) (length head) (length (head ++ text ++ tail) - length tail) ≡ text
 between head text tail =
     let rest : drop (length head) (head ++ text ++ tail) ≡ text ++ tail = rw append_assoc (drop-append_seam head (text ++ tail)) in
-    let size : length (head ++ text ++ tail) - length tail - length head ≡ length text = omega (arith, length-append (head ++ text) tail, length-append head text) in
+    let size : length (head ++ text ++ tail) - length tail - length head ≡ length text =
+    omega (arith, length-append (head ++ text) tail, length-append head text) in
     rw (rest, size) (take-append_seam text tail)
 
-pub text_in_found : (name : FieldName) (probe text : List ℕ) → probe ≡ probe_text name text → text_in name probe ≡ (if is_plain_text text then Some text else None)
+pub text_in_found : (name : FieldName) (probe text : List ℕ) → probe ≡ probe_text name text
+    → text_in name probe ≡ (if is_plain_text text then Some text else None)
 unfolding text_in
 text_in_found name probe text e =
     let same : bytes_eq probe (probe_text name text) ≡ true = (bytes_eq-Decides probe (probe_text name text)).1 e in
@@ -56,24 +59,33 @@ pub stripped : (front bytes rest : List ℕ) → StripsPrefix (FindsTextPrefix f
 stripped front bytes rest (n, (size, split, at), is, long) = split ∙ ap (λ xs. front ++ xs) (sym is)
 
 -- what stands behind the colon of a probe
-pub behind_colon : (front name colon probe field value rest : List ℕ) → probe ≡ front ++ field → field ≡ name ++ value → value ≡ colon ++ rest → probe ≡ front ++ (name ++ (colon ++ rest))
+pub behind_colon : (front name colon probe field value rest : List ℕ)
+    → probe ≡ front ++ field → field ≡ name ++ value → value ≡ colon ++ rest → probe ≡ front ++ (name ++ (colon ++ rest))
 behind_colon front name colon probe field value rest p f v = rw (p, f, v) refl
 
-pub no_front : (front name colon back probe : List ℕ) → ((rest : List ℕ) → probe ≡ front ++ rest → ⊥) → (text : List ℕ) → probe ≡ front ++ name ++ colon ++ text ++ back → ⊥
+pub no_front : (front name colon back probe : List ℕ)
+    → ((rest : List ℕ) → probe ≡ front ++ rest → ⊥) → (text : List ℕ) → probe ≡ front ++ name ++ colon ++ text ++ back → ⊥
 no_front front name colon back probe none text e = none (name ++ (colon ++ (text ++ back))) (e ∙ parts front name colon text back)
 
-pub no_colon : (front name colon back probe field value : List ℕ) → probe ≡ front ++ field → field ≡ name ++ value → ((rest : List ℕ) → value ≡ colon ++ rest → ⊥) → (text : List ℕ) → probe ≡ front ++ name ++ colon ++ text ++ back → ⊥
+pub no_colon : (front name colon back probe field value : List ℕ) → probe ≡ front ++ field → field ≡ name ++ value
+    → ((rest : List ℕ) → value ≡ colon ++ rest → ⊥) → (text : List ℕ) → probe ≡ front ++ name ++ colon ++ text ++ back → ⊥
 no_colon front name colon back probe field value p f none text e =
     let named : field ≡ name ++ (colon ++ (text ++ back)) = append_cancel_left front _ _ (sym p ∙ e ∙ parts front name colon text back) in
     none (text ++ back) (append_cancel_left name _ _ (sym f ∙ named))
 
-pub found_between : (front name colon back probe rest : List ℕ) (r : Option (Bor (List ℕ))) → MatchOption r (FindsTextSuffix back rest None) (λ text. StripsSuffix (FindsTextSuffix back) rest text.now) → probe ≡ front ++ (name ++ (colon ++ rest)) → IfSome r (λ text. probe ≡ front ++ name ++ colon ++ text.now ++ back)
+-- what is answered where the back is stripped of these bytes
+abbrev pub StripsBack : List ℕ → List ℕ → Option (Bor (List ℕ)) → Type 0
+StripsBack back bytes answer = MatchOption answer (FindsTextSuffix back bytes None) (λ text. StripsSuffix (FindsTextSuffix back) bytes text.now)
+
+pub found_between : (front name colon back probe rest : List ℕ) (answer : Option (Bor (List ℕ))) → StripsBack back rest answer
+    → probe ≡ front ++ (name ++ (colon ++ rest)) → IfSome answer (λ text. probe ≡ front ++ name ++ colon ++ text.now ++ back)
 found_between front name colon back probe rest None h p = tt
 found_between front name colon back probe rest (Some text) (n, (size, split, at), is, long) p =
     let whole : rest ≡ text.now ++ back = split ∙ ap (λ xs. xs ++ back) (sym is) in
     p ∙ ap (λ xs. front ++ (name ++ (colon ++ xs))) whole ∙ sym (parts front name colon text.now back)
 
-pub none_between : (front name colon back probe rest : List ℕ) (r : Option (Bor (List ℕ))) → MatchOption r (FindsTextSuffix back rest None) (λ text. StripsSuffix (FindsTextSuffix back) rest text.now) → probe ≡ front ++ (name ++ (colon ++ rest)) → IfNone r ((text : List ℕ) → probe ≡ front ++ name ++ colon ++ text ++ back → ⊥)
+pub none_between : (front name colon back probe rest : List ℕ) (answer : Option (Bor (List ℕ))) → StripsBack back rest answer
+    → probe ≡ front ++ (name ++ (colon ++ rest)) → IfNone answer ((text : List ℕ) → probe ≡ front ++ name ++ colon ++ text ++ back → ⊥)
 none_between front name colon back probe rest None h p = λ text e.
     let named : name ++ (colon ++ rest) ≡ name ++ (colon ++ (text ++ back)) = append_cancel_left front _ _ (sym p ∙ e ∙ parts front name colon text back) in
     h text (append_cancel_left colon _ _ (append_cancel_left name _ _ named))
@@ -81,5 +93,7 @@ none_between front name colon back probe rest (Some text) h p = tt
 
 -- ---- the names one after another
 
-pub probe_in_next : (names : List FieldName) (i : ℕ) (other : FieldName) (probe : List ℕ) → i < length names → probe_in (drop i names) probe ≡ option_or (option_map (Contains (get_or names i other)) (text_in (get_or names i other) probe)) (probe_in (drop (i + 1) names) probe)
+pub probe_in_next : (names : List FieldName) (i : ℕ) (other : FieldName) (probe : List ℕ) → i < length names
+    → probe_in (drop i names) probe
+    ≡ option_or (option_map (Contains (get_or names i other)) (text_in (get_or names i other) probe)) (probe_in (drop (i + 1) names) probe)
 probe_in_next names i other probe below = rw (add-one, drop-cons names i other) refl

@@ -40,5 +40,8 @@ both_test P true stands is to from = sym (from (is.0 refl))
 both_test P false true is to from = is.1 (to refl)
 both_test P false false is to from = refl
 
-pub stands_in_found : (found : Bool) (text whole : List ℕ) → MatchBool found (HasMatch (FindsText text) whole) (FindsText text whole None) → found ≡ stands_in text whole
-stands_in_found found text whole cases = both_test (HasSubslice whole text) found (stands_in text whole) (contains_text found text whole cases) (stands_to text whole) (λ (before, behind, split). stands_from text whole before behind split)
+pub stands_in_found : (found : Bool) (text whole : List ℕ)
+    → MatchBool found (HasMatch (FindsText text) whole) (FindsText text whole None) → found ≡ stands_in text whole
+stands_in_found found text whole cases =
+    both_test (HasSubslice whole text) found (stands_in text whole) (contains_text found text whole cases) (stands_to text whole)
+    (λ (before, behind, split). stands_from text whole before behind split)

@@ -1,6 +1,7 @@
 -- The configuration that a document gives, or its first broken rule.
 use Rattle.std.specs.Prelude.{ℕ, ◌≡◌, ⊤, ◌&&◌, nat_le, is_some, if◌then◌else◌, List, codes, length, Option, Some, None, Result, Ok, Err}
 use Rattle.std.specs.Str.{is_utf8}
+use Rattle.bmc_base.specs.Names.{longest_name}
 use Rattle.serde_json.specs.Read.{read}
 use Rattle.serde_json.specs.Data.{Data, null, boolean, number, string, array, object}
 use Rattle.serde_json.specs.Find.{get}
@@ -22,9 +23,9 @@ abbrev pub required : Option Data → Result Data ConfigFault
 required None = Err MissingKey
 required (Some member) = Ok member
 
--- a text of 1 to 64 bytes
+-- a text that is a name
 abbrev pub short_text : Data → Result (List ℕ) ConfigFault
-short_text (string text) = if nat_le 1 (length text) && nat_le (length text) 64 then Ok text else Err OutOfRange
+short_text (string text) = if nat_le 1 (length text) && nat_le (length text) longest_name then Ok text else Err OutOfRange
 short_text null = Err WrongKind
 short_text (boolean b) = Err WrongKind
 short_text (number n) = Err WrongKind

@@ -1,5 +1,7 @@
 -- Plain probes: a constant, or a field of the board area that contains a text.
-use Rattle.std.specs.Prelude.{◌≡◌, ◌⊎◌, ℕ, ◌-◌, Bool, true, false, ◌&&◌, ◌||◌, nat_eq, nat_lt, nat_le, if◌then◌else◌, List, [], ◌∷◌, ◌++◌, length, slice_range, codes, bytes_eq, Option, Some, None, option_map}
+use Rattle.std.specs.Prelude.{◌≡◌, ◌⊎◌, ℕ, ◌-◌, Bool, true, false, ◌&&◌, ◌||◌, nat_eq, nat_lt, nat_le, if◌then◌else◌}
+use Rattle.std.specs.Prelude.{List, [], ◌∷◌, ◌++◌, length, slice_range, codes, bytes_eq, Option, Some, None, option_map}
+use Rattle.bmc_base.specs.Names.{longest_name}
 use Rattle.std.specs.Option.{option_or}
 use Rattle.std.specs.List.{list_all, starts_with}
 use Rattle.std.specs.Char.{is_ascii_alphanumeric}
@@ -11,9 +13,9 @@ use Rattle.fru_record.specs.Lookups.{text_named}
 use Rattle.cfg_json.specs.declared.probe.PlainProbe.{PlainProbe}
 use Rattle.cfg_json.specs.declared.probe.PlainProbe.TheVariants.{Always, Contains}
 
--- what a plain probe looks for: 1 to 64 ASCII letters and digits
+-- what a plain probe looks for: a name of ASCII letters and digits
 abbrev pub is_plain_text : List ℕ → Bool
-is_plain_text text = nat_lt 0 (length text) && nat_le (length text) 64 && list_all is_ascii_alphanumeric text
+is_plain_text text = nat_lt 0 (length text) && nat_le (length text) longest_name && list_all is_ascii_alphanumeric text
 
 -- what is written before the text of a probe for this field, and behind it
 abbrev pub probe_head : FieldName → List ℕ

@@ -2,6 +2,10 @@
 use Rattle.std.specs.Prelude.{ℕ, ◌≡◌, Bool, List, Option, position, bytes_eq, map}
 use Rattle.cfg_json.specs.Configs.{Config}
 
+-- how many configurations there may be
+abbrev pub most_configs : ℕ
+most_configs = 256
+
 abbrev pub has_name : List ℕ → Config → Bool
 has_name name config = bytes_eq name config.name
 

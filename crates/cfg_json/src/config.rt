@@ -55,9 +55,9 @@ impl Model for Config {
 }
 
 impl Config {
-    /// The configuration of a document in JSON, or the first rule that it breaks: its bytes are JSON in
-    /// UTF-8, its numbers are whole, it is an object with a `Name` of 1 to 64 bytes and a plain `Probe`,
-    /// and it has no `Exposes`. Of a key that is given twice the last value counts.
+    /// Reads the configuration of a document in JSON. In this order, its bytes are JSON in UTF-8, its numbers are
+    /// whole, it is an object with a `Name` of 1 to 64 bytes and a plain `Probe`, and it has no `Exposes`. The fault
+    /// is the first rule that it breaks. Of a key that is given twice the last value counts.
     #[tactic(auto, unfolding(crate::specs::Documents::config_of))]
     pub fn read(alloc: Global, bytes: &[u8]) -> Result<Config, ConfigFault>
         ensures { GivesConfig result (config_read bytes.now) }
@@ -69,14 +69,14 @@ impl Config {
         read_config(&document)
     }
 
-    /// Its name.
+    /// Returns the name.
     pub fn name(&self) -> Name
         ensures { result ≡ self.now.name }
     {
         self.name.copied()
     }
 
-    /// The probe that finds its boards.
+    /// Borrows the probe that finds its boards.
     pub fn probe(&self) -> &PlainProbe
         ensures { result.now ≡ self.now.probe }
     {
@@ -84,7 +84,7 @@ impl Config {
     }
 }
 
-// The document of bytes.
+// Reads the document of bytes.
 #[tactic(auto, using(crate::proofs::Documents::document_of_text, crate::proofs::Documents::document_of_other), unfolding(crate::specs::Documents::config_of))]
 fn read_document(alloc: Global, bytes: &[u8]) -> Result<Value, ConfigFault>
     ensures { GivesDocument result (document_of bytes.now) }
@@ -104,7 +104,7 @@ fn read_document(alloc: Global, bytes: &[u8]) -> Result<Value, ConfigFault>
     }
 }
 
-// The configuration of a document without fractions.
+// Reads the configuration of a document without fractions.
 #[tactic(auto, unfolding(crate::specs::Documents::config_in))]
 fn read_config(document: &Value) -> Result<Config, ConfigFault>
     ensures { result ≡ config_in (view document.now) }
@@ -120,14 +120,14 @@ fn read_config(document: &Value) -> Result<Config, ConfigFault>
     Ok(Config { name, probe })
 }
 
-// A member that has to be there.
+// Borrows a member that has to be there.
 fn required<'a>(document: &'a Value, key: &str) -> Result<&'a Value, ConfigFault>
     ensures { GivesMember result (required (get key.now (view document.now))) }
 {
     document.get(key).ok_or(ConfigFault::MissingKey)
 }
 
-// A text of 1 to 64 bytes.
+// Reads a name.
 fn read_name(value: &Value) -> Result<Name, ConfigFault>
     ensures { result ≡ short_text (view value.now) }
 {
@@ -137,7 +137,7 @@ fn read_name(value: &Value) -> Result<Name, ConfigFault>
     }
 }
 
-// The plain probe of a member.
+// Reads a plain probe.
 fn read_probe(value: &Value) -> Result<PlainProbe, ConfigFault>
     ensures { result ≡ probe_of (view value.now) }
 {

@@ -13,4 +13,4 @@ mod tests;
 pub use config::{Config, ConfigFault};
 pub use law::plain_probes_read_as_written;
 pub use probe::PlainProbe;
-pub use shelf::Shelf;
+pub use shelf::{MOST_CONFIGS, Shelf};

@@ -7,7 +7,11 @@ use indexmap::IndexMap;
 use std::alloc::Global;
 use std::marker::Model;
 
-/// The configurations, in the order in which they were accepted, each under a name of its own.
+/// How many configurations a run takes at the most.
+pub const MOST_CONFIGS: usize = 256;
+
+/// The configurations, in the order in which they were accepted, each under a name of its own. They are numbered
+/// from 0.
 #[derive(Drop)]
 pub struct Shelf {
     configs: IndexMap<Name, Config>,
@@ -29,7 +33,7 @@ impl Model for Shelf {
 const ROOM: usize = 8;
 
 impl Shelf {
-    /// No configurations, and room for a few.
+    /// Returns a shelf without configurations, and with room for a few.
     pub fn new(alloc: Global) -> Result<Shelf, OutOfMemory>
         ensures { IfOk result (λ shelf. shelf ≡ []) }
     {
@@ -37,8 +41,8 @@ impl Shelf {
         Ok(Shelf { configs })
     }
 
-    /// Puts a configuration behind the others, or changes nothing. Its name is new.
-    pub fn add(&mut self, config: Config) -> Result<(), OutOfMemory>
+    /// Puts a configuration behind the others. Its name is new. For want of memory nothing changes.
+    pub fn add(&mut self, alloc: Global, config: Config) -> Result<(), OutOfMemory>
         requires { number_of self.old config.name ≡ None }
         ensures ok { OnOk result (self.new ≡ self.old ++ config ∷ []) }
         ensures err { OnErr result (self.new ≡ self.old) }
@@ -47,14 +51,14 @@ impl Shelf {
         Ok(())
     }
 
-    /// How many there are.
+    /// Returns how many configurations there are.
     pub fn len(&self) -> usize
         ensures { result ≡ length self.now }
     {
         self.configs.len()
     }
 
-    /// The configuration with this number, from 0, or none.
+    /// Borrows the configuration of this number, if there is one.
     pub fn at(&self, number: usize) -> Option<&Config>
         ensures { option_map (λ config. config.now) result ≡ slice_get self.now number }
     {
@@ -64,7 +68,7 @@ impl Shelf {
         }
     }
 
-    /// The number of the configuration with this name, or none.
+    /// Returns the number of the configuration of this name, if there is one.
     pub fn position(&self, name: &Name) -> Option<usize>
         ensures { result ≡ number_of self.now name.now }
     {

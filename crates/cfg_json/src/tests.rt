@@ -1,4 +1,4 @@
-use crate::{Config, ConfigFault, PlainProbe, Shelf, plain_probes_read_as_written};
+use crate::{Config, ConfigFault, MOST_CONFIGS, PlainProbe, Shelf, plain_probes_read_as_written};
 use bmc_base::Name;
 use fru_area::{Area, FieldName};
 use fru_record::FruRecord;
@@ -6,16 +6,36 @@ use std::alloc::Global;
 use std::process::Abort;
 use std::test::Fail;
 
+// A text again and again.
+fn repeated(alloc: Global, text: &str, times: usize) -> Result<String, Fail> {
+    let mut out = String::new(alloc);
+    for _ in 0..times {
+        out.push_str(text)?;
+    }
+    Ok(out)
+}
+
+// The document of a configuration with this name that is always found.
+fn named(alloc: Global, name: &str) -> Result<String, Fail> {
+    Ok(format!(in alloc; r#"{{"Name":"{name}","Probe":"TRUE"}}"#)?)
+}
+
+// The document of a configuration R with this text as its probe.
+fn probing(alloc: Global, probe: &str) -> Result<String, Fail> {
+    Ok(format!(in alloc; r#"{{"Name":"R","Probe":"{probe}"}}"#)?)
+}
+
+// The probe for a text in a field.
+fn field_probe(alloc: Global, field: &str, text: &str) -> Result<String, Fail> {
+    Ok(format!(in alloc; "xyz.openbmc_project.FruDevice({{'{field}': '{text}'}})")?)
+}
+
 #[test]
 fn constant_probes(rt: HostRuntime) -> Result<(), Fail> {
     plain_probes_read_as_written();
     let rows = [
         (r#"{"Name":"A","Probe":"TRUE"}"#, "A"),
         (" { \"Probe\" : \"TRUE\" ,\n\"Name\" : \"A B\" }\r\n", "A B"),
-        (
-            r#"{"Name":"aaaaaaaaaaaaaaaaaaaaaaaaaaaaaaaaaaaaaaaaaaaaaaaaaaaaaaaaaaaaaaaa","Probe":"TRUE"}"#,
-            "aaaaaaaaaaaaaaaaaaaaaaaaaaaaaaaaaaaaaaaaaaaaaaaaaaaaaaaaaaaaaaaa",
-        ),
         ("{\"Name\":\"\\u00e9\\n\",\"Probe\":\"TRUE\"}", "é\n"),
         (
             r#"{"Name":"A","Probe":"TRUE","x":[18446744073709551615,-9223372036854775808,0,null]}"#,
@@ -37,40 +57,42 @@ fn constant_probes(rt: HostRuntime) -> Result<(), Fail> {
 }
 
 #[test]
+fn longest_names(rt: HostRuntime) -> Result<(), Fail> {
+    for (text, times) in [("a", 64), ("é", 32)] {
+        let name = repeated(rt.alloc(), text, times)?;
+        let document = named(rt.alloc(), name.as_str())?;
+        let config = Config::read(rt.alloc(), document.as_bytes())?;
+        assert_eq!(rt; config.name().as_str(), name.as_str());
+        let longer = format!(in rt.alloc(); "{name}{text}")?;
+        let document = named(rt.alloc(), longer.as_str())?;
+        let given = Config::read(rt.alloc(), document.as_bytes()).err();
+        assert_eq!(rt; given, Some(ConfigFault::OutOfRange), "{document}");
+    }
+    Ok(())
+}
+
+#[test]
 fn field_probes(rt: HostRuntime) -> Result<(), Fail> {
+    let longest = repeated(rt.alloc(), "A1", 32)?;
     let rows = [
-        (
-            FieldName::BoardManufacturer,
-            "ACM",
-            r#"{"Name":"R","Probe":"xyz.openbmc_project.FruDevice({'BOARD_MANUFACTURER': 'ACM'})"}"#,
-        ),
-        (
-            FieldName::BoardProductName,
-            "RSR",
-            r#"{"Name":"R","Probe":"xyz.openbmc_project.FruDevice({'BOARD_PRODUCT_NAME': 'RSR'})"}"#,
-        ),
-        (
-            FieldName::BoardSerialNumber,
-            "0",
-            r#"{"Name":"R","Probe":"xyz.openbmc_project.FruDevice({'BOARD_SERIAL_NUMBER': '0'})"}"#,
-        ),
-        (
-            FieldName::BoardPartNumber,
-            "azAZ09",
-            r#"{"Name":"R","Probe":"xyz.openbmc_project.FruDevice({'BOARD_PART_NUMBER': 'azAZ09'})"}"#,
-        ),
+        (FieldName::BoardManufacturer, "BOARD_MANUFACTURER", "ACM"),
+        (FieldName::BoardProductName, "BOARD_PRODUCT_NAME", "RSR"),
+        (FieldName::BoardSerialNumber, "BOARD_SERIAL_NUMBER", "0"),
+        (FieldName::BoardPartNumber, "BOARD_PART_NUMBER", "azAZ09"),
         (
             FieldName::BoardFruVersionId,
-            "A1A1A1A1A1A1A1A1A1A1A1A1A1A1A1A1A1A1A1A1A1A1A1A1A1A1A1A1A1A1A1A1",
-            r#"{"Name":"R","Probe":"xyz.openbmc_project.FruDevice({'BOARD_FRU_VERSION_ID': 'A1A1A1A1A1A1A1A1A1A1A1A1A1A1A1A1A1A1A1A1A1A1A1A1A1A1A1A1A1A1A1A1'})"}"#,
+            "BOARD_FRU_VERSION_ID",
+            longest.as_str(),
         ),
     ];
-    for (field, text, document) in rows {
+    for (field, name, text) in rows {
+        let probe = field_probe(rt.alloc(), name, text)?;
+        let document = probing(rt.alloc(), probe.as_str())?;
         let config = Config::read(rt.alloc(), document.as_bytes())?;
         assert_eq!(rt; config.name().as_str(), "R");
         match config.probe() {
-            PlainProbe::Contains(name, wanted) => {
-                assert_eq!(rt; *name, field);
+            PlainProbe::Contains(found, wanted) => {
+                assert_eq!(rt; *found, field);
                 assert_eq!(rt; wanted.as_str(), text);
             }
             PlainProbe::Always => assert!(rt; false, "{document}"),
@@ -245,52 +267,69 @@ fn missing_keys(rt: HostRuntime) {
 
 #[test]
 fn out_of_range(rt: HostRuntime) {
-    let documents = [
-        r#"{"Name":"","Probe":"TRUE"}"#,
-        r#"{"Name":"","Probe":5}"#,
-        r#"{"Name":"aaaaaaaaaaaaaaaaaaaaaaaaaaaaaaaaaaaaaaaaaaaaaaaaaaaaaaaaaaaaaaaaa","Probe":"TRUE"}"#,
-        r#"{"Name":"ééééééééééééééééééééééééééééééééé","Probe":"TRUE"}"#,
-    ];
+    let documents = [r#"{"Name":"","Probe":"TRUE"}"#, r#"{"Name":"","Probe":5}"#];
     assert_refused(&rt, rt.alloc(), ConfigFault::OutOfRange, &documents);
 }
 
+fn assert_no_plain_probe(rt: &impl Abort, alloc: Global, probe: &str) -> Result<(), Fail> {
+    let document = probing(alloc, probe)?;
+    assert_refused(rt, alloc, ConfigFault::ProbeForm, &[document.as_str()]);
+    Ok(())
+}
+
 #[test]
-fn no_plain_probes(rt: HostRuntime) {
+fn no_plain_probes(rt: HostRuntime) -> Result<(), Fail> {
+    let probes = [
+        "TRUE ",
+        " TRUE",
+        "true",
+        "FALSE",
+        "",
+        "xyz.openbmc_project.FruDevice({'BOARD_PRODUCT_NAME':'RSR'})",
+        "xyz.openbmc_project.FruDevice({'BOARD_PRODUCT_NAME' : 'RSR'})",
+        "xyz.openbmc_project.FruDevice({ 'BOARD_PRODUCT_NAME': 'RSR'})",
+        "xyz.openbmc_project.FruDevice({'BOARD_PRODUCT_NAME': 'RSR' })",
+        "xyz.openbmc_project.FruDevice ({'BOARD_PRODUCT_NAME': 'RSR'})",
+        "xyz.openbmc_project.FruDevice({'BOARD_PRODUCT_NAME': 'RSR'}) ",
+        "xyz.openbmc_project.FruDevice({'BOARD_PRODUCT_NAME': 'RSR'",
+        "xyz.openbmc_project.FruDevice({'BOARD_PRODUCT_NAME': 'RSR', 'BOARD_PART_NUMBER': 'P'})",
+        "xyz.openbmc_project.FruDevice({'BOARD_PRODUCT_NAME': 5})",
+        "xyz.openbmc_project.FruDevice({})",
+    ];
+    for probe in probes {
+        assert_no_plain_probe(&rt, rt.alloc(), probe)?;
+    }
+    for field in [
+        "PRODUCT_PRODUCT_NAME",
+        "BOARD_MANUFACTURE_DATE",
+        "BOARD_INFO_AM1",
+        "BOARD_",
+    ] {
+        let probe = field_probe(rt.alloc(), field, "RSR")?;
+        assert_no_plain_probe(&rt, rt.alloc(), probe.as_str())?;
+    }
+    let long = repeated(rt.alloc(), "A", 65)?;
+    for text in ["", "RSR-1", "RSR 1", ".*", "É", "R'", long.as_str()] {
+        let probe = field_probe(rt.alloc(), "BOARD_PRODUCT_NAME", text)?;
+        assert_no_plain_probe(&rt, rt.alloc(), probe.as_str())?;
+    }
+    Ok(())
+}
+
+#[test]
+fn probes_of_other_forms(rt: HostRuntime) -> Result<(), Fail> {
+    let words = repeated(rt.alloc(), "\"AND\",", 33)?;
+    let long = format!(in rt.alloc(); r#"{{"Name":"R","Probe":[{words}"AND"]}}"#)?;
     let documents = [
-        r#"{"Name":"R","Probe":"TRUE "}"#,
-        r#"{"Name":"R","Probe":" TRUE"}"#,
-        r#"{"Name":"R","Probe":"true"}"#,
-        r#"{"Name":"R","Probe":"FALSE"}"#,
-        r#"{"Name":"R","Probe":""}"#,
-        r#"{"Name":"R","Probe":"xyz.openbmc_project.FruDevice({'BOARD_PRODUCT_NAME':'RSR'})"}"#,
-        r#"{"Name":"R","Probe":"xyz.openbmc_project.FruDevice({'BOARD_PRODUCT_NAME' : 'RSR'})"}"#,
-        r#"{"Name":"R","Probe":"xyz.openbmc_project.FruDevice({ 'BOARD_PRODUCT_NAME': 'RSR'})"}"#,
-        r#"{"Name":"R","Probe":"xyz.openbmc_project.FruDevice({'BOARD_PRODUCT_NAME': 'RSR' })"}"#,
-        r#"{"Name":"R","Probe":"xyz.openbmc_project.FruDevice ({'BOARD_PRODUCT_NAME': 'RSR'})"}"#,
-        r#"{"Name":"R","Probe":"xyz.openbmc_project.FruDevice({'BOARD_PRODUCT_NAME': 'RSR'}) "}"#,
-        r#"{"Name":"R","Probe":"xyz.openbmc_project.FruDevice({'BOARD_PRODUCT_NAME': 'RSR'"}"#,
-        r#"{"Name":"R","Probe":"xyz.openbmc_project.FruDevice({'BOARD_PRODUCT_NAME': 'RSR', 'BOARD_PART_NUMBER': 'P'})"}"#,
-        r#"{"Name":"R","Probe":"xyz.openbmc_project.FruDevice({'BOARD_PRODUCT_NAME': 5})"}"#,
-        r#"{"Name":"R","Probe":"xyz.openbmc_project.FruDevice({})"}"#,
-        r#"{"Name":"R","Probe":"xyz.openbmc_project.FruDevice({'PRODUCT_PRODUCT_NAME': 'RSR'})"}"#,
-        r#"{"Name":"R","Probe":"xyz.openbmc_project.FruDevice({'BOARD_MANUFACTURE_DATE': 'RSR'})"}"#,
-        r#"{"Name":"R","Probe":"xyz.openbmc_project.FruDevice({'BOARD_INFO_AM1': 'RSR'})"}"#,
-        r#"{"Name":"R","Probe":"xyz.openbmc_project.FruDevice({'BOARD_': 'RSR'})"}"#,
-        r#"{"Name":"R","Probe":"xyz.openbmc_project.FruDevice({'BOARD_PRODUCT_NAME': ''})"}"#,
-        r#"{"Name":"R","Probe":"xyz.openbmc_project.FruDevice({'BOARD_PRODUCT_NAME': 'AAAAAAAAAAAAAAAAAAAAAAAAAAAAAAAAAAAAAAAAAAAAAAAAAAAAAAAAAAAAAAAAA'})"}"#,
-        r#"{"Name":"R","Probe":"xyz.openbmc_project.FruDevice({'BOARD_PRODUCT_NAME': 'RSR-1'})"}"#,
-        r#"{"Name":"R","Probe":"xyz.openbmc_project.FruDevice({'BOARD_PRODUCT_NAME': 'RSR 1'})"}"#,
-        r#"{"Name":"R","Probe":"xyz.openbmc_project.FruDevice({'BOARD_PRODUCT_NAME': '.*'})"}"#,
-        r#"{"Name":"R","Probe":"xyz.openbmc_project.FruDevice({'BOARD_PRODUCT_NAME': 'É'})"}"#,
-        r#"{"Name":"R","Probe":"xyz.openbmc_project.FruDevice({'BOARD_PRODUCT_NAME': 'R''})"}"#,
         r#"{"Name":"R","Probe":[]}"#,
         r#"{"Name":"R","Probe":["TRUE"]}"#,
-        r#"{"Name":"R","Probe":["AND","AND","AND","AND","AND","AND","AND","AND","AND","AND","AND","AND","AND","AND","AND","AND","AND","AND","AND","AND","AND","AND","AND","AND","AND","AND","AND","AND","AND","AND","AND","AND","AND","AND"]}"#,
+        long.as_str(),
         r#"{"Name":"A","Probe":"TRUE","Exposes":[]}"#,
         r#"{"Name":"A","Probe":"TRUE","Exposes":null}"#,
         r#"{"Name":"A","Probe":"TRUE","Exposes":[{"Type":"temp"}]}"#,
     ];
     assert_refused(&rt, rt.alloc(), ConfigFault::ProbeForm, &documents);
+    Ok(())
 }
 
 // A configuration with a member of so many arrays, one in the other.
@@ -324,11 +363,12 @@ fn nesting(rt: HostRuntime) -> Result<(), Fail> {
 
 // The configuration of this number, put on the shelf.
 fn add(rt: &impl Abort, alloc: Global, shelf: &mut Shelf, number: usize) -> Result<(), Fail> {
-    let document = format!(in alloc; "{{\"Name\":\"Board {number}\",\"Probe\":\"TRUE\"}}")?;
+    let name = format!(in alloc; "Board {number}")?;
+    let document = named(alloc, name.as_str())?;
     let config = Config::read(alloc, document.as_bytes())?;
     assert!(rt; shelf.position(&config.name()).is_none());
     assert_eq!(rt; shelf.len(), number);
-    shelf.add(config)?;
+    shelf.add(alloc, config)?;
     Ok(())
 }
 
@@ -337,11 +377,11 @@ fn shelves(rt: HostRuntime) -> Result<(), Fail> {
     let mut shelf = Shelf::new(rt.alloc())?;
     assert_eq!(rt; shelf.len(), 0);
     assert!(rt; shelf.at(0).is_none());
-    for number in 0..256usize {
+    for number in 0..MOST_CONFIGS {
         add(&rt, rt.alloc(), &mut shelf, number)?;
     }
-    assert_eq!(rt; shelf.len(), 256);
-    for number in 0..256usize {
+    assert_eq!(rt; shelf.len(), MOST_CONFIGS);
+    for number in 0..MOST_CONFIGS {
         let text = format!(in rt.alloc(); "Board {number}")?;
         let name = Name::new(text.as_str())?;
         assert_eq!(rt; shelf.position(&name), Some(number));
@@ -350,7 +390,7 @@ fn shelves(rt: HostRuntime) -> Result<(), Fail> {
             None => assert!(rt; false, "{number}"),
         }
     }
-    assert!(rt; shelf.at(256).is_none());
+    assert!(rt; shelf.at(MOST_CONFIGS).is_none());
     assert_eq!(rt; shelf.position(&Name::new("Board")?), None);
     Ok(())
 }

@@ -1,6 +1,8 @@
-pub mod Fields
-pub mod Latin
-pub mod NameTexts
-pub mod SixBits
-pub mod Spelled
-pub mod Units
+pub mod WalksLemmas
+pub mod PositionsLemmas
+pub mod TextsLemmas
+pub mod UnitsLemmas
+pub mod NamesLemmas
+pub mod AreasLemmas
+pub mod AnswersLemmas
+pub mod RawFieldsLemmas

@@ -1,5 +1,5 @@
 -- What a call answers, against what reading gives.
-use Rattle.std.specs.Prelude.{◌≡◌, ⊤, Result, Ok, Err}
+use Rattle.std.specs.Prelude.{◌≡◌, ⊤, List, ◌++◌, Result, Ok, Err}
 use Rattle.fru_area.specs.declared.fault.FruFault.{FruFault}
 use Rattle.fru_area.specs.declared.fault.FruFault.TheVariants.{OutOfMemory}
 
@@ -17,6 +17,11 @@ Gives (Err fault) read = GivesFault fault read
 abbrev pub seen : {X Y : Type 0} → (X → Y) → Result X FruFault → Result Y FruFault
 seen view (Ok x) = Ok (view x)
 seen view (Err fault) = Err fault
+
+-- the call appended to a list what reading gives, unless memory ran out
+abbrev pub Appends : {X : Type 0} → Result ⊤ FruFault → (old new : List X) → Result (List X) FruFault → Type 0
+Appends (Ok done) old new read = seen (λ more. old ++ more) read ≡ Ok new
+Appends (Err fault) old new read = GivesFault fault read
 
 -- whether reading gives something, or its fault
 abbrev pub checked : {X : Type 0} → Result X FruFault → Result ⊤ FruFault

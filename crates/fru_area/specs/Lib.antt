@@ -1,7 +1,12 @@
 pub mod Headers
 pub mod Walks
+pub mod Positions
 pub mod Texts
+pub mod Units
 pub mod Names
 pub mod Areas
 pub mod Answers
-pub mod Views
+pub mod RawFields
+pub mod NextNames
+pub mod WorkedTexts
+pub mod WorkedNames

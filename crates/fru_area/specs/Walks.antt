@@ -1,28 +1,51 @@
 -- The fields of an information area, one after another (FRU definition 1.0, section 13): a relation of bytes and
 -- fields, and a function that names the first broken rule.
-use Rattle.std.specs.Prelude.{ℕ, zero, suc, ◌+◌, ◌-◌, ◌/◌, ◌%◌, ◌≡◌, ◌≢◌, ◌==◌, nat_lt, if◌then◌else◌, List, [], ◌∷◌, ◌++◌, length, take, drop, slice_range, Option, Some, None, Result, Ok, Err}
+use Rattle.std.specs.Prelude.{ℕ, zero, suc, ◌+◌, ◌-◌, ◌/◌, ◌%◌, ◌≡◌, ◌≢◌, ◌==◌, nat_lt, if◌then◌else◌, List, [], ◌∷◌, ◌++◌, length, take, drop}
+use Rattle.std.specs.Prelude.{slice_range, Option, Some, None, Result, Ok, Err}
 use Rattle.fru_area.specs.declared.fault.Area.{Area}
 use Rattle.fru_area.specs.declared.fault.FruFault.{FruFault}
 use Rattle.fru_area.specs.declared.fault.FruFault.TheVariants.{FieldOutside, NoEnd}
 
--- a field as it stands: the type, bits 7:6 of its type/length byte, and as many bytes as bits 5:0 say
+-- stands in place of a type/length byte and ends the fields
+abbrev pub end_mark : ℕ
+end_mark = 0xC1
+
+-- bits 7:6 of a type/length byte: the type of the field
+abbrev pub kind_of : ℕ → ℕ
+kind_of head = head / 64
+
+-- bits 5:0 of a type/length byte: the number of the field's bytes
+abbrev pub len_of : ℕ → ℕ
+len_of head = head % 64
+
+-- the highest type of a field
+abbrev pub last_kind : ℕ
+last_kind = 3
+
+-- the most bytes of a field
+abbrev pub longest_field : ℕ
+longest_field = 63
+
+-- a field as it stands
 pub record Raw : Type 0 where
   pub kind : ℕ
   pub bytes : List ℕ
 
--- The bytes spell these fields and then the end mark C1h, whatever follows it.
+-- The bytes spell these fields and then the end mark, whatever follows it.
 pub data Spells : List ℕ → List Raw → Type 0 where
-  ended : (rest : List ℕ) → Spells (0xC1 ∷ rest) []
-  field : (head : ℕ) (bytes rest : List ℕ) (fields : List Raw) → head ≢ 0xC1 → length bytes ≡ head % 64 → Spells rest fields → Spells (head ∷ (bytes ++ rest)) (record { kind = head / 64; bytes = bytes } ∷ fields)
+  ended : (rest : List ℕ) → Spells (end_mark ∷ rest) []
+  field :
+      (head : ℕ) (bytes rest : List ℕ) (fields : List Raw) → head ≢ end_mark → length bytes ≡ len_of head → Spells rest fields →
+      Spells (head ∷ (bytes ++ rest)) (record { kind = kind_of head; bytes = bytes } ∷ fields)
 
 -- The field at the front and the bytes behind it, or none at the end mark. The bytes are those from here to the
 -- checksum.
 unfoldable pub first_field : Area → List ℕ → Result (Option (Raw × List ℕ)) FruFault
 first_field area [] = Err (NoEnd area)
 first_field area (head ∷ bytes) =
-    if head == 0xC1 then Ok None
-    else if nat_lt (length bytes) (head % 64) then Err (FieldOutside area)
-    else Ok (Some (record { kind = head / 64; bytes = take (head % 64) bytes }, drop (head % 64) bytes))
+    if head == end_mark then Ok None
+    else if nat_lt (length bytes) (len_of head) then Err (FieldOutside area)
+    else Ok (Some (record { kind = kind_of head; bytes = take (len_of head) bytes }, drop (len_of head) bytes))
 
 -- a field before those that were read behind it
 abbrev pub with_field : Raw → Result (List Raw) FruFault → Result (List Raw) FruFault
@@ -35,10 +58,10 @@ field_then rest_of (Ok None) = Ok []
 field_then rest_of (Ok (Some found)) = with_field found.0 (rest_of found.1)
 field_then rest_of (Err fault) = Err fault
 
--- the fields from here to the end mark; `most` is more than the number of bytes
-unfoldable pub walk : (area : Area) (most : ℕ) → List ℕ → Result (List Raw) FruFault
+-- the fields from here to the end mark; `limit` is more than the number of bytes
+unfoldable pub walk : (area : Area) (limit : ℕ) → List ℕ → Result (List Raw) FruFault
 walk area zero bytes = Err (NoEnd area)
-walk area (suc most) bytes = field_then (walk area most) (first_field area bytes)
+walk area (suc limit) bytes = field_then (walk area limit) (first_field area bytes)
 
 -- the bytes of a whole area from byte `start` to its checksum, which is the last byte
 abbrev pub field_bytes : List ℕ → ℕ → List ℕ

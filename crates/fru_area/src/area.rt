@@ -1,30 +1,35 @@
-ghost use Rattle.std.specs.Prelude.{◌≡◌, ◌+◌, ◌<◌, ◌≤◌, length, IfOk, IfSome};
-ghost use Rattle.fru_area.specs.Headers.{area_at};
-ghost use Rattle.fru_area.specs.Walks.{raw_fields, field_bytes};
+ghost use Rattle.std.specs.Prelude.{◌≡◌, ◌+◌, ◌^◌, ◌<◌, ◌≤◌, length, take, IfOk, IfSome};
+ghost use Rattle.fru_area.specs.Headers.{area_at, unit, longest_area, last_start};
+ghost use Rattle.fru_area.specs.Walks.{first_field, raw_fields, field_bytes, last_kind, longest_field};
 ghost use Rattle.fru_area.specs.Areas.{area_fields};
-ghost use Rattle.fru_area.specs.Answers.{Gives, checked, seen};
-ghost use Rattle.fru_area.specs.Walks.{first_field};
-ghost use Rattle.fru_area.specs.Views.{found_view, IsNext};
+ghost use Rattle.fru_area.specs.Answers.{Appends, Gives, checked, seen};
+ghost use Rattle.fru_area.specs.NextNames.{IsNext};
+ghost use Rattle.fru_area.specs.RawFields.{found_view};
 
+use crate::header::{FORMAT_VERSION, UNIT};
 use crate::{Area, Field, FieldList, FieldName, FruFault, area_sum, field_text};
 use std::alloc::Global;
 
-/// The area that begins at a byte, whole, or the first of its rules that is broken: `AreaOutside`,
-/// `AreaVersion`, `AreaLength`, `AreaChecksum`. It takes no memory.
+// Stands in place of a type/length byte and ends the fields.
+const END_MARK: u8 = 0xC1;
+
+/// Returns the area that begins at byte `start` of a record, whole with its checksum (FRU definition 1.0,
+/// sections 10 to 12), or the first of its rules that is broken: `AreaOutside`, `AreaVersion`,
+/// `AreaLength`, `AreaChecksum`. It takes no memory.
 #[tactic(auto, unfolding(crate::specs::Headers::area_at))]
 pub fn area_bytes(area: Area, bytes: &[u8], start: usize) -> Result<&[u8], FruFault>
-    requires { start ≤ 2040 }
+    requires { start ≤ last_start }
     ensures exact { seen (λ found. found.now) result ≡ area_at area bytes.now start }
-    ensures size { IfOk result (λ found. (8 ≤ length found.now) × (length found.now ≤ 2040)) }
+    ensures size { IfOk result (λ found. (unit ≤ length found.now) × (length found.now ≤ longest_area)) }
 {
-    if bytes.len() < start + 8 {
+    if bytes.len() < start + UNIT {
         return Err(FruFault::AreaOutside(area));
     }
-    let len = 8 * usize::from(bytes[start + 1]);
+    let len = UNIT * usize::from(bytes[start + 1]);
     if bytes.len() < start + len {
         return Err(FruFault::AreaOutside(area));
     }
-    if bytes[start] != 1 {
+    if bytes[start] != FORMAT_VERSION {
         return Err(FruFault::AreaVersion(area));
     }
     if len == 0 {
@@ -37,7 +42,7 @@ pub fn area_bytes(area: Area, bytes: &[u8], start: usize) -> Result<&[u8], FruFa
     Ok(found)
 }
 
-// The bytes of an area from one on, up to its checksum.
+// Borrows the bytes of an area from byte `start` on, up to its checksum.
 fn field_bytes(bytes: &[u8], start: usize) -> &[u8]
     requires { start < length bytes.now }
     ensures exact { result.now ≡ field_bytes bytes.now start }
@@ -54,17 +59,17 @@ struct RawField<'a> {
     rest: &'a [u8],
 }
 
-// The field at the front of the bytes up to the checksum, or none at the end mark.
+// Returns the field at the front of the bytes, which end before the checksum, or none at the end mark.
 #[tactic(auto, unfolding(crate::specs::Walks::first_field))]
 fn raw_field(area: Area, bytes: &[u8]) -> Result<Option<RawField<'_>>, FruFault>
     ensures exact { seen found_view result ≡ first_field area bytes.now }
     ensures smaller { IfOk result (λ found. IfSome found (λ raw. length raw.rest.now < length bytes.now)) }
-    ensures short { IfOk result (λ found. IfSome found (λ raw. (raw.kind ≤ 3) × (length raw.bytes.now ≤ 63))) }
+    ensures short { IfOk result (λ found. IfSome found (λ raw. (raw.kind ≤ last_kind) × (length raw.bytes.now ≤ longest_field))) }
 {
     let Some((head, after)) = bytes.split_first() else {
         return Err(FruFault::NoEnd(area));
     };
-    if *head == 0xC1 {
+    if *head == END_MARK {
         return Ok(None);
     }
     let count = usize::from(*head % 64);
@@ -79,7 +84,7 @@ fn raw_field(area: Area, bytes: &[u8]) -> Result<Option<RawField<'_>>, FruFault>
     }))
 }
 
-// The name of a field, and the names and the number of a custom field that are left for later ones.
+// The name of a field, and for later fields the names that are left and the number of a custom one.
 #[derive(Clone, Copy)]
 struct NextName<'a> {
     name: FieldName,
@@ -87,10 +92,11 @@ struct NextName<'a> {
     number: u16,
 }
 
+// Names the next field: by the first of the names, or as a custom field of this number.
 fn next_name(area: Area, names: &[FieldName], number: u16) -> NextName<'_>
-    requires { number < 65535 }
+    requires { number + 1 < 2 ^ 16 }
     ensures named { IsNext area names.now number result }
-    ensures most { result.number ≤ number + 1 }
+    ensures limit { result.number ≤ number + 1 }
 {
     match names.split_first() {
         Some((name, later)) => NextName {
@@ -106,8 +112,42 @@ fn next_name(area: Area, names: &[FieldName], number: u16) -> NextName<'_>
     }
 }
 
-/// The fields of a whole area with its checksum, from byte `start` on. The first N get the names,
-/// further ones are custom fields from 1. `FieldOutside` or `NoEnd` is the first rule that is broken.
+/// Appends the fields of a whole area with its checksum to a list, from byte `start` on (FRU definition
+/// 1.0, section 13). The first N get the names, further ones are custom fields from 1. What stood in the
+/// list stays in front.
+///
+/// Fails with `FieldOutside` or `NoEnd`, the first rule that is broken, or for want of memory. Some fields
+/// of the area may stand in the list then.
+pub fn append_area<const N: usize>(
+    list: &mut FieldList,
+    alloc: Global,
+    area: Area,
+    bytes: &[u8],
+    start: usize,
+    english: bool,
+    names: [FieldName; N],
+) -> Result<(), FruFault>
+    requires room { start < length bytes.now }
+    requires short { length bytes.now ≤ longest_area }
+    ensures fields { Appends result list.old list.new (area_fields area english names.entry bytes.now start) }
+    ensures front { take (length list.old) list.new ≡ list.old }
+{
+    let mut rest = field_bytes(bytes, start);
+    let mut names = &names[..];
+    let mut number = 1;
+    while let Some(raw) = raw_field(area, rest)? {
+        let next = next_name(area, names, number);
+        let name = next.name;
+        let text = field_text(raw.kind, english, raw.bytes);
+        list.push(alloc, Field { name, text })?;
+        names = next.later;
+        number = next.number;
+        rest = raw.rest;
+    }
+    Ok(())
+}
+
+/// Returns the fields of a whole area in a list of their own. It fails where `append_area` does.
 pub fn read_area<const N: usize>(
     alloc: Global,
     area: Area,
@@ -117,27 +157,16 @@ pub fn read_area<const N: usize>(
     names: [FieldName; N],
 ) -> Result<FieldList, FruFault>
     requires room { start < length bytes.now }
-    requires short { length bytes.now ≤ 2040 }
+    requires short { length bytes.now ≤ longest_area }
     ensures { Gives result (area_fields area english names.entry bytes.now start) }
 {
     let mut fields = FieldList::new(alloc)?;
-    let mut rest = field_bytes(bytes, start);
-    let mut names = &names[..];
-    let mut number = 1;
-    while let Some(raw) = raw_field(area, rest)? {
-        let next = next_name(area, names, number);
-        let name = next.name;
-        let text = field_text(raw.kind, english, raw.bytes);
-        fields.push(alloc, Field { name, text })?;
-        names = next.later;
-        number = next.number;
-        rest = raw.rest;
-    }
+    append_area(&mut fields, alloc, area, bytes, start, english, names)?;
     Ok(fields)
 }
 
-/// Whether the fields of a whole area, from byte `start` on, break a rule: the first of `FieldOutside`
-/// and `NoEnd` that is broken. It takes no memory.
+/// Checks the fields of a whole area with its checksum, from byte `start` on: fails with the first rule
+/// that is broken, `FieldOutside` or `NoEnd`. It takes no memory.
 pub fn check_fields(area: Area, bytes: &[u8], start: usize) -> Result<(), FruFault>
     requires { start < length bytes.now }
     ensures { result ≡ checked (raw_fields area bytes.now start) }

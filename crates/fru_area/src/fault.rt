@@ -4,14 +4,14 @@ ghost use Rattle.fru_area.specs.declared.fault.FruFault.TheVariants.{OutOfMemory
 use std::alloc::{AllocError, AllocFailed};
 use thiserror::Error;
 
-/// The information areas of a record (FRU definition 1.0, sections 10 to 12).
+/// An information area of a record (FRU definition 1.0, sections 10 to 12).
 #[derive(Clone, Copy, Debug, PartialEq, Eq)]
 pub enum Area {
-    /// The chassis information area.
+    /// The chassis information area (section 10).
     Chassis,
-    /// The board information area.
+    /// The board information area (section 11).
     Board,
-    /// The product information area.
+    /// The product information area (section 12).
     Product,
 }
 
@@ -42,10 +42,10 @@ pub enum FruFault {
     /// The bytes of the area do not sum to zero.
     #[error("the {0:?} area's sum is not zero")]
     AreaChecksum(Area),
-    /// A field reaches the area's checksum or past it.
+    /// A field takes in the area's checksum.
     #[error("a field of the {0:?} area reaches its checksum")]
     FieldOutside(Area),
-    /// No end mark C1h stands before the area's checksum.
+    /// The checksum stands where a field or the end mark C1h should begin.
     #[error("the fields of the {0:?} area have no end mark")]
     NoEnd(Area),
     /// There was no memory. It says nothing of the bytes.

@@ -1,4 +1,6 @@
-ghost use Rattle.std.specs.Prelude.{◌≡◌, ◌≤◌, ◌<◌, ◌+◌, ◌∷◌, ◌++◌, [], length, encode_utf8, IfSome, IfNone, IfOk, OnOk, OnErr};
+ghost use Rattle.std.specs.Prelude.{◌≡◌, ◌≤◌, ◌<◌, ◌+◌, ◌∷◌, ◌++◌, [], length, encode_utf8, IfSome, IfNone, IfOk, OnOk, OnErr, IsTrue, ◌↔◌, bytes_eq};
+ghost use Rattle.fru_area.specs.Names.{name_text};
+ghost use Rattle.fru_area.specs.Texts.{longest_text};
 
 use crate::FieldName;
 use arrayvec::ArrayString;
@@ -6,27 +8,31 @@ use bmc_base::OutOfMemory;
 use std::alloc::Global;
 use std::marker::Model;
 
-/// The text of a field: at most 128 bytes of UTF-8, held without the heap.
+// The most bytes of the text of a field.
+const LONGEST_TEXT: usize = 128;
+
+/// The text of a field in UTF-8: at most 128 bytes, which lie in the value itself.
 #[derive(Drop)]
 pub struct FieldText {
-    text: ArrayString<128>,
+    text: ArrayString<LONGEST_TEXT>,
 }
 
 impl Model for FieldText {
     ghost use Rattle.std.specs.Prelude.{ℕ, List, ◌≤◌, length};
+    ghost use Rattle.fru_area.specs.Texts.{longest_text};
 
     ghost Value = { List ℕ };
 
     ghost view = { λ t. t.text.bytes };
 
-    ghost invariant = { λ t. length t.text.bytes ≤ 128 };
+    ghost invariant = { λ t. length t.text.bytes ≤ longest_text };
 }
 
 impl FieldText {
-    /// The text, or none above 128 bytes. It takes no memory.
+    /// Returns the text, or none above 128 bytes. It takes no memory.
     pub fn new(text: &str) -> Option<FieldText>
         ensures found { IfSome result (λ t. t ≡ text.now) }
-        ensures none { IfNone result (128 < length text.now) }
+        ensures none { IfNone result (longest_text < length text.now) }
     {
         let mut held = ArrayString::new();
         match held.try_push_str(text) {
@@ -35,7 +41,7 @@ impl FieldText {
         }
     }
 
-    // An empty text.
+    // Returns an empty text.
     pub(crate) fn empty() -> FieldText
         ensures { result ≡ [] }
     {
@@ -44,7 +50,7 @@ impl FieldText {
         }
     }
 
-    /// The same text once more. It takes no memory.
+    /// Returns the same text once more. It takes no memory.
     pub fn copied(&self) -> FieldText
         ensures { result ≡ self.now }
     {
@@ -53,35 +59,35 @@ impl FieldText {
         FieldText { text }
     }
 
-    // A text at the end.
+    // Appends a text.
     pub(crate) fn push_str(&mut self, text: &str)
-        requires { length self.old + length text.now ≤ 128 }
+        requires { length self.old + length text.now ≤ longest_text }
         ensures { self.new ≡ self.old ++ text.now }
     {
         self.text.push_str(text);
     }
 
-    // A character at the end.
+    // Appends a character.
     pub(crate) fn push(&mut self, c: char)
-        requires { length self.old + length (encode_utf8 c) ≤ 128 }
+        requires { length self.old + length (encode_utf8 c) ≤ longest_text }
         ensures { self.new ≡ self.old ++ encode_utf8 c }
     {
         self.text.push(c);
     }
 
-    // A character of ASCII at the end.
+    // Appends a character of ASCII.
     pub(crate) fn push_ascii(&mut self, byte: u8)
-        requires room { length self.old < 128 }
-        requires ascii { byte < 128 }
+        requires room { length self.old < longest_text }
+        requires ascii { byte < 0x80 }
         ensures { self.new ≡ self.old ++ byte ∷ [] }
     {
         self.push(char::from(byte));
     }
 
-    /// The text, read.
+    /// Borrows the text.
     pub fn as_str(&self) -> &str
         ensures text { result.now ≡ self.now }
-        ensures most { length self.now ≤ 128 }
+        ensures limit { length self.now ≤ longest_text }
     {
         self.text.as_str()
     }
@@ -90,8 +96,22 @@ impl FieldText {
 /// A field of a record.
 #[derive(Drop)]
 pub struct Field {
+    /// Its name.
     pub name: FieldName,
+    /// Its text, by its type and the language of its area.
     pub text: FieldText,
+}
+
+impl Field {
+    /// Whether the field has this name. It compares no text, as no two names have the same.
+    pub fn is_named(&self, name: FieldName) -> bool
+        ensures same { IsTrue result ↔ (self.now.name ≡ name) }
+        ensures text { result ≡ bytes_eq (name_text self.now.name) (name_text name) }
+    {
+        // The call tells the proof that the name's number fits 16 bits.
+        let _number = name.number();
+        self.name.is(name)
+    }
 }
 
 /// Fields, in the order of the record.
@@ -110,7 +130,7 @@ impl Model for FieldList {
 }
 
 impl FieldList {
-    /// No fields, and room for a few.
+    /// Returns a list of no fields, with room for a few. Fails only for want of memory.
     pub fn new(alloc: Global) -> Result<FieldList, OutOfMemory>
         ensures { IfOk result (λ fields. fields ≡ []) }
     {
@@ -118,7 +138,7 @@ impl FieldList {
         Ok(FieldList { fields })
     }
 
-    /// Appends a field, or changes nothing.
+    /// Appends a field, or changes nothing for want of memory.
     pub fn push(&mut self, alloc: Global, item: Field) -> Result<(), OutOfMemory>
         ensures ok { OnOk result (self.new ≡ self.old ++ item ∷ []) }
         ensures err { OnErr result (self.new ≡ self.old) }
@@ -128,7 +148,7 @@ impl FieldList {
         Ok(())
     }
 
-    /// Appends the fields of another list, or changes nothing.
+    /// Appends the fields of another list, or changes nothing for want of memory.
     pub fn append(&mut self, alloc: Global, mut other: FieldList) -> Result<(), OutOfMemory>
         ensures ok { OnOk result (self.new ≡ self.old ++ other) }
         ensures err { OnErr result (self.new ≡ self.old) }
@@ -138,7 +158,7 @@ impl FieldList {
         Ok(())
     }
 
-    /// The fields, read.
+    /// Borrows the fields.
     pub fn as_slice(&self) -> &[Field]
         ensures { result.now ≡ self.now }
     {

@@ -1,37 +1,55 @@
-ghost use Rattle.std.specs.Prelude.{◌≡◌, ◌≤◌, ◌++◌, ℕ, length, decimal, Some, IfSome, IfNone, IsTrue, ◌↔◌};
-ghost use Rattle.fru_area.specs.Names.{name_text, custom_prefix, IsName};
-ghost use Rattle.fru_area.specs.Views.{number_text, IsFixed, LacksNumber};
+ghost use Rattle.std.specs.Prelude.{◌≡◌, ◌≤◌, ◌+◌, ◌<◌, ◌^◌, ◌++◌, ℕ, length, decimal, Some, IfSome, IfNone, IsTrue, ◌↔◌};
+ghost use Rattle.fru_area.specs.Names.{name_text, number_of, number_text, custom_prefix, last_custom, IsName, IsFixed, LacksNumber};
+ghost use Rattle.fru_area.specs.Texts.{longest_text};
 ghost use Rattle.fru_area.specs.declared.name.FieldName.{FieldName};
 
 use crate::{Area, FieldText};
 use std::fmt;
 
+// The highest number of a custom field: an area has no more bytes.
+const LAST_CUSTOM: u16 = 2040;
+
 /// The name of a field of a record (FRU definition 1.0, sections 10 to 12).
 #[derive(Clone, Copy, Debug, PartialEq, Eq)]
 pub enum FieldName {
+    /// The type of the chassis, a number (section 10).
     ChassisType,
+    /// The part number of the chassis.
     ChassisPartNumber,
+    /// The serial number of the chassis.
     ChassisSerialNumber,
-    /// The date and time of manufacture of the board.
+    /// The date and time of manufacture of the board (section 11).
     BoardManufactureDate,
+    /// The manufacturer of the board.
     BoardManufacturer,
+    /// The product name of the board.
     BoardProductName,
+    /// The serial number of the board.
     BoardSerialNumber,
+    /// The part number of the board.
     BoardPartNumber,
+    /// The FRU file id of the board.
     BoardFruVersionId,
+    /// The manufacturer of the product (section 12).
     ProductManufacturer,
+    /// The name of the product.
     ProductProductName,
+    /// The part or model number of the product.
     ProductPartNumber,
+    /// The version of the product.
     ProductVersion,
+    /// The serial number of the product.
     ProductSerialNumber,
+    /// The asset tag of the product.
     ProductAssetTag,
+    /// The FRU file id of the product.
     ProductFruVersionId,
-    /// A custom field of an area, numbered from 1.
+    /// A custom field of an area, numbered from 1 in the order of the area.
     Custom(Area, u16),
 }
 
 impl FieldName {
-    /// The name as text, as `BOARD_SERIAL_NUMBER` or `BOARD_INFO_AM1`. It takes no memory.
+    /// Returns the name as text, as `BOARD_SERIAL_NUMBER` or `BOARD_INFO_AM1`. It takes no memory.
     pub fn text(&self) -> FieldText
         ensures { result ≡ name_text self.now }
     {
@@ -43,8 +61,8 @@ impl FieldName {
         text
     }
 
-    /// The name that this is the text of, or none. Custom fields are numbered from 1 to 2,040, as no
-    /// area has more bytes. It takes no memory.
+    /// Returns the name that has this text, or none. Custom fields are numbered from 1 to 2,040, as no
+    /// area has more bytes, without leading zeros. It takes no memory.
     pub fn read(text: &str) -> Option<FieldName>
         ensures found { IfSome result (λ n. IsName n × (name_text n ≡ text.now)) }
         ensures none { IfNone result ((n : FieldName) → IsName n → name_text n ≡ text.now → ⊥) }
@@ -55,11 +73,29 @@ impl FieldName {
             .or(read_custom(Area::Product, text))
     }
 
-    // The name, but for the number of a custom field.
+    // Whether two names are one.
+    pub(crate) fn is(self, other: FieldName) -> bool
+        ensures { IsTrue result ↔ (self ≡ other) }
+    {
+        self == other
+    }
+
+    // Returns the number of a custom field, or zero.
+    pub(crate) fn number(self) -> u16
+        ensures exact { result ≡ number_of self }
+        ensures range { result < 2 ^ 16 }
+    {
+        match self {
+            FieldName::Custom(_, number) => number,
+            _ => 0,
+        }
+    }
+
+    // Returns the text of the name, but for the number of a custom field, which has at most 5 digits.
     #[tactic(auto, unfolding(crate::specs::Names::name_text))]
     fn stem(&self) -> &'static str
         ensures text { result.now ++ number_text self.now ≡ name_text self.now }
-        ensures short { length result.now ≤ 24 }
+        ensures room { length result.now + 5 ≤ longest_text }
     {
         match self {
             FieldName::ChassisType => "CHASSIS_TYPE",
@@ -83,10 +119,10 @@ impl FieldName {
     }
 }
 
-// What the name of a custom field of an area begins with.
+// Returns what the name of a custom field of an area begins with.
 fn custom_prefix(area: Area) -> &'static str
     ensures text { result.now ≡ custom_prefix area }
-    ensures short { length result.now ≤ 24 }
+    ensures room { length result.now + 5 ≤ longest_text }
 {
     match area {
         Area::Chassis => "CHASSIS_INFO_AM",
@@ -114,7 +150,7 @@ const FIXED: [FieldName; 16] = [
     FieldName::ProductFruVersionId,
 ];
 
-// The name of this text, of those without a number.
+// Returns the name of this text, of those without a number.
 fn read_fixed(text: &str) -> Option<FieldName>
     ensures found { IfSome result (λ n. IsName n × (name_text n ≡ text.now)) }
     ensures none { IfNone result ((n : FieldName) → IsFixed n → name_text n ≡ text.now → ⊥) }
@@ -127,7 +163,7 @@ fn read_fixed(text: &str) -> Option<FieldName>
     None
 }
 
-// The name of this text, of those of an area's custom fields.
+// Returns the name of this text, of those of an area's custom fields.
 fn read_custom(area: Area, text: &str) -> Option<FieldName>
     ensures found { IfSome result (λ n. IsName n × (name_text n ≡ text.now)) }
     ensures none { IfNone result (LacksNumber (custom_prefix area) text.now) }
@@ -147,9 +183,9 @@ fn read_custom(area: Area, text: &str) -> Option<FieldName>
 
 // Whether a custom field can have this number.
 fn is_custom_number(number: u16) -> bool
-    ensures { IsTrue result ↔ ((1 ≤ number) × (number ≤ 2040)) }
+    ensures { IsTrue result ↔ ((1 ≤ number) × (number ≤ last_custom)) }
 {
-    (1..=2040).contains(&number)
+    (1..=LAST_CUSTOM).contains(&number)
 }
 
 impl fmt::Display for FieldName {

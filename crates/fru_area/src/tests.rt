@@ -1,6 +1,6 @@
 use crate::{
-    Area, FieldList, FieldName, FruFault, Header, area_bytes, area_sum, check_fields, field_text,
-    one_reading, read_area, read_header,
+    Area, Field, FieldList, FieldName, FieldText, FruFault, Header, append_area, area_bytes,
+    area_sum, check_fields, field_text, is_english_language, read_area, read_header,
 };
 use std::alloc::Global;
 use std::process::Abort;
@@ -119,6 +119,7 @@ fn assert_fields(rt: &impl Abort, fields: &FieldList, wanted: &[(FieldName, &str
     assert_eq!(rt; fields.len(), wanted.len());
     for (field, (name, text)) in fields.iter().zip(wanted) {
         assert_eq!(rt; field.name, *name);
+        assert!(rt; field.is_named(*name) && !field.is_named(FieldName::Custom(CHASSIS, 0)));
         assert_eq!(rt; field.text.as_str(), *text);
     }
 }
@@ -135,7 +136,6 @@ const SEVEN: [FieldName; 7] = [
 
 #[test]
 fn named_fields(rt: HostRuntime) -> Result<(), Fail> {
-    one_reading();
     let [first, second, third, fourth, fifth, _, _] = SEVEN;
     let area = area_bytes(BOARD, &RECORD, 8)?;
     assert_eq!(rt; area, &RECORD[8..]);
@@ -157,8 +157,26 @@ fn named_fields(rt: HostRuntime) -> Result<(), Fail> {
     assert_fields(&rt, &five, &wanted);
     let seven = read_area(rt.alloc(), BOARD, area, 6, true, SEVEN)?;
     assert_fields(&rt, &seven, &wanted);
-    let two = read_area(rt.alloc(), Area::Product, area, 6, true, [first, second])?;
+    let mut two = FieldList::new(rt.alloc())?;
+    let text = FieldText::new("17").unwrap();
+    two.push(
+        rt.alloc(),
+        Field {
+            name: FieldName::ChassisType,
+            text,
+        },
+    )?;
+    append_area(
+        &mut two,
+        rt.alloc(),
+        Area::Product,
+        area,
+        6,
+        true,
+        [first, second],
+    )?;
     let wanted = [
+        (FieldName::ChassisType, "17"),
         (first, "ACM"),
         (second, "RSR1"),
         (FieldName::Custom(Area::Product, 1), "S1"),
@@ -299,6 +317,20 @@ fn assert_text(rt: &impl Abort, types: &[(u8, bool)], bytes: &[u8], wanted: &str
         let text = field_text(*kind, *english, bytes);
         assert_eq!(rt; text.as_str(), wanted, "type {kind} at {bytes:?}");
         assert_eq!(rt; text.copied().as_str(), wanted);
+    }
+}
+
+#[test]
+fn languages(rt: HostRuntime) {
+    for (language, english) in [
+        (0, true),
+        (1, false),
+        (24, false),
+        (25, true),
+        (26, false),
+        (255, false),
+    ] {
+        assert_eq!(rt; is_english_language(language), english, "at {language}");
     }
 }
 

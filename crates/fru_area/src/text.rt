@@ -1,17 +1,26 @@
-ghost use Rattle.std.specs.Prelude.{◌≡◌, ◌+◌, ◌<◌, ◌≤◌, ◌&&◌, [], ◌++◌, length, true, MatchOption};
+ghost use Rattle.std.specs.Prelude.{◌≡◌, ◌+◌, ◌^◌, ◌<◌, ◌≤◌, ◌&&◌, [], ◌++◌, length, true, MatchOption};
 ghost use Rattle.std.specs.Char.Utf16.{is_high_surrogate, is_low_surrogate, surrogate_pair_char};
 ghost use Rattle.hex.specs.Hex.{encode_lower};
-ghost use Rattle.fru_area.specs.Texts.{text_of, bcd_char, bcd_text, little_endian, six_bit_chars, six_bit_text, latin_text, unicode_units, unicode_text};
-ghost use Rattle.fru_area.specs.Views.{IsFirstChar, IsFirstUnit, unit_char_of};
+ghost use Rattle.fru_area.specs.Texts.{text_of, longest_text, bcd_char, bcd_text, little_endian, six_bit_chars, six_bit_text, latin_text};
+ghost use Rattle.fru_area.specs.Texts.{unicode_units, unicode_text, is_english_language};
+ghost use Rattle.fru_area.specs.Walks.{last_kind, longest_field};
+ghost use Rattle.fru_area.specs.Units.{IsFirstChar, IsFirstUnit, unit_char_of};
 
 use crate::FieldText;
 
-/// The text of a field of this type (0 binary, 1 BCD plus, 2 6-bit ASCII, 3 by language) in an area
-/// that counts as English or not (FRU definition 1.0, section 13). It takes no memory.
+// The most bytes of a field.
+const LONGEST_FIELD: usize = 63;
+
+// Stands for an odd byte at the end of 2-byte Unicode.
+const REPLACEMENT: u16 = 0xFFFD;
+
+/// Returns the text of a field of this type: 0 binary, 1 BCD plus, 2 6-bit ASCII, and 3 by language, which
+/// is Latin 1 where the area counts as English and else 2-byte Unicode (FRU definition 1.0, section 13).
+/// It takes no memory.
 #[tactic(auto, unfolding(crate::specs::Texts::text_of))]
 pub fn field_text(kind: u8, english: bool, bytes: &[u8]) -> FieldText
-    requires kind { kind ≤ 3 }
-    requires short { length bytes.now ≤ 63 }
+    requires kind { kind ≤ last_kind }
+    requires short { length bytes.now ≤ longest_field }
     ensures { result ≡ text_of english (record { kind = kind; bytes = bytes.now }) }
 {
     match kind {
@@ -23,21 +32,29 @@ pub fn field_text(kind: u8, english: bool, bytes: &[u8]) -> FieldText
     }
 }
 
-// Binary, as hexadecimal.
+/// Whether text in a language counts as English: 0, where none is given, and 25 (FRU definition 1.0,
+/// sections 11 to 13).
+pub fn is_english_language(language: u8) -> bool
+    ensures { result ≡ is_english_language language }
+{
+    language == 0 || language == 25
+}
+
+// Returns binary as lower-case hexadecimal.
 fn binary_text(bytes: &[u8]) -> FieldText
-    requires { length bytes.now ≤ 63 }
+    requires { length bytes.now ≤ longest_field }
     ensures { result ≡ encode_lower bytes.now }
 {
-    let mut buffer = [0; 126];
+    let mut buffer = [0; 2 * LONGEST_FIELD];
     let digits = &mut buffer[..2 * bytes.len()];
     hex::encode_to_slice(bytes, digits).unwrap();
     let text = str::from_utf8(digits).unwrap();
     FieldText::new(text).unwrap()
 }
 
-// BCD plus, two characters a byte.
+// Returns BCD plus, two characters a byte.
 fn bcd_text(bytes: &[u8]) -> FieldText
-    requires { length bytes.now ≤ 63 }
+    requires { length bytes.now ≤ longest_field }
     ensures { result ≡ bcd_text bytes.now }
 {
     let mut text = FieldText::empty();
@@ -48,10 +65,11 @@ fn bcd_text(bytes: &[u8]) -> FieldText
     text
 }
 
+// Returns the character of a nibble of BCD plus.
 fn bcd_char(nibble: u8) -> u8
     requires { nibble < 16 }
     ensures exact { result ≡ bcd_char nibble }
-    ensures ascii { result < 128 }
+    ensures ascii { result < 0x80 }
 {
     match nibble {
         0..=9 => b'0' + nibble,
@@ -64,9 +82,9 @@ fn bcd_char(nibble: u8) -> u8
     }
 }
 
-// 6-bit ASCII: three bytes hold four characters.
+// Returns 6-bit ASCII: three bytes hold four characters.
 fn six_bit_text(bytes: &[u8]) -> FieldText
-    requires { length bytes.now ≤ 63 }
+    requires { length bytes.now ≤ longest_field }
     ensures { result ≡ six_bit_text bytes.now }
 {
     let mut text = FieldText::empty();
@@ -79,11 +97,11 @@ fn six_bit_text(bytes: &[u8]) -> FieldText
     text
 }
 
-// At most three bytes as one number.
+// Returns at most three bytes as one number, the low byte first.
 fn group_bits(group: &[u8]) -> u32
     requires { length group.now ≤ 3 }
     ensures exact { result ≡ little_endian group.now }
-    ensures most { result < 16777216 }
+    ensures limit { result < 2 ^ 24 }
 {
     match group {
         [] => 0,
@@ -95,20 +113,20 @@ fn group_bits(group: &[u8]) -> u32
     }
 }
 
-// So many characters from the low bits up.
+// Appends so many characters of six bits, from the low bits up.
 fn push_six_bit(text: &mut FieldText, mut bits: u32, count: usize)
-    requires { length text.old + count ≤ 128 }
+    requires { length text.old + count ≤ longest_text }
     ensures { text.new ≡ text.old ++ six_bit_chars count bits }
 {
     for _ in 0..count {
-        text.push_ascii(32 + (bits % 64) as u8);
+        text.push_ascii(b' ' + (bits % 64) as u8);
         bits /= 64;
     }
 }
 
-// Latin 1, a character a byte.
+// Returns Latin 1, a character a byte.
 fn latin_text(bytes: &[u8]) -> FieldText
-    requires { length bytes.now ≤ 63 }
+    requires { length bytes.now ≤ longest_field }
     ensures { result ≡ latin_text bytes.now }
 {
     let mut text = FieldText::empty();
@@ -118,9 +136,9 @@ fn latin_text(bytes: &[u8]) -> FieldText
     text
 }
 
-// 2-byte Unicode.
+// Returns 2-byte Unicode, the low byte first.
 fn unicode_text(bytes: &[u8]) -> FieldText
-    requires { length bytes.now ≤ 63 }
+    requires { length bytes.now ≤ longest_field }
     ensures { result ≡ unicode_text bytes.now }
 {
     let mut text = FieldText::empty();
@@ -132,7 +150,7 @@ fn unicode_text(bytes: &[u8]) -> FieldText
     text
 }
 
-// The first character of 2-byte Unicode, and the bytes behind it.
+// Returns the first character of 2-byte Unicode, and the bytes behind it.
 fn first_char(bytes: &[u8]) -> Option<(char, &[u8])>
     ensures { MatchOption result (bytes.now ≡ []) (λ found. IsFirstChar bytes.now found.0 found.1.now) }
 {
@@ -143,13 +161,13 @@ fn first_char(bytes: &[u8]) -> Option<(char, &[u8])>
     }
 }
 
-// The first unit of 2-byte Unicode, and the bytes behind it.
+// Returns the first unit of 2-byte Unicode, and the bytes behind it.
 fn first_unit(bytes: &[u8]) -> Option<(u16, &[u8])>
     ensures { MatchOption result (bytes.now ≡ []) (λ found. IsFirstUnit bytes.now found.0 found.1.now) }
 {
     match bytes {
         [] => None,
-        [_] => Some((0xFFFD, &bytes[1..])),
+        [_] => Some((REPLACEMENT, &bytes[1..])),
         [low, high, later @ ..] => { Some((u16::from(*low) + 256 * u16::from(*high), later)) },
     }
 }
@@ -161,7 +179,7 @@ fn is_pair(high: u16, low: u16) -> bool
     (0xD800..0xDC00).contains(&high) && (0xDC00..0xE000).contains(&low)
 }
 
-// The character of a surrogate pair.
+// Returns the character of a surrogate pair.
 fn pair_char(high: u16, low: u16) -> char
     requires { (is_high_surrogate high && is_low_surrogate low) ≡ true }
     ensures { result ≡ surrogate_pair_char high low }
@@ -170,7 +188,7 @@ fn pair_char(high: u16, low: u16) -> char
     char::from_u32(0x1_0000 + above).unwrap()
 }
 
-// The character of a unit that is in no pair.
+// Returns the character of a unit that is in no pair, U+FFFD for a surrogate.
 fn unit_char(unit: u16) -> char
     ensures { result ≡ unit_char_of unit }
 {

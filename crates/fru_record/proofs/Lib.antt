@@ -1,8 +1,8 @@
-pub mod Built
-pub mod Checking
-pub mod DateTexts
-pub mod Days
-pub mod Reading
-pub mod Sizes
-pub mod Spelled
-pub mod Texts
+pub mod BuildingLemmas
+pub mod DatesLemmas
+pub mod FieldFaultsLemmas
+pub mod LayoutsLemmas
+pub mod LookupsLemmas
+pub mod RecordsLemmas
+pub mod SpellingsLemmas
+pub mod TextRulesLemmas

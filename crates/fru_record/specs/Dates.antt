@@ -1,12 +1,23 @@
 -- The date and time of manufacture of a board (FRU definition 1.0, section 11): minutes since 1996-01-01 00:00.
-use Rattle.std.specs.Prelude.{ℕ, zero, suc, ◌+◌, ◌*◌, ◌-◌, ◌/◌, ◌%◌, nat_lt, if◌then◌else◌, List, [], ◌∷◌, ◌++◌, codes, decimal, slice_index, pos}
+use Rattle.std.specs.Prelude.{ℕ, zero, suc, ◌≡◌, ◌+◌, ◌*◌, ◌-◌, ◌/◌, ◌%◌, ◌^◌, nat_lt, if◌then◌else◌, List, [], ◌∷◌, ◌++◌, codes, decimal, slice_index, pos}
 use Rattle.jiff.specs.Words.{days_in_year, days_in_month}
+use Rattle.jiff_core.specs.declared.civil.date.Date.{Date}
+
+-- the first minute that 24 bits do not hold
+abbrev pub minutes_limit : ℕ
+minutes_limit = 2 ^ 24
 
 -- a day of the civil calendar
 pub record Day : Type 0 where
   pub year : ℕ
   pub month : ℕ
   pub day : ℕ
+
+-- the date is this day
+pub record IsDay (day : Day) (date : Date) : Type 0 where
+  pub year : date.year ≡ pos day.year
+  pub month : date.month ≡ day.month
+  pub day_of_month : date.day ≡ day.day
 
 -- the day that is so many days after the first of a month
 abbrev pub day_in_year : (months : ℕ) → ℕ → ℕ → ℕ → Day

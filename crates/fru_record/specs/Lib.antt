@@ -2,6 +2,10 @@ pub mod Dates
 pub mod Records
 pub mod Lookups
 pub mod Spellings
+pub mod FieldFaults
 pub mod Parts
 pub mod Building
-pub mod Views
+pub mod TextRules
+pub mod Layouts
+pub mod WorkedRecords
+pub mod WorkedParts

@@ -27,12 +27,14 @@ text_fields area [] number (text ∷ texts) = record { name = Custom area number
 
 abbrev pub chassis_fields : Option ChassisPart → List Field
 chassis_fields None = []
-chassis_fields (Some part) = record { name = ChassisType; text = decimal part.chassis_type } ∷ text_fields Chassis (names_of Chassis) 1 (part.named ++ part.custom)
+chassis_fields (Some part) =
+    record { name = ChassisType; text = decimal part.chassis_type } ∷ text_fields Chassis (names_of Chassis) 1 (part.named ++ part.custom)
 
 abbrev pub board_fields : Option BoardPart → List Field
 board_fields None = []
 board_fields (Some part) =
-    (if part.minutes == 0 then [] else record { name = BoardManufactureDate; text = date_text part.minutes } ∷ []) ++ text_fields Board (names_of Board) 1 (part.named ++ part.custom)
+    (if part.minutes == 0 then [] else record { name = BoardManufactureDate; text = date_text part.minutes } ∷ []) ++ text_fields Board
+    (names_of Board) 1 (part.named ++ part.custom)
 
 abbrev pub product_fields : Option ProductPart → List Field
 product_fields None = []

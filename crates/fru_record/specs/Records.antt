@@ -1,13 +1,17 @@
 -- A whole FRU record (FRU definition 1.0, sections 8 and 10 to 13): its fields, or the first broken rule.
-use Rattle.std.specs.Prelude.{ℕ, ◌*◌, Bool, true, ◌==◌, ◌||◌, if◌then◌else◌, List, [], ◌∷◌, ◌++◌, decimal, slice_index, Result, Ok, Err}
-use Rattle.fru_area.specs.Headers.{header, area_at}
+use Rattle.std.specs.Prelude.{ℕ, ◌*◌, Bool, true, ◌==◌, if◌then◌else◌, List, [], ◌∷◌, ◌++◌, decimal, slice_index, Result, Ok, Err}
+use Rattle.fru_area.specs.Headers.{unit, header, area_at}
 use Rattle.fru_area.specs.Areas.{area_fields}
+use Rattle.fru_area.specs.Texts.{is_english_language}
 use Rattle.fru_area.specs.declared.fault.Area.{Area}
 use Rattle.fru_area.specs.declared.fault.Area.TheVariants.{Chassis, Board, Product}
 use Rattle.fru_area.specs.declared.fault.FruFault.{FruFault}
 use Rattle.fru_area.specs.declared.header.Header.{Header}
 use Rattle.fru_area.specs.declared.name.FieldName.{FieldName}
-use Rattle.fru_area.specs.declared.name.FieldName.TheVariants.{ChassisType, ChassisPartNumber, ChassisSerialNumber, BoardManufactureDate, BoardManufacturer, BoardProductName, BoardSerialNumber, BoardPartNumber, BoardFruVersionId, ProductManufacturer, ProductProductName, ProductPartNumber, ProductVersion, ProductSerialNumber, ProductAssetTag, ProductFruVersionId}
+use Rattle.fru_area.specs.declared.name.FieldName.TheVariants.{ChassisType, ChassisPartNumber, ChassisSerialNumber, BoardManufactureDate}
+use Rattle.fru_area.specs.declared.name.FieldName.TheVariants.{BoardManufacturer, BoardProductName, BoardSerialNumber, BoardPartNumber}
+use Rattle.fru_area.specs.declared.name.FieldName.TheVariants.{BoardFruVersionId, ProductManufacturer, ProductProductName, ProductPartNumber}
+use Rattle.fru_area.specs.declared.name.FieldName.TheVariants.{ProductVersion, ProductSerialNumber, ProductAssetTag, ProductFruVersionId}
 use Rattle.fru_area.specs.declared.field.Field.{Field}
 use Rattle.fru_record.specs.Dates.{minutes_of, date_text}
 
@@ -15,7 +19,8 @@ use Rattle.fru_record.specs.Dates.{minutes_of, date_text}
 abbrev pub names_of : Area → List FieldName
 names_of Chassis = ChassisPartNumber ∷ ChassisSerialNumber ∷ []
 names_of Board = BoardManufacturer ∷ BoardProductName ∷ BoardSerialNumber ∷ BoardPartNumber ∷ BoardFruVersionId ∷ []
-names_of Product = ProductManufacturer ∷ ProductProductName ∷ ProductPartNumber ∷ ProductVersion ∷ ProductSerialNumber ∷ ProductAssetTag ∷ ProductFruVersionId ∷ []
+names_of Product =
+    ProductManufacturer ∷ ProductProductName ∷ ProductPartNumber ∷ ProductVersion ∷ ProductSerialNumber ∷ ProductAssetTag ∷ ProductFruVersionId ∷ []
 
 -- where the fields of an area start
 abbrev pub fields_start : Area → ℕ
@@ -23,11 +28,11 @@ fields_start Chassis = 3
 fields_start Board = 6
 fields_start Product = 3
 
--- whether the text of an area counts as English: languages 0 and 25 do, and the chassis area, which has none
+-- whether the text of an area counts as English: by its language, and always in the chassis area, which has none
 abbrev pub is_english : Area → List ℕ → Bool
 is_english Chassis area = true
-is_english Board area = slice_index area 2 == 0 || slice_index area 2 == 25
-is_english Product area = slice_index area 2 == 0 || slice_index area 2 == 25
+is_english Board area = is_english_language (slice_index area 2)
+is_english Product area = is_english_language (slice_index area 2)
 
 -- the fields that stand at a fixed place: the chassis type, and the date of the board where there is one
 abbrev pub fixed_fields : Area → List ℕ → List Field
@@ -47,9 +52,9 @@ fields_of_area area bytes = do
   fields ← area_fields area (is_english area bytes) (names_of area) bytes (fields_start area)
   Ok (fixed_fields area bytes ++ fields)
 
--- the fields of the area that begins at this offset, in multiples of 8 bytes; at 0 it is absent
+-- the fields of the area that begins at this offset, in units; at 0 it is absent
 unfoldable pub fields_at : Area → List ℕ → ℕ → Result (List Field) FruFault
-fields_at area bytes offset = if offset == 0 then Ok [] else area_at area bytes (8 * offset) >>= fields_of_area area
+fields_at area bytes offset = if offset == 0 then Ok [] else area_at area bytes (unit * offset) >>= fields_of_area area
 
 -- the fields of the areas under a header
 unfoldable pub fields_under : List ℕ → Header → Result (List Field) FruFault

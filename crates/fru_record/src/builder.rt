@@ -1,21 +1,28 @@
 ghost use Rattle.std.specs.Prelude.{◌≡◌, ◌≤◌, ◌<◌, ◌+◌, ◌-◌, ◌∷◌, ◌++◌, [], ℕ, length, slice_index, map, Ok, IfOk, OnOk};
 ghost use Rattle.std.specs.List.{flat_map, All};
 ghost use Rattle.std.specs.Str.{chars, IsUtf8};
+ghost use Rattle.fru_area.specs.Walks.{longest_field};
 ghost use Rattle.fru_record.specs.Parts.{HasNames, fields_of_parts, texts_of, chassis_texts, board_texts, product_texts};
 ghost use Rattle.fru_record.specs.Records.{record_of};
-ghost use Rattle.fru_record.specs.Building.{GivesBytes, build_fault, record_bytes, has_late_date, closing_byte, field_of_text, area_body, area_units, area_bytes, chassis_body, board_body, product_body, units_of, bytes_of};
-ghost use Rattle.fru_record.specs.Views.{IsLayout, IsBuildable, HasOffsets, IsWritable, AreWritable, header_start, field_head, first_char};
+ghost use Rattle.fru_record.specs.Building.{most_units, GivesBytes, build_fault, record_bytes, has_late_date, closing_byte};
+ghost use Rattle.fru_record.specs.Building.{field_of_text, area_body, area_units, area_bytes, chassis_body, board_body, product_body, units_of, bytes_of};
+ghost use Rattle.fru_record.specs.Layouts.{IsLayout, IsBuildable, HasOffsets, header_start};
+ghost use Rattle.fru_record.specs.TextRules.{IsWritable, AreWritable, field_head, first_char};
 ghost use Rattle.fru_record.specs.declared.builder.BuildFault.TheVariants.{OutOfMemory};
 
-use crate::layout::Layout;
+use crate::date::MINUTES_LIMIT;
+use crate::layout::{Layout, UNIT};
 use crate::parts::{BoardPart, ChassisPart, FieldTexts, Parts, ProductPart};
-use crate::text_rule::{TextRule, char_count, parts_break};
+use crate::text_rule::{FIRST_SIX_BIT, TextRule, char_count, parts_break};
 use bmc_base::{Bytes, Text};
 use fru_area::area_sum;
 use std::alloc::{AllocError, Global};
 use thiserror::Error;
 
-/// Why a record can't be built, the first of these.
+// Ends the fields of an area.
+const END_MARK: u8 = 0xC1;
+
+/// Why a record can't be built: the first of these, rule by rule.
 #[derive(Clone, Copy, Debug, PartialEq, Eq, Error)]
 pub enum BuildFault {
     /// The minutes of the board are 2^24 or more.
@@ -49,7 +56,7 @@ impl From<AllocError> for BuildFault {
     }
 }
 
-/// The bytes of a record of these parts: language 0 (English), texts in Latin 1, a text of one character
+/// Builds the bytes of a record of these parts: language 0 (English), texts in Latin 1, a text of one character
 /// in 6-bit ASCII, an empty text as C0h, padding of zeros, and the areas in the order chassis, board,
 /// product. A refusal is the first of `BuildFault`, rule by rule. `FruRecord::decode` reads the bytes as
 /// exactly the fields of the parts.
@@ -68,7 +75,7 @@ pub fn build(alloc: Global, parts: &Parts) -> Result<Bytes, BuildFault>
     }
 }
 
-// Why no record can be built of the parts, or none.
+// Says why no record can be built of the parts, if so.
 fn first_fault(parts: &Parts, layout: Layout) -> Option<BuildFault>
     requires { IsLayout parts.now layout }
     ensures { result ≡ build_fault parts.now }
@@ -99,12 +106,12 @@ fn has_late_date(board: &Option<BoardPart>) -> bool
     ensures { result ≡ has_late_date board.now }
 {
     match board {
-        Some(part) => part.minutes >= 1 << 24,
+        Some(part) => part.minutes >= MINUTES_LIMIT,
         None => false,
     }
 }
 
-// The bytes of a record, whose parts allow it.
+// Writes the bytes of a record, whose parts allow it.
 fn record_bytes(alloc: Global, parts: &Parts, layout: Layout) -> Result<Vec<u8>, AllocError>
     requires { IsBuildable parts.now layout }
     ensures written { IfOk result (λ bytes. bytes.items ≡ record_bytes parts.now) }
@@ -139,7 +146,7 @@ fn push_chassis(
 ) -> Result<(), AllocError>
     requires texts { AreWritable (chassis_texts part.now) }
     requires units { units ≡ units_of (chassis_body part.now) }
-    requires short { units ≤ 255 }
+    requires short { units ≤ most_units }
     ensures written { OnOk result (bytes.new.items ≡ bytes.old.items ++ bytes_of (chassis_body part.now)) }
     ensures utf8 { OnOk result (All IsUtf8 (chassis_texts part.now)) }
 {
@@ -155,7 +162,7 @@ fn push_chassis(
 fn push_board(bytes: &mut Vec<u8>, units: usize, part: &Option<BoardPart>) -> Result<(), AllocError>
     requires texts { AreWritable (board_texts part.now) }
     requires units { units ≡ units_of (board_body part.now) }
-    requires short { units ≤ 255 }
+    requires short { units ≤ most_units }
     ensures written { OnOk result (bytes.new.items ≡ bytes.old.items ++ bytes_of (board_body part.now)) }
     ensures utf8 { OnOk result (All IsUtf8 (board_texts part.now)) }
 {
@@ -178,7 +185,7 @@ fn push_product(
 ) -> Result<(), AllocError>
     requires texts { AreWritable (product_texts part.now) }
     requires units { units ≡ units_of (product_body part.now) }
-    requires short { units ≤ 255 }
+    requires short { units ≤ most_units }
     ensures written { OnOk result (bytes.new.items ≡ bytes.old.items ++ bytes_of (product_body part.now)) }
     ensures utf8 { OnOk result (All IsUtf8 (product_texts part.now)) }
 {
@@ -188,7 +195,7 @@ fn push_product(
     }
 }
 
-// A whole area of so many multiples of 8 bytes.
+// Appends a whole area of so many units.
 fn push_area(
     bytes: &mut Vec<u8>,
     units: usize,
@@ -198,7 +205,7 @@ fn push_area(
 ) -> Result<(), AllocError>
     requires texts { AreWritable (named.now ++ custom.now) }
     requires units { units ≡ area_units (area_body fixed.now (named.now ++ custom.now)) }
-    requires short { units ≤ 255 }
+    requires short { units ≤ most_units }
     ensures written { OnOk result (bytes.new.items ≡ bytes.old.items ++ area_bytes (area_body fixed.now (named.now ++ custom.now))) }
     ensures utf8 { OnOk result (All IsUtf8 (named.now ++ custom.now)) }
 {
@@ -206,13 +213,13 @@ fn push_area(
     bytes.push(1)?;
     bytes.push(units as u8)?;
     push_body(bytes, fixed, named, custom)?;
-    bytes.resize(start + 8 * units - 1, 0)?;
+    bytes.resize(start + UNIT * units - 1, 0)?;
     let closing = closing_byte(&bytes[start..]);
     bytes.push(closing)?;
     Ok(())
 }
 
-// What an area holds behind its version and length.
+// Appends what an area holds behind its version and length.
 fn push_body(
     bytes: &mut Vec<u8>,
     fixed: &[u8],
@@ -226,7 +233,7 @@ fn push_body(
     bytes.extend_from_slice(fixed)?;
     push_texts(bytes, named.as_slice())?;
     push_texts(bytes, custom.as_slice())?;
-    bytes.push(0xC1)?;
+    bytes.push(END_MARK)?;
     Ok(())
 }
 
@@ -241,7 +248,7 @@ fn push_texts(bytes: &mut Vec<u8>, texts: &[Text]) -> Result<(), AllocError>
     Ok(())
 }
 
-// A text as a field: a single character in 6-bit ASCII, all else in Latin 1.
+// Appends a text as a field: a single character in 6-bit ASCII, all else in Latin 1.
 fn push_text(bytes: &mut Vec<u8>, text: &str) -> Result<(), AllocError>
     requires { IsWritable text.now }
     ensures written { OnOk result (bytes.new.items ≡ bytes.old.items ++ field_of_text text.now) }
@@ -252,22 +259,22 @@ fn push_text(bytes: &mut Vec<u8>, text: &str) -> Result<(), AllocError>
     push_chars(bytes, text, first_char(count))
 }
 
-// The type and length of a field with so many characters.
+// Returns the type and length of a field with so many characters.
 fn field_head(count: usize) -> u8
-    requires { count ≤ 63 }
+    requires { count ≤ longest_field }
     ensures { result ≡ field_head count }
 {
     if count == 1 { 0x81 } else { 0xC0 + count as u8 }
 }
 
-// The character that a field with so many characters writes as 0.
+// Returns the character that a field with so many characters writes as 0.
 fn first_char(count: usize) -> u32
     ensures { result ≡ first_char count }
 {
-    if count == 1 { 32 } else { 0 }
+    if count == 1 { FIRST_SIX_BIT } else { 0 }
 }
 
-// The characters of a text, from this one on.
+// Appends the characters of a text, counted from this one on.
 fn push_chars(bytes: &mut Vec<u8>, text: &str, first: u32) -> Result<(), AllocError>
     requires { (k : ℕ) → k < length (chars text.now) → (first ≤ slice_index (chars text.now) k) × (slice_index (chars text.now) k ≤ first + 255) }
     ensures { OnOk result (bytes.new.items ≡ bytes.old.items ++ map (λ c. c - first) (chars text.now)) }
@@ -278,7 +285,7 @@ fn push_chars(bytes: &mut Vec<u8>, text: &str, first: u32) -> Result<(), AllocEr
     Ok(())
 }
 
-// The byte that brings the sum of the bytes to zero.
+// Returns the byte that brings the sum of the bytes to zero.
 fn closing_byte(bytes: &[u8]) -> u8
     ensures { result ≡ closing_byte bytes.now }
 {

@@ -1,11 +1,13 @@
 ghost use Rattle.std.specs.Prelude.{◌≡◌, ◌<◌, length};
 ghost use Rattle.fru_area.specs.Answers.{checked};
+ghost use Rattle.fru_area.specs.Headers.{unit};
 ghost use Rattle.fru_record.specs.Records.{record_of, fields_start, fields_at};
 
+use crate::layout::UNIT;
 use fru_area::{Area, FruFault, area_bytes, check_fields, read_header};
 
-/// Whether the bytes spell a record, or the first rule that they break: what `FruRecord::decode` answers,
-/// without the fields and without memory.
+/// Tells whether the bytes spell a record, or the first rule that they break: what `FruRecord::decode` answers,
+/// without the fields and without memory, so it never answers `OutOfMemory`.
 pub fn check_record(bytes: &[u8]) -> Result<(), FruFault>
     ensures { result ≡ checked (record_of bytes.now) }
 {
@@ -15,21 +17,21 @@ pub fn check_record(bytes: &[u8]) -> Result<(), FruFault>
     check_area(Area::Product, bytes, header.product)
 }
 
-// Whether the area that begins at this offset, in multiples of 8 bytes, breaks no rule; at 0 it is absent.
+// Tells whether the area that begins at this offset, in units, breaks no rule; at 0 it is absent.
 fn check_area(area: Area, bytes: &[u8], offset: u8) -> Result<(), FruFault>
     ensures { result ≡ checked (fields_at area bytes.now offset) }
 {
     if offset == 0 {
         return Ok(());
     }
-    let found = area_bytes(area, bytes, 8 * usize::from(offset))?;
+    let found = area_bytes(area, bytes, UNIT * usize::from(offset))?;
     check_fields(area, found, fields_start(area))
 }
 
-// Where the fields of an area begin.
+// Returns the position where the fields of an area begin.
 fn fields_start(area: Area) -> usize
     ensures exact { result ≡ fields_start area }
-    ensures least { result < 8 }
+    ensures short { result < unit }
 {
     match area {
         Area::Chassis | Area::Product => 3,

@@ -1,23 +1,26 @@
 ghost use Rattle.std.specs.Prelude.{◌≡◌, ◌<◌, ◌+◌, ◌%◌, ◌^◌};
-ghost use Rattle.fru_record.specs.Dates.{manufacture_day, date_text};
-ghost use Rattle.fru_record.specs.Views.{IsDay};
+ghost use Rattle.fru_record.specs.Dates.{minutes_limit, manufacture_day, date_text, IsDay};
 
 use fru_area::FieldText;
 use jiff::ToSpan;
 use jiff::civil::{Date, date};
 
-/// The date of minutes since 1996-01-01 00:00, as `YYYY-MM-DD HH:MM`. The civil date is jiff's.
+// The first minute that 24 bits do not hold.
+pub(crate) const MINUTES_LIMIT: u32 = 1 << 24;
+
+/// Prints the date of minutes since 1996-01-01 00:00 as `YYYY-MM-DD HH:MM` (FRU definition 1.0, section
+/// 11). The civil date is jiff's.
 pub fn date_field(minutes: u32) -> FieldText
-    requires { minutes < 2 ^ 24 }
+    requires { minutes < minutes_limit }
     ensures { result ≡ date_text minutes }
 {
     let text = date_bytes(manufacture_date(minutes), minutes);
     FieldText::new(str::from_utf8(&text).unwrap()).unwrap()
 }
 
-// The text of a date and of the time of its minutes.
+// Prints a date and the time of its minutes.
 fn date_bytes(date: Date, minutes: u32) -> [u8; 16]
-    requires short { minutes < 2 ^ 24 }
+    requires short { minutes < minutes_limit }
     requires same { IsDay (manufacture_day minutes) date }
     ensures { result ≡ date_text minutes }
 {
@@ -46,16 +49,16 @@ fn date_bytes(date: Date, minutes: u32) -> [u8; 16]
     ]
 }
 
-// The day of minutes since 1996-01-01 00:00.
+// Returns the day of minutes since 1996-01-01 00:00.
 fn manufacture_date(minutes: u32) -> Date
-    requires { minutes < 2 ^ 24 }
+    requires { minutes < minutes_limit }
     ensures { IsDay (manufacture_day minutes) result }
 {
     let days = i64::from(minutes / 1440);
     date(1996, 1, 1).checked_add(days.days()).unwrap()
 }
 
-// The last digit of a number.
+// Returns the last digit of a number.
 fn digit(n: u32) -> u8
     ensures { result ≡ 48 + n % 10 }
 {

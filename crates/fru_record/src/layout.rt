@@ -1,17 +1,24 @@
-ghost use Rattle.std.specs.Prelude.{◌≡◌, ◌≢◌, ◌≤◌, ◌<◌, ◌+◌, ◌*◌, ◌^◌, ◌-◌, ◌||◌, ◌++◌, ℕ, List, length, min, nat_lt};
+ghost use Rattle.std.specs.Prelude.{◌≡◌, ◌≤◌, ◌+◌, ◌*◌, ◌^◌, ◌-◌, ◌||◌, ◌++◌, ℕ, List, length, min, nat_lt};
 ghost use Rattle.std.specs.List.{flat_map};
-ghost use Rattle.fru_record.specs.Building.{field_of_text, area_body, area_units, units_of, chassis_body, board_body, product_body};
-ghost use Rattle.fru_record.specs.Views.{IsLayout, offset_at};
+ghost use Rattle.fru_area.specs.Headers.{unit};
+ghost use Rattle.fru_record.specs.Building.{most_units, field_of_text, area_body, area_units, units_of, chassis_body, board_body, product_body};
+ghost use Rattle.fru_record.specs.Layouts.{IsLayout, is_long_layout, offset_at};
 
 use crate::parts::{BoardPart, ChassisPart, FieldTexts, Parts, ProductPart};
 use crate::text_rule::char_count;
 use bmc_base::Text;
 
-// An area has at most this many multiples of 8 bytes, and begins at most so far from the start.
+// Offsets and lengths of areas count units of so many bytes.
+pub(crate) const UNIT: usize = 8;
+
+// The most units that the length of an area, or an offset, counts.
 const MOST_UNITS: usize = 255;
 
-// How many multiples of 8 bytes the areas of a record take: 0 where an area is absent, and 256 where
-// it is too long.
+// The most bytes of a record.
+const LONGEST_RECORD: usize = 4096;
+
+// How many units the areas of a record take: 0 where an area is absent, and one more than an area can
+// have where it is too long.
 #[derive(Clone, Copy)]
 pub(crate) struct Layout {
     pub chassis: usize,
@@ -20,7 +27,7 @@ pub(crate) struct Layout {
 }
 
 impl Layout {
-    /// The layout of a record of these parts.
+    /// Measures a record of these parts.
     pub fn new(parts: &Parts) -> Layout
         ensures { IsLayout parts.now result }
     {
@@ -31,52 +38,54 @@ impl Layout {
         }
     }
 
-    /// Whether an area is too long.
+    /// Tells whether an area is too long.
     pub fn has_long_area(self) -> bool
-        ensures { result ≡ (nat_lt 255 self.chassis || nat_lt 255 self.board || nat_lt 255 self.product) }
+        ensures { result ≡ (nat_lt most_units self.chassis || nat_lt most_units self.board || nat_lt most_units self.product) }
     {
         self.chassis > MOST_UNITS || self.board > MOST_UNITS || self.product > MOST_UNITS
     }
 
-    /// Whether an area would begin where no offset names it, or the record is too long.
+    /// Tells whether an area would begin where no offset names it, or the record is too long.
     pub fn is_too_long(self) -> bool
-        requires chassis { self.chassis ≤ 255 }
-        requires board { self.board ≤ 255 }
-        requires product { self.product ≤ 255 }
-        ensures { result ≡ (nat_lt 255 (offset_at (1 + self.chassis) self.board) || nat_lt 255 (offset_at (1 + self.chassis + self.board) self.product) || nat_lt 4096 (8 * (1 + self.chassis + self.board + self.product))) }
+        requires chassis { self.chassis ≤ most_units }
+        requires board { self.board ≤ most_units }
+        requires product { self.product ≤ most_units }
+        ensures { result ≡ is_long_layout self }
     {
-        self.board_offset() > MOST_UNITS || self.product_offset() > MOST_UNITS || self.len() > 4096
+        self.board_offset() > MOST_UNITS
+            || self.product_offset() > MOST_UNITS
+            || self.len() > LONGEST_RECORD
     }
 
-    /// How many bytes the record has.
+    /// Returns how many bytes the record has.
     pub fn len(self) -> usize
-        requires chassis { self.chassis ≤ 255 }
-        requires board { self.board ≤ 255 }
-        requires product { self.product ≤ 255 }
-        ensures { result ≡ 8 * (1 + self.chassis + self.board + self.product) }
+        requires chassis { self.chassis ≤ most_units }
+        requires board { self.board ≤ most_units }
+        requires product { self.product ≤ most_units }
+        ensures { result ≡ unit * (1 + self.chassis + self.board + self.product) }
     {
-        8 * (1 + self.chassis + self.board + self.product)
+        UNIT * (1 + self.chassis + self.board + self.product)
     }
 
-    /// Where the chassis area begins, in multiples of 8 bytes, or 0 where it is absent.
+    /// Returns the offset of the chassis area, in units, or 0 where it is absent.
     pub fn chassis_offset(self) -> usize
         ensures { result ≡ offset_at 1 self.chassis }
     {
         offset(1, self.chassis)
     }
 
-    /// Where the board area begins, in the same way.
+    /// Returns the offset of the board area, in the same way.
     pub fn board_offset(self) -> usize
-        requires { self.chassis ≤ 255 }
+        requires { self.chassis ≤ most_units }
         ensures { result ≡ offset_at (1 + self.chassis) self.board }
     {
         offset(1 + self.chassis, self.board)
     }
 
-    /// Where the product area begins, in the same way.
+    /// Returns the offset of the product area, in the same way.
     pub fn product_offset(self) -> usize
-        requires chassis { self.chassis ≤ 255 }
-        requires board { self.board ≤ 255 }
+        requires chassis { self.chassis ≤ most_units }
+        requires board { self.board ≤ most_units }
         ensures { result ≡ offset_at (1 + self.chassis + self.board) self.product }
     {
         offset(1 + self.chassis + self.board, self.product)
@@ -90,7 +99,7 @@ fn offset(before: usize, units: usize) -> usize
 }
 
 fn chassis_units(part: &Option<ChassisPart>) -> usize
-    ensures { result ≡ min (units_of (chassis_body part.now)) 256 }
+    ensures { result ≡ min (units_of (chassis_body part.now)) (most_units + 1) }
 {
     match part {
         Some(part) => area_units(1, &part.named, &part.custom),
@@ -99,7 +108,7 @@ fn chassis_units(part: &Option<ChassisPart>) -> usize
 }
 
 fn board_units(part: &Option<BoardPart>) -> usize
-    ensures { result ≡ min (units_of (board_body part.now)) 256 }
+    ensures { result ≡ min (units_of (board_body part.now)) (most_units + 1) }
 {
     match part {
         Some(part) => area_units(4, &part.named, &part.custom),
@@ -108,7 +117,7 @@ fn board_units(part: &Option<BoardPart>) -> usize
 }
 
 fn product_units(part: &Option<ProductPart>) -> usize
-    ensures { result ≡ min (units_of (product_body part.now)) 256 }
+    ensures { result ≡ min (units_of (product_body part.now)) (most_units + 1) }
 {
     match part {
         Some(part) => area_units(1, &part.named, &part.custom),
@@ -116,19 +125,19 @@ fn product_units(part: &Option<ProductPart>) -> usize
     }
 }
 
-// The multiples of 8 bytes of an area with so many bytes at fixed places, at most 256.
+// Returns the units of an area with so many bytes at fixed places, at most one more than an area can have.
 fn area_units(fixed: usize, named: &FieldTexts, custom: &FieldTexts) -> usize
     requires { fixed ≤ 4 }
-    ensures { (front : List ℕ) → length front ≡ fixed → result ≡ min (area_units (area_body front (named.now ++ custom.now))) 256 }
+    ensures { (front : List ℕ) → length front ≡ fixed → result ≡ min (area_units (area_body front (named.now ++ custom.now))) (most_units + 1) }
 {
     let named = fields_len(named.as_slice());
     let custom = fields_len(custom.as_slice());
     // Version, length, end mark and checksum stand around them.
     let len = named.saturating_add(custom).saturating_add(fixed + 4);
-    len.div_ceil(8).min(MOST_UNITS + 1)
+    len.div_ceil(UNIT).min(MOST_UNITS + 1)
 }
 
-// How many bytes the texts take as fields, or usize::MAX where that is too small.
+// Returns how many bytes the texts take as fields, or usize::MAX where that is too small.
 fn fields_len(texts: &[Text]) -> usize
     ensures { result ≡ min (length (flat_map field_of_text texts.now)) (2 ^ 64 - 1) }
 {

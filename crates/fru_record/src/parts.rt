@@ -19,7 +19,7 @@ impl Model for FieldTexts {
 }
 
 impl FieldTexts {
-    /// No texts, and room for a few.
+    /// Makes an empty list with room for a few texts.
     pub fn new(alloc: Global) -> Result<FieldTexts, OutOfMemory>
         ensures { IfOk result (λ texts. texts ≡ []) }
     {
@@ -37,7 +37,7 @@ impl FieldTexts {
         Ok(())
     }
 
-    /// The texts, read.
+    /// Borrows the texts.
     pub fn as_slice(&self) -> &[Text]
         ensures { result.now ≡ self.now }
     {
@@ -45,7 +45,7 @@ impl FieldTexts {
     }
 }
 
-/// What a record is built of. An area whose part is absent is absent.
+/// The parts that a record is built of. An area whose part is absent is absent.
 #[derive(Drop)]
 pub struct Parts {
     pub chassis: Option<ChassisPart>,
@@ -58,8 +58,9 @@ pub struct Parts {
 pub struct ChassisPart {
     /// The chassis type, as SMBIOS numbers them.
     pub chassis_type: u8,
-    /// Part number and serial number.
+    /// Two texts: part number and serial number.
     pub named: FieldTexts,
+    /// The custom fields, in their order.
     pub custom: FieldTexts,
 }
 
@@ -69,15 +70,18 @@ pub struct BoardPart {
     /// The date and time of manufacture in minutes since 1996-01-01 00:00, below 2^24; 0 where it is
     /// unspecified.
     pub minutes: u32,
-    /// Manufacturer, product name, serial number, part number and FRU file id.
+    /// Five texts: manufacturer, product name, serial number, part number and FRU file id.
     pub named: FieldTexts,
+    /// The custom fields, in their order.
     pub custom: FieldTexts,
 }
 
 /// The product information area (FRU definition 1.0, section 12).
 #[derive(Drop)]
 pub struct ProductPart {
-    /// Manufacturer, product name, part number, version, serial number, asset tag and FRU file id.
+    /// Seven texts: manufacturer, product name, part number, version, serial number, asset tag and FRU file
+    /// id.
     pub named: FieldTexts,
+    /// The custom fields, in their order.
     pub custom: FieldTexts,
 }

@@ -3,10 +3,11 @@ ghost use Rattle.fru_record.specs.Parts.{HasNames};
 
 use crate::{
     BoardPart, BuildFault, ChassisPart, FieldTexts, FruRecord, Parts, ProductPart, build,
-    built_is_read, check_record, one_record,
+    built_is_read, check_record, faults_name_rules, field_faults_by_positions, one_record,
+    worked_build_faults, worked_dates, worked_faults, worked_parts, worked_records,
 };
 use bmc_base::{OutOfMemory, Text};
-use fru_area::{Area, FruFault};
+use fru_area::{Area, FieldName, FruFault};
 use std::alloc::Global;
 use std::process::Abort;
 use std::test::Fail;
@@ -140,7 +141,8 @@ const RECORDS: [(&[u8], &[(&str, &str)]); 28] = records! {
     b"\x01\x00\x00\x01\x00\x00\x00\xFE\x01\x03\x01\x00\x00\x00\xC4A\x00\xAC \xC2BC\x82)\xDC\xC1\x00\x00\x00\x00\x00\x9B" =>
         fields![BOARD_MANUFACTURER = "A€", BOARD_PRODUCT_NAME = "䍂", BOARD_SERIAL_NUMBER = "IP"];
     // surrogates: a pair, a lone high one, a lone low one, one before a pair; an odd byte
-    b"\x01\x00\x00\x01\x00\x00\x00\xFE\x01\x05\x01\x00\x00\x00\xC4\x3D\xD8\x00\xDE\xC4\x3D\xD8\x41\x00\xC4\x00\xDE\x41\x00\xC6\x3D\xD8\x3D\xD8\x00\xDE\xC3\x41\x00\x3D\xC1\x00\x00\x00\x00\x00\x00\x75" => fields![
+    b"\x01\x00\x00\x01\x00\x00\x00\xFE\x01\x05\x01\x00\x00\x00\xC4\x3D\xD8\x00\xDE\xC4\x3D\xD8\x41\x00\
+        \xC4\x00\xDE\x41\x00\xC6\x3D\xD8\x3D\xD8\x00\xDE\xC3\x41\x00\x3D\xC1\x00\x00\x00\x00\x00\x00\x75" => fields![
         BOARD_MANUFACTURER = "\u{1F600}",
         BOARD_PRODUCT_NAME = "\u{FFFD}A",
         BOARD_SERIAL_NUMBER = "\u{FFFD}A",
@@ -197,6 +199,8 @@ const RECORDS: [(&[u8], &[(&str, &str)]); 28] = records! {
 #[test]
 fn records(rt: HostRuntime) -> Result<(), Fail> {
     one_record();
+    worked_records();
+    worked_dates();
     for (bytes, wanted) in RECORDS {
         assert_record(&rt, rt.alloc(), bytes, wanted)?;
     }
@@ -232,6 +236,9 @@ const REFUSALS: [(&[u8], FruFault); 12] = refusals! {
 
 #[test]
 fn refused(rt: HostRuntime) {
+    faults_name_rules();
+    field_faults_by_positions();
+    worked_faults();
     for (bytes, fault) in REFUSALS {
         assert_fault(&rt, rt.alloc(), bytes, fault);
     }
@@ -282,24 +289,39 @@ fn long_records(rt: HostRuntime) -> Result<(), Fail> {
     Ok(())
 }
 
+fn assert_text(rt: &impl Abort, given: Option<&str>, wanted: Option<&str>, name: &str) {
+    match (given, wanted) {
+        (Some(given), Some(wanted)) => assert_eq!(rt; given, wanted, "at {name}"),
+        (None, None) => {}
+        _ => assert!(rt; false, "at {name}"),
+    }
+}
+
 #[test]
 fn fields_by_name(rt: HostRuntime) -> Result<(), Fail> {
     let record = FruRecord::decode(rt.alloc(), WHOLE)?;
+    let names = [
+        (FieldName::BoardSerialNumber, Some("S1")),
+        (FieldName::Custom(Area::Board, 1), Some("Z")),
+        (FieldName::BoardPartNumber, Some("")),
+        (FieldName::Custom(Area::Board, 2), None),
+        (FieldName::Custom(Area::Product, 1), None),
+    ];
+    for (name, text) in names {
+        assert_text(&rt, record.field_named(name), text, "a name");
+    }
     let rows = [
         ("BOARD_SERIAL_NUMBER", Some("S1")),
         ("BOARD_INFO_AM1", Some("Z")),
         ("BOARD_PART_NUMBER", Some("")),
         ("BOARD_INFO_AM2", None),
+        ("BOARD_INFO_AM01", None),
         ("BOARD_INFO_AM", None),
         ("board_info_am1", None),
         ("", None),
     ];
     for (name, text) in rows {
-        match (record.field(name), text) {
-            (Some(given), Some(text)) => assert_eq!(rt; given, text),
-            (None, None) => {}
-            _ => assert!(rt; false, "at {name}"),
-        }
+        assert_text(&rt, record.field(name), text, name);
     }
     Ok(())
 }
@@ -364,22 +386,41 @@ macro_rules! boards {
     };
 }
 
+// Minutes and named texts of a board, and its record or why there is none.
+const BOARDS: [(u32, &[&str], Result<&[u8], BuildFault>); 17] = boards! {
+    0, &["ACM", "RSR1", "S1", "", ""] => Ok(BOARD);
+    0xFF_FFFF, &["", "", "", "", ""] =>
+        Ok(b"\x01\x00\x00\x01\x00\x00\x00\xFE\x01\x02\x00\xFF\xFF\xFF\xC0\xC0\xC0\xC0\xC0\xC1\x00\x00\x00\x7F");
+    0x100_0000, &["ACM", "RSR1", "S1", "", ""] => Err(BuildFault::DateRange);
+    0, &["\u{FF}\u{FF}", "", "", "", ""] =>
+        Ok(b"\x01\x00\x00\x01\x00\x00\x00\xFE\x01\x02\x00\x00\x00\x00\xC2\xFF\xFF\xC0\xC0\xC0\xC0\xC1\x00\x7C");
+    0, &["\u{100}\u{100}", "", "", "", ""] => Err(BuildFault::TextNotLatin);
+    0, &[LONG, "", "", "", ""] =>
+        Ok(b"\x01\x00\x00\x01\x00\x00\x00\xFE\x01\x0A\x00\x00\x00\x00\xFF\
+            xxxxxxxxxxxxxxxxxxxxxxxxxxxxxxxxxxxxxxxxxxxxxxxxxxxxxxxxxxxxxxx\
+            \xC0\xC0\xC0\xC0\xC1\x00\x00\x00\x00\xAD");
+    0, &["ACM", TOO_LONG, "S1", "", ""] => Err(BuildFault::TextTooLong);
+    0, &["\x1F", "", "", "", ""] => Err(BuildFault::OneByte);
+    0, &[" ", "", "", "", ""] =>
+        Ok(b"\x01\x00\x00\x01\x00\x00\x00\xFE\x01\x02\x00\x00\x00\x00\x81\x00\xC0\xC0\xC0\xC0\xC1\x00\x00\xBB");
+    0, &["_", "", "", "", ""] =>
+        Ok(b"\x01\x00\x00\x01\x00\x00\x00\xFE\x01\x02\x00\x00\x00\x00\x81\x3F\xC0\xC0\xC0\xC0\xC1\x00\x00\x7C");
+    0, &["`", "", "", "", ""] => Err(BuildFault::OneByte);
+    0, &["ACM", "RSR1", "S1", "", "\u{FF}"] => Err(BuildFault::OneByte);
+    0, &["ACM", "\u{100}", "S1", "", ""] => Err(BuildFault::TextNotLatin);
+    // rule by rule, whichever text comes first
+    0x100_0000, &["\u{100}", "", "", "", ""] => Err(BuildFault::DateRange);
+    0, &[TOO_LONG, "RSR1", "\u{100}", "", ""] => Err(BuildFault::TextNotLatin);
+    0, &["a", "RSR1", TOO_LONG, "", ""] => Err(BuildFault::TextTooLong);
+    0, &["a", "RSR1", "S1", "", ""] => Err(BuildFault::OneByte);
+};
+
 #[test]
 fn built_boards(rt: HostRuntime) -> Result<(), Fail> {
+    worked_parts();
+    worked_build_faults();
     let alloc = rt.alloc();
-    let late = 1 << 24;
-    let rows: [(u32, &[&str], Result<&[u8], BuildFault>); 9] = boards! {
-        0, &["ACM", "RSR1", "S1", "", ""] => Ok(BOARD);
-        0, &["a", "RSR1", "S1", "", ""] => Err(BuildFault::OneByte);
-        0, &["ACM", "RSR1", "S1", "", "\u{E9}"] => Err(BuildFault::OneByte);
-        0, &["ACM", "\u{100}", "S1", "", ""] => Err(BuildFault::TextNotLatin);
-        0, &["ACM", TOO_LONG, "S1", "", ""] => Err(BuildFault::TextTooLong);
-        0, &[TOO_LONG, "RSR1", "\u{100}", "", ""] => Err(BuildFault::TextNotLatin);
-        0, &["a", "RSR1", TOO_LONG, "", ""] => Err(BuildFault::TextTooLong);
-        late, &["\u{100}", "", "", "", ""] => Err(BuildFault::DateRange);
-        late, &["ACM", "RSR1", "S1", "", ""] => Err(BuildFault::DateRange);
-    };
-    for (minutes, named, wanted) in rows {
+    for (minutes, named, wanted) in BOARDS {
         assert_eq!(rt; named.len(), 5);
         let parts = board_of(alloc, minutes, named, FieldTexts::new(alloc)?)?;
         assert_built(&rt, rt.alloc(), &parts, wanted);
@@ -429,14 +470,17 @@ fn built_sizes(rt: HostRuntime) -> Result<(), Fail> {
     Ok(())
 }
 
-// A chassis area of 2,040 bytes.
-fn long_chassis(alloc: Global) -> Result<ChassisPart, OutOfMemory>
+// A chassis area that holds 1,990 bytes and a text of so many letters.
+fn long_chassis(alloc: Global, letters: u32) -> Result<ChassisPart, OutOfMemory>
     ensures { IfOk result (λ part. length part.named ≡ 2) }
 {
     let named = texts(alloc, &[LONG, LONG])?;
     let mut custom = repeated(alloc, LONG, 29)?;
-    let last = "xxxxxxxxxxxxxxxxxxxxxxxxxxxxxxxxxxxxxxxxxxxxxxxxxx";
-    custom.push(alloc, Text::copy(alloc, last)?)?;
+    let mut last = String::new(alloc);
+    for _ in 0..letters {
+        last.push('x')?;
+    }
+    custom.push(alloc, Text::copy(alloc, &last)?)?;
     Ok(ChassisPart {
         chassis_type: 1,
         named,
@@ -444,25 +488,39 @@ fn long_chassis(alloc: Global) -> Result<ChassisPart, OutOfMemory>
     })
 }
 
+fn bare_board(alloc: Global) -> Result<BoardPart, OutOfMemory>
+    ensures { IfOk result (λ part. length part.named ≡ 5) }
+{
+    Ok(BoardPart {
+        minutes: 0,
+        named: texts(alloc, &["", "", "", "", ""])?,
+        custom: FieldTexts::new(alloc)?,
+    })
+}
+
 #[test]
 fn built_behind_long(rt: HostRuntime) -> Result<(), Fail> {
     let alloc = rt.alloc();
-    let alone = Parts {
-        chassis: Some(long_chassis(alloc)?),
-        board: None,
-        product: None,
-    };
-    let size = build(alloc, &alone).map(|bytes| bytes.as_slice().len());
-    assert_eq!(rt; size, Ok(2048));
-    let parts = Parts {
-        chassis: Some(long_chassis(alloc)?),
-        board: Some(BoardPart {
-            minutes: 0,
-            named: texts(alloc, &["", "", "", "", ""])?,
-            custom: FieldTexts::new(alloc)?,
-        }),
-        product: None,
-    };
-    assert_built(&rt, rt.alloc(), &parts, Err(BuildFault::RecordTooLong));
+    // letters, whether a board area follows, and the size of the record or the fault
+    let rows = [
+        (50, false, Ok(2048)),
+        (51, false, Err(BuildFault::AreaTooLong)),
+        (42, true, Ok(2056)),
+        (43, true, Err(BuildFault::RecordTooLong)),
+    ];
+    for (letters, followed, wanted) in rows {
+        let board = if followed {
+            Some(bare_board(alloc)?)
+        } else {
+            None
+        };
+        let parts = Parts {
+            chassis: Some(long_chassis(alloc, letters)?),
+            board,
+            product: None,
+        };
+        let size = build(alloc, &parts).map(|bytes| bytes.as_slice().len());
+        assert_eq!(rt; size, wanted, "at {letters}");
+    }
     Ok(())
 }

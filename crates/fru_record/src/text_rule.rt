@@ -2,10 +2,21 @@ ghost use Rattle.std.specs.Prelude.{◌≡◌, ◌<◌, ◌^◌, ◌++◌, ◌||
 ghost use Rattle.std.specs.List.{list_any};
 ghost use Rattle.std.specs.Str.{chars};
 ghost use Rattle.fru_record.specs.Parts.{chassis_texts, board_texts, product_texts, texts_of};
-ghost use Rattle.fru_record.specs.Building.{is_not_latin, is_too_long, is_bad_single};
-ghost use Rattle.fru_record.specs.Views.{breaks};
+ghost use Rattle.fru_record.specs.Building.{first_six_bit, last_six_bit, is_not_latin, is_too_long, is_bad_single};
+ghost use Rattle.fru_record.specs.TextRules.{breaks};
 
 use crate::parts::{BoardPart, ChassisPart, FieldTexts, Parts, ProductPart};
+
+// The first and the last character of 6-bit ASCII.
+pub(crate) const FIRST_SIX_BIT: u32 = 0x20;
+
+const LAST_SIX_BIT: u32 = 0x5F;
+
+// The last character of Latin 1.
+const LAST_LATIN: u32 = 0xFF;
+
+// The most characters of a text: the length of a field has six bits.
+const LONGEST_FIELD: usize = 63;
 
 // What each text of a record that is built keeps.
 #[derive(Clone, Copy)]
@@ -18,7 +29,7 @@ pub(crate) enum TextRule {
     Single,
 }
 
-// Whether a text of the parts breaks a rule.
+// Tells whether a text of the parts breaks a rule.
 pub(crate) fn parts_break(rule: TextRule, parts: &Parts) -> bool
     ensures { result ≡ list_any (breaks rule) (texts_of parts.now) }
 {
@@ -85,16 +96,16 @@ fn text_breaks(rule: TextRule, text: &str) -> bool
 fn is_not_latin(text: &str) -> bool
     ensures { result ≡ is_not_latin text.now }
 {
-    text.chars().any(|c| c > '\u{FF}')
+    text.chars().any(|c| u32::from(c) > LAST_LATIN)
 }
 
 fn is_too_long(text: &str) -> bool
     ensures { result ≡ is_too_long text.now }
 {
-    char_count(text) > 63
+    char_count(text) > LONGEST_FIELD
 }
 
-#[tactic(auto, using(crate::proofs::Texts::bad_single))]
+#[tactic(auto, using(crate::proofs::TextRulesLemmas::bad_single))]
 fn is_bad_single(text: &str) -> bool
     ensures { result ≡ is_bad_single (chars text.now) }
 {
@@ -103,17 +114,17 @@ fn is_bad_single(text: &str) -> bool
     single && bad
 }
 
-// Whether a character is none of 6-bit ASCII.
+// Tells whether a character is none of 6-bit ASCII.
 fn has_no_six_bit(text: &str) -> bool
-    ensures { result ≡ list_any (λ c. nat_lt c 32 || nat_lt 95 c) (chars text.now) }
+    ensures { result ≡ list_any (λ c. nat_lt c first_six_bit || nat_lt last_six_bit c) (chars text.now) }
 {
-    text.chars().any(|c| c < ' ' || c > '_')
+    text.chars().any(|c| u32::from(c) < FIRST_SIX_BIT || u32::from(c) > LAST_SIX_BIT)
 }
 
-// How many characters a text has.
+// Counts the characters of a text.
 pub(crate) fn char_count(text: &str) -> usize
     ensures exact { result ≡ length (chars text.now) }
-    ensures most { result < 2 ^ 63 }
+    ensures limit { result < 2 ^ 63 }
 {
     text.chars().count()
 }

@@ -3,14 +3,15 @@ use bmc_io::{IoFault, Source};
 use std::alloc::Global;
 use std::test::Fail;
 
-// Gives its bytes in pieces of at most `size`. The call with the number `fails` fails.
+// Gives its bytes in pieces of at most `size`. The call with the number `fails` fails. `next` is the number
+// of the next call.
 #[derive(Drop)]
 pub(crate) struct Pieces<'a> {
     left: &'a [u8],
     size: usize,
     fails: u64,
-    pub(crate) calls: u64,
-    faults: u64,
+    pub(crate) next: u64,
+    calls: Calls,
 }
 
 impl Pieces<'_> {
@@ -19,8 +20,8 @@ impl Pieces<'_> {
             left: bytes,
             size,
             fails,
-            calls: 0,
-            faults: 0,
+            next: 0,
+            calls: Calls::new(),
         }
     }
 }
@@ -28,17 +29,16 @@ impl Pieces<'_> {
 impl Source for Pieces<'_> {
     ghost use Rattle.std.specs.Prelude.{None};
 
-    ghost left = { λ _. None };
-
-    ghost faults = { λ source. source.faults };
+    ghost seen = { λ source. record { left = None; calls = source.calls } };
 
     fn read(&mut self, buf: &mut [u8]) -> Result<usize, IoFault> {
-        let fails = self.calls == self.fails;
-        self.calls = self.calls.saturating_add(1);
+        let fails = self.next == self.fails;
+        self.next = self.next.saturating_add(1);
         if fails {
-            self.faults = self.faults.saturating_add(1);
+            self.calls.add_failure();
             return Err(IoFault);
         }
+        self.calls.add_success();
         let count = self.size.min(buf.len()).min(self.left.len());
         let (piece, left) = self.left.split_at(count);
         buf[..count].copy_from_slice(piece);

@@ -1,6 +1,6 @@
-use Rattle.std.proofs.Common.{◌≡◌, ◌≤◌, ◌^◌, ◌∙◌, ℕ, true, false, arith, ap, sym, refl, length, string_bytes}
+use Rattle.std.proofs.Common.{◌≡◌, ◌≤◌, ◌∙◌, ℕ, true, false, arith, ap, sym, refl, length, string_bytes}
 use Rattle.std.proofs.lemmas.Result.{err_from_is_err_and}
-use Rattle.bmc_text.specs.Taking.{ItemFeed}
+use Rattle.bmc_text.specs.Feeds.{ItemFeed, longest_script}
 use Rattle.bmc_replay.specs.Outside.{Outside, outside}
 use Rattle.bmc_replay.proofs.Along.{along_piece, none_written, stopped, along_none, along_stops, along_front, along_next, along_told, along_count, along_cut, ended_cut, ended_text, ended_reached, spends_item, numbered, stops_after}
 use Rattle.bmc_replay.proofs.replaying.replay_items.Goals as goal
@@ -27,13 +27,13 @@ pub returns-in_err-next-clause-text : goal.returns-in_err-next-clause-text
 returns-in_err-next-clause-text g c =
     let p = err_from_is_err_and c.from_residual-in_err-next.result c.from_residual-in_err-next.ensures.1 in
     rw (p.1, p.2)
-    (along_stops c.in_err-next.field-0.0 _ _ _ c.items.items c.advance.new.items c.items.run c.in_err-next.ensures.limit c.items.invariant.along c.in_err-next.ensures.stops).0
+    (along_stops c.in_err-next.field-0.0 _ _ _ c.items.items c.advance.new.items c.items.run c.in_err-next.ensures.limit.limit c.items.invariant.along c.in_err-next.ensures.stops).0
 
 pub returns-in_err-next-clause-reached : goal.returns-in_err-next-clause-reached
 returns-in_err-next-clause-reached g c =
     let p = err_from_is_err_and c.from_residual-in_err-next.result c.from_residual-in_err-next.ensures.1 in
     rw (p.1, p.2)
-    (along_stops c.in_err-next.field-0.0 _ _ _ c.items.items c.advance.new.items c.items.run c.in_err-next.ensures.limit c.items.invariant.along c.in_err-next.ensures.stops).1
+    (along_stops c.in_err-next.field-0.0 _ _ _ c.items.items c.advance.new.items c.items.run c.in_err-next.ensures.limit.limit c.items.invariant.along c.in_err-next.ensures.stops).1
 
 pub returns-in_err-take-clause-text : goal.returns-in_err-take-clause-text
 returns-in_err-take-clause-text g c =
@@ -48,8 +48,8 @@ returns-in_err-take-clause-reached g c =
     let p = err_from_is_err_and c.from_residual-in_err-take.result c.from_residual-in_err-take.ensures.1 in
     rw (p.1, p.2)
     (along_piece _ _ (outside (g.S.Source.seen c.advance.new.input) (g.K.Sink.seen c.advance.new.output)) c.items.items c.advance.new.items c.items.run
-    c.in_ok-next.ensures.next.piece (λ count. count ≤ (2 ^ 40)) c.items.invariant.along c.in_ok-next.ensures.next.consumed c.in_ok-next.ensures.next.read
-    c.in_ok-next.ensures.limit)
+    c.in_ok-next.ensures.next.piece (λ count. count ≤ longest_script) c.items.invariant.along c.in_ok-next.ensures.next.consumed c.in_ok-next.ensures.next.count
+    c.in_ok-next.ensures.limit.limit)
 
 pub returns-in_err-flush_large-clause-text : goal.returns-in_err-flush_large-clause-text
 returns-in_err-flush_large-clause-text g c =
@@ -69,8 +69,8 @@ returns-in_err-flush_large-clause-reached g c =
     c.items.items c.advance.new.items c.items.run (record c.items.run { text = c.advance.new.text }) c.take.new.self
     refl c.items.invariant.along c.in_ok-next.ensures.next c.in_ok-next.ensures.gathered c.in_ok-take.ensures in
     rw (p.1, p.2)
-    (along_count c.advance.new.items.ended _ _ _ (g.K.Sink.seen c.flush_large.new.output) c.advance.new.items c.take.new.self (λ count. count ≤ (2 ^ 40)) took
-    c.in_ok-next.ensures.limit)
+    (along_count c.advance.new.items.ended _ _ _ (g.K.Sink.seen c.flush_large.new.output) c.advance.new.items c.take.new.self (λ count. count ≤ longest_script) took
+    c.in_ok-next.ensures.limit.limit)
 
 pub items-preserved : goal.items-preserved
 items-preserved g c =
@@ -78,15 +78,15 @@ items-preserved g c =
     c.items.items c.advance.new.items c.items.run (record c.items.run { text = c.advance.new.text }) c.take.new.self
     refl c.items.invariant.along c.in_ok-next.ensures.next c.in_ok-next.ensures.gathered c.in_ok-take.ensures in
     let going : c.advance.new.items.ended ≡ false = sym c.is_ended.ensures ∙ c.if-is_ended.false in
-    let spent = spends_item c.in_ok-next.next c.items.items c.advance.new.items _ going c.in_ok-next.ensures.next.item c.in_ok-next.ensures.spends in
-    let number = numbered _ _ c.take.new.self c.advance.new.items.ended _ _ going c.in_ok-next.ensures.next.item c.in_ok-take.ensures in
+    let spent = spends_item _ c.items.items c.advance.new.items c.in_ok-next.ensures.next.piece c.advance.new.items.ended going c.in_ok-next.ensures.next.bytes c.in_ok-next.ensures.next.count in
+    let number = numbered _ _ c.take.new.self c.advance.new.items.ended _ _ going c.in_ok-next.ensures.next.bytes c.in_ok-take.ensures in
     record {
       along =
           along_told c.advance.new.items.ended false _ _ _ (g.K.Sink.seen c.flush_large.new.output)
           c.advance.new.items c.take.new.self (record c.take.new.self { text = c.flush_large.new.text }) going refl took c.in_ok-flush_large.ensures.all;
       goes_on = going;
       number = omega (arith, spent, number, c.items.invariant.number);
-      limit = c.in_ok-next.ensures.limit;
+      limit = c.in_ok-next.ensures.limit.limit;
       source = c.in_ok-next.ensures.reason.0 ∙ c.items.invariant.source;
       sink = c.in_ok-flush_large.ensures.cause.none ∙ c.in_ok-next.ensures.reason.1 ∙ c.items.invariant.sink;
     }
@@ -116,7 +116,7 @@ returns-in_err-finish-clause-reached g c =
     c.advance.new.items c.take.new.self (record c.take.new.self { text = c.flush_large.new.text }) ended refl took c.in_ok-flush_large.ensures.all in
     rw (p.1, p.2)
     (stops_after c.in_err-finish.field-0.0 _ _ _ _ (along_count true _ _ _ (g.K.Sink.seen c.finish.new.output) c.advance.new.items (record c.take.new.self { text = c.flush_large.new.text })
-    (λ count. count ≤ (2 ^ 40)) all c.in_ok-next.ensures.limit) c.in_err-finish.ensures.cause)
+    (λ count. count ≤ longest_script) all c.in_ok-next.ensures.limit.limit) c.in_err-finish.ensures.cause)
 
 pub returns-clause-text : goal.returns-clause-text
 returns-clause-text g c =
@@ -138,4 +138,4 @@ returns-clause-reached g c =
     let all = along_told c.advance.new.items.ended true _ _ _ (g.K.Sink.seen c.flush_large.new.output)
     c.advance.new.items c.take.new.self (record c.take.new.self { text = c.flush_large.new.text }) ended refl took c.in_ok-flush_large.ensures.all in
     ended_reached _ _ _ (g.K.Sink.seen c.finish.new.output) c.advance.new.items
-    (record c.take.new.self { text = c.flush_large.new.text }) (c.in_ok-next.ensures.at_end ended) (c.in_ok-next.ensures.below ended) all
+    (record c.take.new.self { text = c.flush_large.new.text }) (c.in_ok-next.ensures.at_end ended) (c.in_ok-next.ensures.limit.at_end ended) all

@@ -1,4 +1,5 @@
-use Rattle.std.proofs.Common.{◌≡◌, ◌+◌, ◌-◌, ◌≤◌, ◌^◌, length, false}
+use Rattle.std.proofs.Common.{◌≡◌, ◌+◌, ◌-◌, ◌≤◌, length, false}
+use Rattle.bmc_text.specs.Feeds.{longest_script}
 use Rattle.bmc_replay.specs.Outside.{outside}
 use Rattle.bmc_replay.proofs.Along.{Along}
 use Rattle.bmc_replay.proofs.replaying.replay_items.Given as goal
@@ -9,10 +10,10 @@ invariant-items g l = record {
       Along false (outside (g.S.Source.seen l.fn.input) (g.K.Sink.seen l.fn.output)) (outside (g.S.Source.seen l.input) (g.K.Sink.seen l.output)) l.items l.run;
   goes_on : l.items.ended ≡ false;
   number : l.run.number + length l.items.waiting ≤ l.items.read + 1;
-  limit : l.items.read ≤ (2 ^ 40);
+  limit : l.items.read ≤ longest_script;
   source : (g.S.Source.seen l.input).calls.faults ≡ (g.S.Source.seen l.fn.input).calls.faults;
   sink : (g.K.Sink.seen l.output).calls.faults ≡ (g.K.Sink.seen l.fn.output).calls.faults;
 }
 
 abbrev pub decreases-items : goal.decreases-items
-decreases-items g l = (2 ^ 40) + length l.items.waiting - l.items.read
+decreases-items g l = longest_script + length l.items.waiting - l.items.read

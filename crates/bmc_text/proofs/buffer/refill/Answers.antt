@@ -1,4 +1,4 @@
-use Rattle.std.proofs.Common.{length, arith}
+use Rattle.std.proofs.Common.{arith}
 use Rattle.bmc_text.proofs.FeedsLemmas.{reads_behind}
 use Rattle.bmc_text.proofs.buffer.refill.Goals as goal
 

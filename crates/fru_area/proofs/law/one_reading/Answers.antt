@@ -1,4 +1,4 @@
-use Rattle.fru_area.proofs.Spelled.{Spells-raw_fields, raw_fields-Spells, Spells-one}
+use Rattle.fru_area.proofs.WalksLemmas.{Spells-raw_fields, raw_fields-Spells, Spells-one}
 use Rattle.fru_area.proofs.law.one_reading.Goals as goal
 
 pub returns : goal.returns

@@ -1,5 +1,5 @@
 use Rattle.std.proofs.Common.{arith}
-use Rattle.fru_area.proofs.NameTexts.{no_fixed}
+use Rattle.fru_area.proofs.NamesLemmas.{no_fixed}
 use Rattle.fru_area.proofs.name.read_fixed.Goals as goal
 
 pub returns-clause-none : goal.returns-clause-none

@@ -10,18 +10,21 @@ use Rattle.hex.specs.Hex.{lower_digits, encode_lower}
 use Rattle.fru_area.proofs.text.binary_text.Goals as goal
 
 IsAscii-tested : (bytes : List ℕ) → list_all (λ b. nat_lt b 128) bytes ≡ true → IsAscii bytes
-IsAscii-tested [] h = IsAscii-nil
-IsAscii-tested (b ∷ bytes) h = IsAscii-cons b bytes (ltb-true b 128 (and_parts (nat_lt b 128) (list_all (λ b. nat_lt b 128) bytes) h).0) (IsAscii-tested bytes (and_parts (nat_lt b 128) (list_all (λ b. nat_lt b 128) bytes) h).1)
+IsAscii-tested [] tested = IsAscii-nil
+IsAscii-tested (byte ∷ bytes) tested =
+    let parts = and_parts (nat_lt byte 128) (list_all (λ b. nat_lt b 128) bytes) tested in
+    IsAscii-cons byte bytes (ltb-true byte 128 parts.0) (IsAscii-tested bytes parts.1)
 
 IsAscii-lower_digits : IsAscii lower_digits
 IsAscii-lower_digits = IsAscii-tested lower_digits refl
 
 IsUtf8-encode_lower : (bytes digits : List ℕ) → digits ≡ encode_lower bytes → IsUtf8 digits
-IsUtf8-encode_lower bytes digits e = rw e (IsUtf8-from_ascii _ (IsAscii-encode_with lower_digits bytes IsAscii-lower_digits))
+IsUtf8-encode_lower bytes digits is = rw is (IsUtf8-from_ascii _ (IsAscii-encode_with lower_digits bytes IsAscii-lower_digits))
 
-IsOk-from_cases : {T E : Type 0} (r : Result T E) (P : T → Type 0) (Q : Type 0) (R : E → Type 0) → Q → MatchResult r P (λ e. (¬ Q) × R e) → IsOk r
-IsOk-from_cases (Ok x) P Q R q h = search rules
-IsOk-from_cases (Err e) P Q R q h = absurd (h.0 q)
+IsOk-from_cases :
+    {T E : Type 0} (result : Result T E) (P : T → Type 0) (Q : Type 0) (R : E → Type 0) → Q → MatchResult result P (λ e. (¬ Q) × R e) → IsOk result
+IsOk-from_cases (Ok x) P Q R holds cases = search rules
+IsOk-from_cases (Err e) P Q R holds cases = absurd (cases.0 holds)
 
 pub unwrap-text-requires : goal.unwrap-text-requires
 unwrap-text-requires c =

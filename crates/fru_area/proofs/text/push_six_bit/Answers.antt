@@ -1,5 +1,5 @@
 use Rattle.std.proofs.Common.{◌∙◌, ap, arith, length, length-append}
-use Rattle.fru_area.proofs.SixBits.{six_bit_chars_more}
+use Rattle.fru_area.proofs.TextsLemmas.{six_bit_chars_more}
 use Rattle.fru_area.proofs.text.push_six_bit.Goals as goal
 
 pub loop-preserved : goal.loop-preserved

@@ -1,4 +1,4 @@
-use Rattle.fru_area.proofs.Units.{unicode_text_all}
+use Rattle.fru_area.proofs.UnitsLemmas.{unicode_text_all}
 use Rattle.fru_area.proofs.text.unicode_text.Goals as goal
 
 pub returns : goal.returns

@@ -1,7 +1,7 @@
 use Rattle.std.proofs.Common.{ap, sym, ◌∙◌}
 use Rattle.fru_record.specs.Records.{record_of}
-use Rattle.fru_record.proofs.Built.{built-read}
-use Rattle.fru_record.proofs.Sizes.{IsBuildable-allowed, GivesBytes-fault}
+use Rattle.fru_record.proofs.BuildingLemmas.{built-read}
+use Rattle.fru_record.proofs.LayoutsLemmas.{IsBuildable-allowed, GivesBytes-fault}
 use Rattle.fru_record.proofs.builder.build.Goals as goal
 
 pub record_bytes-requires : goal.record_bytes-requires
@@ -12,4 +12,5 @@ returns-in-Some-clause-bytes c = GivesBytes-fault c.in-Some.fault c.args.parts.n
 
 pub returns-in_ok-bytes-in-None-clause-read : goal.returns-in_ok-bytes-in-None-clause-read
 returns-in_ok-bytes-in-None-clause-read c =
-    ap record_of (c.from.ensures ∙ c.in_ok-bytes-in-None.ensures.written) ∙ built-read c.args.parts.now c.in_ok-bytes-in-None.ensures.utf8 (sym c.first_fault.ensures ∙ c.in-None.is)
+    ap record_of (c.from.ensures ∙ c.in_ok-bytes-in-None.ensures.written)
+    ∙ built-read c.args.parts.now c.in_ok-bytes-in-None.ensures.utf8 (sym c.first_fault.ensures ∙ c.in-None.is)

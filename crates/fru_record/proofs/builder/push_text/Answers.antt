@@ -1,5 +1,5 @@
 use Rattle.std.proofs.lemmas.Result.{on_ok_weaker}
-use Rattle.fru_record.proofs.Texts.{writable-short, writable-range, field-written}
+use Rattle.fru_record.proofs.TextRulesLemmas.{writable-short, writable-range, field-written}
 use Rattle.fru_record.proofs.builder.push_text.Goals as goal
 
 pub field_head-requires : goal.field_head-requires
@@ -11,4 +11,7 @@ push_chars-requires c = rw (c.first_char.ensures, c.char_count-count.ensures.exa
 pub returns-clause-written : goal.returns-clause-written
 returns-clause-written c =
     on_ok_weaker c.push_chars.result
-    (λ written. field-written c.args.bytes.now.items _ _ c.args.text.now _ _ _ c.char_count-count.ensures.exact c.field_head.ensures c.first_char.ensures c.in_ok-push.ensures.items written) c.push_chars.ensures
+    (λ written.
+    field-written c.args.bytes.now.items _ _ c.args.text.now _ _ _ c.char_count-count.ensures.exact c.field_head.ensures c.first_char.ensures
+    c.in_ok-push.ensures.items written)
+    c.push_chars.ensures

@@ -1,6 +1,6 @@
 use Rattle.std.proofs.Common.{sym}
 use Rattle.std.proofs.lemmas.Result.{err_from_is_err_and}
-use Rattle.fru_record.proofs.Checking.{checked-absent, checked-outside, checked-inside}
+use Rattle.fru_record.proofs.RecordsLemmas.{checked-absent, checked-outside, checked-inside}
 use Rattle.fru_record.proofs.check.check_area.Goals as goal
 
 pub returns-then-offset-eq0 : goal.returns-then-offset-eq0
@@ -12,4 +12,5 @@ returns-in_err-found c =
     rw (p.1, p.2) (checked-outside c.args.area c.args.bytes.now c.args.offset _ c.if-offset-eq0.false (rw c.from.ensures at (sym c.in_err-found.ensures.exact)))
 
 pub returns : goal.returns
-returns c = checked-inside c.args.area c.args.bytes.now c.in_ok-found.found.now c.args.offset _ _ c.if-offset-eq0.false (rw c.from.ensures at (sym c.in_ok-found.ensures.exact)) c.fields_start.ensures.exact c.check_fields.ensures
+returns c = checked-inside c.args.area c.args.bytes.now c.in_ok-found.found.now c.args.offset _ _ c.if-offset-eq0.false
+    (rw c.from.ensures at (sym c.in_ok-found.ensures.exact)) c.fields_start.ensures.exact c.check_fields.ensures

@@ -1,6 +1,6 @@
 use Rattle.std.proofs.Common.{sym}
 use Rattle.std.proofs.lemmas.Result.{err_from_is_err_and}
-use Rattle.fru_record.proofs.Checking.{checked-no_header, checked-no_chassis, checked-no_board, checked-last}
+use Rattle.fru_record.proofs.RecordsLemmas.{checked-no_header, checked-no_chassis, checked-no_board, checked-last}
 use Rattle.fru_record.proofs.check.check_record.Goals as goal
 
 pub returns-in_err-header : goal.returns-in_err-header

@@ -1,4 +1,4 @@
-use Rattle.fru_record.proofs.Built.{built-read}
+use Rattle.fru_record.proofs.BuildingLemmas.{built-read}
 use Rattle.fru_record.proofs.law.built_is_read.Goals as goal
 
 pub returns : goal.returns

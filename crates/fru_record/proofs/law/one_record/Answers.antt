@@ -1,4 +1,4 @@
-use Rattle.fru_record.proofs.Spelled.{record-spelled, spelled-record, spelled-one}
+use Rattle.fru_record.proofs.SpellingsLemmas.{record-spelled, spelled-record, spelled-one}
 use Rattle.fru_record.proofs.law.one_record.Goals as goal
 
 pub returns-clause-spelled : goal.returns-clause-spelled

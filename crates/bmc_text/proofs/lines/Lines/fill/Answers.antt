@@ -1,4 +1,4 @@
-use Rattle.std.proofs.Common.{◌≡◌, ℕ, ◌-◌, ◌+◌, List, ◌++◌, Bool, false, length, ap, ◌∙◌, sym, arith, take, drop, slice_range, length-take, length-drop}
+use Rattle.std.proofs.Common.{◌≡◌, ℕ, ◌-◌, ◌+◌, List, ◌++◌, false, length, ap, ◌∙◌, sym, arith, take, drop, slice_range, length-take, length-drop}
 use Rattle.std.proofs.lemmas.List.{take_at}
 use Rattle.bmc_text.specs.Feeds.{Feed}
 use Rattle.bmc_text.proofs.FeedsLemmas.{Reads-behind}
@@ -15,8 +15,7 @@ invariant_of-self g c =
     let size : length c.refill-filled.new.buffer ≡ inside.buffer.len = omega (arith, c.refill-filled.auto.buffer, c.deref_mut.ensures.len) in
     let going : inside.ended ≡ false = ap (λ (feed : Feed). feed.ended) c.self.view_is ∙ c.requires.going in
     let was = ap (λ (buffer : List ℕ). slice_range buffer inside.start inside.end) c.deref_mut.ensures.value in
-    let reads = c.in-Ok.ensures.reads in
-    (
+    let reads = c.in-Ok.ensures.reads in (
       omega arith,
       omega arith,
       omega arith,

@@ -1,6 +1,5 @@
 use Rattle.std.proofs.Common.{◌≡◌, ◌-◌, false}
 use Rattle.bmc_text.specs.Feeds.{Reads, longest_script}
-use Rattle.bmc_text.specs.Newlines.{HasNoNewline}
 use Rattle.bmc_text.proofs.LinesLemmas.{AreTooLong}
 use Rattle.bmc_text.proofs.lines.Lines.skip_line.Given as goal
 

@@ -11,4 +11,5 @@ returns-clause-block c front holds =
     (λ within. c.push.ensures.bytes within ∙ ap (λ (count : ℕ). c.args.part.bytes ++ take count c.waiting.result.now) c.wanted-wanted.ensures
     ∙ ap (λ (waiting : List ℕ). c.args.part.bytes ++ take c.args.part.wanted waiting) c.waiting.ensures.value)
     (c.finish.ensures ∙ ap (λ (part : Part). last_block part.size c.push.new.self.bytes) c.push.ensures.part)
-    (waiting_of c.drop_newline.ensures ∙ ap behind_block (waiting_of c.take.ensures ∙ ap (λ (count : ℕ). drop count c.args.self.now.waiting) c.wanted-wanted.ensures))
+    (waiting_of c.drop_newline.ensures
+    ∙ ap behind_block (waiting_of c.take.ensures ∙ ap (λ (count : ℕ). drop count c.args.self.now.waiting) c.wanted-wanted.ensures))

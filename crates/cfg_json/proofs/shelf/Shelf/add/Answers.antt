@@ -4,10 +4,12 @@ use Rattle.cfg_json.proofs.shelf.Shelf.add.Goals as goal
 
 pub invariant_of-self-2 : goal.invariant_of-self-2
 invariant_of-self-2 c =
-    let new = rw (← c.self.view_is) at c.requires in
-    rw (c.in_ok-insert.ensures.entries, c.name.ensures, entries_with c.args.config c.self.inside.configs.entries c.self.invariant new) (AreNamed_more c.args.config c.self.inside.configs.entries c.self.invariant)
+    let entries = c.self.inside.configs.entries in
+    let last = entries_with c.args.config entries c.self.invariant (rw (← c.self.view_is) at c.requires) in
+    rw (c.in_ok-insert.ensures.entries, c.name.ensures, last) (AreNamed_more c.args.config entries c.self.invariant)
 
 pub returns-clause-ok : goal.returns-clause-ok
 returns-clause-ok c =
-    let new = rw (← c.self.view_is) at c.requires in
-    rw (← c.self.view_is, c.in_ok-insert.ensures.entries, c.name.ensures, entries_with c.args.config c.self.inside.configs.entries c.self.invariant new) (configs_of_more c.args.config c.self.inside.configs.entries)
+    let entries = c.self.inside.configs.entries in
+    let last = entries_with c.args.config entries c.self.invariant (rw (← c.self.view_is) at c.requires) in
+    rw (← c.self.view_is, c.in_ok-insert.ensures.entries, c.name.ensures, last) (configs_of_more c.args.config entries)

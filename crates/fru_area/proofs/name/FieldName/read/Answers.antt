@@ -1,4 +1,4 @@
-use Rattle.fru_area.proofs.NameTexts.{or_found, or_none, IfNone_names}
+use Rattle.fru_area.proofs.NamesLemmas.{or_found, or_none, IfNone_names}
 use Rattle.fru_area.proofs.name.FieldName.read.Goals as goal
 
 pub returns-clause-found : goal.returns-clause-found

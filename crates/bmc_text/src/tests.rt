@@ -1,0 +1,6 @@
+mod hexadecimal;
+mod items;
+mod limits;
+mod lines;
+mod numbers;
+mod pieces;
