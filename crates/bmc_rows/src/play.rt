@@ -41,6 +41,8 @@ pub enum Part {
     Config(&'static str),
     /// The line that asks for bytes that need not be text, and the bytes.
     Block(&'static [u8]),
+    /// The line and a document in which so many arrays stand in one another.
+    Nested(usize),
     /// So many configurations that find a record with the product name `RSR9`. Their names are the numbers from 1.
     Many(usize),
 }
@@ -82,8 +84,8 @@ pub fn filled(alloc: Global, text: &str, filling: &str) -> Result<String, OutOfM
     Ok(whole)
 }
 
-/// Appends the line that asks for a block of these bytes, and the bytes.
-pub fn push_block(script: &mut Vec<u8>, alloc: Global, bytes: &[u8]) -> Result<(), OutOfMemory> {
+// Appends the line that asks for a block of these bytes, and the bytes.
+fn push_block(script: &mut Vec<u8>, alloc: Global, bytes: &[u8]) -> Result<(), OutOfMemory> {
     let size = bytes.len();
     let line = format!(in alloc; "config {size}\n")?;
     script.extend_from_slice(line.as_bytes())?;
@@ -91,6 +93,20 @@ pub fn push_block(script: &mut Vec<u8>, alloc: Global, bytes: &[u8]) -> Result<(
     Ok(())
 }
 
+// Appends a document in which so many arrays stand in one another.
+fn push_nested(script: &mut Vec<u8>, alloc: Global, arrays: usize) -> Result<(), OutOfMemory> {
+    let mut document = String::from_str(alloc, r#"{"Name":"A","Probe":"TRUE","x":"#)?;
+    for _ in 0..arrays {
+        document.push('[')?;
+    }
+    for _ in 0..arrays {
+        document.push(']')?;
+    }
+    document.push('}')?;
+    push_block(script, alloc, document.as_bytes())
+}
+
+// Appends so many configurations.
 fn push_many(script: &mut Vec<u8>, alloc: Global, count: usize) -> Result<(), OutOfMemory> {
     let probe = "xyz.openbmc_project.FruDevice({'BOARD_PRODUCT_NAME': 'RSR9'})";
     for number in 1..=count {
@@ -114,6 +130,7 @@ fn push_part(script: &mut Vec<u8>, alloc: Global, part: Part) -> Result<(), OutO
         }
         Part::Config(document) => push_block(script, alloc, document.as_bytes())?,
         Part::Block(bytes) => push_block(script, alloc, bytes)?,
+        Part::Nested(arrays) => push_nested(script, alloc, arrays)?,
         Part::Many(count) => push_many(script, alloc, count)?,
     }
     Ok(())
@@ -153,6 +170,8 @@ pub fn play<R: Abort>(
     status: Status,
     text: &str,
 ) -> Result<(), Fail> {
+    // What a failure shows of the script.
+    let head = str::from_utf8(&script[..script.len().min(200)]);
     for (given, taken) in PIECES {
         let outside = Outside {
             piece: taken,
@@ -164,17 +183,38 @@ pub fn play<R: Abort>(
             Ok(text),
             "in pieces of {given}"
         );
-        assert_eq!(rt; ended, status, "{text:?} in pieces of {given}");
+        assert_eq!(rt; ended, status, "{head:?} in pieces of {given}");
     }
     Ok(())
 }
 
-/// Plays the script of each row, and asserts what it says of it.
+// Plays the script of these parts, and asserts how its run ends and what is printed.
+fn play_row<R: Abort>(
+    rt: &R,
+    alloc: Global,
+    parts: &[Part],
+    status: Status,
+    text: &str,
+) -> Result<(), Fail> {
+    let script = script_of(alloc, parts)?;
+    let text = filled(alloc, text, BOARD_FIELDS)?;
+    play(rt, alloc, script.as_slice(), status, text.as_str())
+}
+
+/// Plays the script of each row, and asserts what the row says of it.
 pub fn play_rows<R: Abort>(rt: &R, alloc: Global, rows: &[Row]) -> Result<(), Fail> {
     for (parts, status, text) in rows {
-        let script = script_of(alloc, parts)?;
-        let text = filled(alloc, text, BOARD_FIELDS)?;
-        play(rt, alloc, script.as_slice(), *status, text.as_str())?;
+        play_row(rt, alloc, parts, *status, text)?;
+    }
+    Ok(())
+}
+
+/// Plays each part of each row as a script by itself, and asserts what the row says of it.
+pub fn play_parts<R: Abort>(rt: &R, alloc: Global, rows: &[Row]) -> Result<(), Fail> {
+    for (parts, status, text) in rows {
+        for part in *parts {
+            play_row(rt, alloc, &[*part], *status, text)?;
+        }
     }
     Ok(())
 }
