@@ -1,5 +1,7 @@
 use crate::play::{BOARD_RECORD, play};
+use bmc_base::OutOfMemory;
 use bmc_replay::Status;
+use std::alloc::Global;
 use std::fmt::Write;
 use std::test::Fail;
 
@@ -178,15 +180,21 @@ const LISTED: [(&str, Fields); 20] = [
     ),
 ];
 
+// The row of a FRU with these fields.
+fn row_of(alloc: Global, fields: Fields) -> Result<String, OutOfMemory> {
+    let mut row = String::from_str(alloc, "fru 0 127")?;
+    for (name, value) in fields {
+        write!(row, " {name}=\"{value}\"")?;
+    }
+    row.push('\n')?;
+    Ok(row)
+}
+
 #[test]
 fn listed_records(rt: HostRuntime) -> Result<(), Fail> {
     for (record, fields) in LISTED {
         let script = format!(in rt.alloc(); "plug 0 127 {record}")?;
-        let mut text = String::from_str(rt.alloc(), "fru 0 127")?;
-        for (name, value) in fields {
-            write!(text, " {name}=\"{value}\"")?;
-        }
-        text.push('\n')?;
+        let text = row_of(rt.alloc(), fields)?;
         play(
             &rt,
             rt.alloc(),
