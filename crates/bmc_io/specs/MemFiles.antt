@@ -2,17 +2,17 @@
 use Rattle.std.specs.Prelude.{ℕ, ◌≡◌, Bool, nat_le, if◌then◌else◌, List, length, Option, Some, None, Result, Ok, Err, ⊤}
 use Rattle.bmc_base.specs.Calls.{Calls}
 use Rattle.bmc_io.specs.Files.{Folder}
+use Rattle.bmc_io.specs.Schedule.{Schedule}
 use Rattle.bmc_io.specs.declared.files.Whole.{Whole}
 use Rattle.bmc_io.specs.declared.files.Whole.TheVariants.{Given, Longer}
 use Rattle.bmc_io.specs.declared.files.FileFault.{FileFault}
 use Rattle.bmc_io.specs.declared.files.FileFault.TheVariants.{Failed, OutOfMemory}
 
--- the names of the files with their bytes, the calls that are to fail, the number of the next call, the calls so far,
--- and the names that were answered Failed
+-- the names of the files with their bytes, which calls are to fail, the calls so far, and the names that were answered
+-- Failed
 pub record MemoryFolder : Type 0 where
   pub holds : List (List ℕ × List ℕ)
-  pub fails : List ℕ
-  pub next : ℕ
+  pub schedule : Schedule
   pub calls : Calls
   pub failed_names : List (List ℕ)
 

@@ -1,18 +1,16 @@
 -- A sink in memory.
 use Rattle.std.specs.Prelude.{ℕ, ◌-◌, ◌≡◌, List, ◌++◌, length, take, min, MatchBool, ◌==◌, ◌||◌, Result, Ok, Err}
-use Rattle.bmc_base.specs.Counts.{raised}
 use Rattle.bmc_base.specs.Calls.{Calls, with_failure, with_success}
-use Rattle.bmc_io.specs.MemSource.{is_to_fail}
+use Rattle.bmc_io.specs.Schedule.{Schedule, fails_next, advanced}
 use Rattle.bmc_io.specs.declared.fault.IoFault.{IoFault}
 
--- the bytes that were taken, how many a call takes at the most, the room in all, the calls that are to fail, the number
--- of the next call, and the calls so far
+-- the bytes that were taken, how many a call takes at the most, the room in all, which calls are to fail, and the calls
+-- so far
 pub record MemoryOutput : Type 0 where
   pub taken : List ℕ
   pub piece : ℕ
   pub room : ℕ
-  pub fails : List ℕ
-  pub next : ℕ
+  pub schedule : Schedule
   pub calls : Calls
 
 -- how many of these bytes the next call takes
@@ -22,16 +20,16 @@ taken_len sink bytes = min sink.piece (min (length bytes) (sink.room - length si
 -- the next call fails, and all but the counts stays
 pub record OutputFails (old new : MemoryOutput) (result : Result ℕ IoFault) : Type 0 where
   pub answer : result ≡ Err (record {})
-  pub output : new ≡ record old { next = raised old.next 1; calls = with_failure old.calls }
+  pub output : new ≡ record old { schedule = advanced old.schedule; calls = with_failure old.calls }
 
 -- the next call takes bytes
 pub record OutputTakes (old new : MemoryOutput) (result : Result ℕ IoFault) (bytes : List ℕ) : Type 0 where
   pub answer : result ≡ Ok (taken_len old bytes)
-  pub output : new ≡ record old { taken = old.taken ++ take (taken_len old bytes) bytes; next = raised old.next 1; calls = with_success old.calls }
+  pub output : new ≡ record old { taken = old.taken ++ take (taken_len old bytes) bytes; schedule = advanced old.schedule; calls = with_success old.calls }
 
 -- one call: it fails exactly where its number is one of those that are to fail, or no room is left
 abbrev pub OutputWrites : MemoryOutput → MemoryOutput → Result ℕ IoFault → List ℕ → Type 0
 OutputWrites old new result bytes =
-    MatchBool (is_to_fail old.fails old.next || old.room - length old.taken == 0)
+    MatchBool (fails_next old.schedule || old.room - length old.taken == 0)
     (OutputFails old new result)
     (OutputTakes old new result bytes)

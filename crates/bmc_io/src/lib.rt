@@ -12,6 +12,7 @@ mod mem_sink;
 mod mem_source;
 mod put;
 mod retry;
+mod schedule;
 mod sink;
 mod source;
 mod std_files;

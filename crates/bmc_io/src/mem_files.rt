@@ -2,12 +2,11 @@ ghost use Rattle.std.specs.Prelude.{◌≡◌, ◌∷◌, ◌++◌, [], IfOk, On
 ghost use Rattle.std.specs.Option.{option_copied};
 ghost use Rattle.bmc_base.specs.Calls.{no_calls};
 ghost use Rattle.bmc_io.specs.Files.{bytes_of, ReadsFile};
-ghost use Rattle.bmc_base.specs.Counts.{raised};
-ghost use Rattle.bmc_io.specs.MemSource.{is_to_fail};
+ghost use Rattle.bmc_io.specs.Schedule.{begun, fails_next, advanced};
 ghost use Rattle.bmc_io.specs.MemFiles.{folder_of, AnswersExactly};
 
 use crate::failures::Failures;
-use crate::mem_source::fails_now;
+use crate::schedule::Schedule;
 use crate::{FileFault, Files, Whole};
 use bmc_base::{Bytes, OutOfMemory, Text};
 use std::alloc::Global;
@@ -17,8 +16,7 @@ use std::marker::Model;
 #[derive(Drop)]
 pub struct MemFiles {
     files: Vec<(Text, Bytes)>,
-    fails: Vec<u64>,
-    next: u64,
+    schedule: Schedule,
     failures: Failures,
 }
 
@@ -27,20 +25,19 @@ impl Model for MemFiles {
 
     ghost Value = { MemoryFolder };
 
-    ghost view = { λ s. record { holds = s.files.items; fails = s.fails.items; next = s.next; calls = s.failures.calls; failed_names = s.failures.names } };
+    ghost view = { λ s. record { holds = s.files.items; schedule = s.schedule; calls = s.failures.calls; failed_names = s.failures.names } };
 }
 
 impl MemFiles {
     /// Returns an empty folder. `fails` are the numbers, from 0, of the calls that are to fail.
     pub fn new(alloc: Global, fails: &[u64]) -> Result<MemFiles, OutOfMemory>
-        ensures { IfOk result (λ s. s ≡ record { holds = []; fails = fails.now; next = 0; calls = no_calls; failed_names = [] }) }
+        ensures { IfOk result (λ s. s ≡ record { holds = []; schedule = begun fails.now; calls = no_calls; failed_names = [] }) }
     {
         let files = Vec::with_capacity(alloc, 1)?;
-        let fails = Vec::from_slice(alloc, fails)?;
+        let schedule = Schedule::new(alloc, fails)?;
         Ok(MemFiles {
             files,
-            fails,
-            next: 0,
+            schedule,
             failures: Failures::new(alloc),
         })
     }
@@ -107,16 +104,14 @@ impl Files for MemFiles {
 
     fn read_whole(&mut self, alloc: Global, name: &str, limit: usize) -> Result<Whole, FileFault>
         ensures seen { ReadsFile (folder_of self.old) (folder_of self.new) name.now limit result }
-        ensures exact { AnswersExactly (is_to_fail self.old.fails self.old.next) (bytes_of self.old.holds name.now) limit result }
-        ensures next { self.new.next ≡ raised self.old.next 1 }
-        ensures fails { self.new.fails ≡ self.old.fails }
+        ensures exact { AnswersExactly (fails_next self.old.schedule) (bytes_of self.old.holds name.now) limit result }
+        ensures schedule { self.new.schedule ≡ advanced self.old.schedule }
     {
-        let call = self.next;
-        self.next = call.saturating_add(1);
+        let fails = self.schedule.advance();
         self.failures.begin();
         let copied = self.failures.room_for(alloc, name)?;
         let file = file_named(&self.files, name);
-        match answer(alloc, file, limit, fails_now(&self.fails, call)) {
+        match answer(alloc, file, limit, fails) {
             Err(FileFault::Failed) => Err(self.failures.add(copied)),
             answer => answer,
         }

@@ -2,9 +2,10 @@ ghost use Rattle.std.specs.Prelude.{◌≡◌, ◌<◌, ◌≤◌, ◌+◌, ◌+
 ghost use Rattle.bmc_base.specs.Calls.{HasCause, no_calls};
 ghost use Rattle.bmc_io.specs.Told.Told.{Bytes};
 ghost use Rattle.bmc_io.specs.Sinks.{TakesSome, WriteAdds};
+ghost use Rattle.bmc_io.specs.Schedule.{begun};
 ghost use Rattle.bmc_io.specs.MemSink.{OutputWrites};
 
-use crate::mem_source::fails_now;
+use crate::schedule::Schedule;
 use crate::{IoFault, Sink};
 use bmc_base::{Calls, OutOfMemory};
 use std::alloc::Global;
@@ -17,8 +18,7 @@ pub struct MemSink {
     bytes: Vec<u8>,
     piece: usize,
     room: usize,
-    fails: Vec<u64>,
-    next: u64,
+    schedule: Schedule,
     calls: Calls,
 }
 
@@ -28,7 +28,7 @@ impl Model for MemSink {
 
     ghost Value = { MemoryOutput };
 
-    ghost view = { λ s. record { taken = s.bytes.items; piece = s.piece; room = s.room; fails = s.fails.items; next = s.next; calls = s.calls } };
+    ghost view = { λ s. record { taken = s.bytes.items; piece = s.piece; room = s.room; schedule = s.schedule; calls = s.calls } };
 
     ghost invariant = { λ s. (0 < s.piece) × (length s.bytes.items ≤ s.room) × (s.room ≤ vec_capacity s.bytes) };
 }
@@ -43,16 +43,15 @@ impl MemSink {
         fails: &[u64],
     ) -> Result<MemSink, OutOfMemory>
         requires { 0 < piece }
-        ensures { IfOk result (λ s. s ≡ record { taken = []; piece = piece; room = room; fails = fails.now; next = 0; calls = no_calls }) }
+        ensures { IfOk result (λ s. s ≡ record { taken = []; piece = piece; room = room; schedule = begun fails.now; calls = no_calls }) }
     {
         let bytes = Vec::with_capacity(alloc, room)?;
-        let fails = Vec::from_slice(alloc, fails)?;
+        let schedule = Schedule::new(alloc, fails)?;
         Ok(MemSink {
             bytes,
             piece,
             room,
-            fails,
-            next: 0,
+            schedule,
             calls: Calls::new(),
         })
     }
@@ -94,10 +93,8 @@ impl Sink for MemSink {
         ensures last { self.new.calls.last_failed ≡ is_err result }
         ensures exact { OutputWrites self.old self.new result piece.now }
     {
-        let call = self.next;
-        self.next = call.saturating_add(1);
         let left = self.room - self.bytes.len();
-        if fails_now(&self.fails, call) || left == 0 {
+        if self.schedule.advance() || left == 0 {
             self.calls.add_failure();
             return Err(IoFault);
         }

@@ -2,8 +2,10 @@ ghost use Rattle.std.specs.Prelude.{◌≡◌, ◌<◌, ◌≤◌, Some, length,
 ghost use Rattle.std.specs.Io.{ReadsAtMost};
 ghost use Rattle.std.specs.Io.KnownBytes.{ReadConsumes};
 ghost use Rattle.bmc_base.specs.Calls.{HasCause, no_calls};
-ghost use Rattle.bmc_io.specs.MemSource.{InputReads, is_to_fail, piece_size};
+ghost use Rattle.bmc_io.specs.Schedule.{begun};
+ghost use Rattle.bmc_io.specs.MemSource.{InputReads, piece_size};
 
+use crate::schedule::Schedule;
 use crate::{IoFault, Source};
 use bmc_base::{Calls, OutOfMemory};
 use std::alloc::Global;
@@ -16,8 +18,7 @@ pub struct MemSource {
     bytes: Vec<u8>,
     at: usize,
     pieces: Vec<usize>,
-    fails: Vec<u64>,
-    next: u64,
+    schedule: Schedule,
     calls: Calls,
 }
 
@@ -27,7 +28,7 @@ impl Model for MemSource {
 
     ghost Value = { MemoryInput };
 
-    ghost view = { λ s. record { left = drop s.at s.bytes.items; pieces = s.pieces.items; fails = s.fails.items; next = s.next; calls = s.calls } };
+    ghost view = { λ s. record { left = drop s.at s.bytes.items; pieces = s.pieces.items; schedule = s.schedule; calls = s.calls } };
 
     ghost invariant = { λ s. (s.at ≤ vec_len s.bytes) × All (λ size. 0 < size) s.pieces.items };
 }
@@ -43,17 +44,16 @@ impl MemSource {
         fails: &[u64],
     ) -> Result<MemSource, OutOfMemory>
         requires { All (λ size. 0 < size) pieces.now }
-        ensures { IfOk result (λ s. s ≡ record { left = bytes.now; pieces = pieces.now; fails = fails.now; next = 0; calls = no_calls }) }
+        ensures { IfOk result (λ s. s ≡ record { left = bytes.now; pieces = pieces.now; schedule = begun fails.now; calls = no_calls }) }
     {
         let bytes = Vec::from_slice(alloc, bytes)?;
         let pieces = Vec::from_slice(alloc, pieces)?;
-        let fails = Vec::from_slice(alloc, fails)?;
+        let schedule = Schedule::new(alloc, fails)?;
         Ok(MemSource {
             bytes,
             at: 0,
             pieces,
-            fails,
-            next: 0,
+            schedule,
             calls: Calls::new(),
         })
     }
@@ -64,13 +64,6 @@ impl MemSource {
     {
         self.calls.faults()
     }
-}
-
-// Whether the call with this number is to fail.
-pub(crate) fn fails_now(fails: &[u64], call: u64) -> bool
-    ensures { result ≡ is_to_fail fails.now call }
-{
-    fails.contains(&call)
 }
 
 // The size of the answer to the call with this number.
@@ -105,9 +98,8 @@ impl Source for MemSource {
         ensures last { self.new.calls.last_failed ≡ is_err result }
         ensures exact { InputReads self.old self.new result buf.old buf.new }
     {
-        let call = self.next;
-        self.next = call.saturating_add(1);
-        if fails_now(&self.fails, call) {
+        let call = self.schedule.next();
+        if self.schedule.advance() {
             self.calls.add_failure();
             return Err(IoFault);
         }

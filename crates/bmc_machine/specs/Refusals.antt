@@ -4,17 +4,16 @@ use Rattle.fru_area.specs.declared.field.Field.{Field}
 use Rattle.fru_area.specs.declared.fault.FruFault.{FruFault}
 use Rattle.fru_area.specs.declared.fault.FruFault.TheVariants as rules
 use Rattle.fru_record.specs.Records.{record_of}
-use Rattle.cfg_json.specs.Shelves.{number_of}
+use Rattle.cfg_json.specs.Shelves.{most_configs, number_of}
 use Rattle.cfg_json.specs.declared.config.ConfigFault.{ConfigFault}
 use Rattle.cfg_json.specs.declared.config.ConfigFault.TheVariants as faults
 use Rattle.bmc_report.specs.declared.refusal.Refusal.{Refusal}
-use Rattle.bmc_report.specs.declared.refusal.Refusal.TheVariants.{NotJson, Fraction, MissingKey, WrongKind, OutOfRange, ProbeForm, ConfigAfterPlug, DuplicateName, ConfigLimit, Occupied, FruShort, FruTooLong, HeaderVersion, HeaderChecksum, AreaOutside, AreaVersion, AreaLength, AreaChecksum, FieldOutside, NoEnd, NotPresent}
+use Rattle.bmc_report.specs.declared.refusal.Refusal.TheVariants.{NotJson, Fraction, MissingKey, WrongKind, OutOfRange, ProbeForm, ConfigAfterPlug}
+use Rattle.bmc_report.specs.declared.refusal.Refusal.TheVariants.{DuplicateName, ConfigLimit, Occupied}
+use Rattle.bmc_report.specs.declared.refusal.Refusal.TheVariants.{FruShort, FruTooLong, HeaderVersion, HeaderChecksum, AreaOutside, AreaVersion}
+use Rattle.bmc_report.specs.declared.refusal.Refusal.TheVariants.{AreaLength, AreaChecksum, FieldOutside, NoEnd, NotPresent}
 use Rattle.bmc_machine.specs.Standings.{Standing, is_present}
 use Rattle.bmc_machine.specs.Histories.{Step, Configure, Plug, RefusedPlug, Unplug, standing}
-
--- how many configurations there are at most
-abbrev pub config_limit : ℕ
-config_limit = 256
 
 -- the refusal by a rule that bytes break to be a record; want of memory is no rule
 abbrev pub record_refusal : FruFault → Option Refusal
@@ -50,7 +49,7 @@ abbrev pub refusal_of : Standing → Step → Option Refusal
 refusal_of now (Configure config) =
     if now.plugged then Some ConfigAfterPlug
     else if is_some (number_of now.configs config.name) then Some DuplicateName
-    else if nat_le config_limit (length now.configs) then Some ConfigLimit
+    else if nat_le most_configs (length now.configs) then Some ConfigLimit
     else None
 refusal_of now (Plug place bytes) = if is_present now.frus place then Some Occupied else broken_rule (record_of bytes)
 refusal_of now (RefusedPlug place bytes refusal) = None

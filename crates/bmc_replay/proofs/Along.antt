@@ -1,5 +1,6 @@
 -- A run of the machine over the outside, so far.
-use Rattle.std.proofs.Common.{◌≡◌, ◌<◌, ◌≤◌, ◌+◌, ℕ, List, [], ◌∷◌, ◌++◌, length, Bool, true, false, ◌||◌, Option, Some, None, Ok, Err, refl, ap, sym, ◌∙◌, subst, arith, append_assoc, append-nil, length-append, string_bytes}
+use Rattle.std.proofs.Common.{◌≡◌, ◌<◌, ◌≤◌, ◌+◌, ℕ, List, [], ◌∷◌, ◌++◌, length, Bool, true, false, ◌||◌, Option, Some, None, Ok, Err, refl, ap, sym, ◌∙◌}
+use Rattle.std.proofs.Common.{subst, arith, append_assoc, append-nil, length-append, string_bytes}
 use Rattle.std.specs.Prelude.{⊤}
 use Rattle.std.specs.Io.KnownBytes.{Consumes, IsAtEnd}
 use Rattle.std.proofs.KnownBytes.{Consumes-nil, Consumes-trans}
@@ -42,7 +43,8 @@ pub printed_none : (told : Told) (text : List ℕ) → text ≡ [] → Printed t
 printed_none told text empty = record { written = []; told = sym (added_none told); parts = empty }
 
 -- text is written
-pub printed_moved : (old now new : Told) (text text_now total : List ℕ) → Printed old now text total → Gathers now new text text_now [] → Printed old new text_now total
+pub printed_moved : (old now new : Told) (text text_now total : List ℕ) → Printed old now text total → Gathers now new text text_now []
+    → Printed old new text_now total
 printed_moved old now new text text_now total printed gathers = record {
   written = printed.written ++ gathers.written;
   told = gathers.told ∙ ap (λ (told : Told). added told gathers.written) printed.told ∙ added_more old printed.written gathers.written;
@@ -52,7 +54,8 @@ printed_moved old now new text text_now total printed gathers = record {
 }
 
 -- text is gathered
-pub printed_more : (old now : Told) (text text_now total more : List ℕ) → Printed old now text total → text_now ≡ text ++ more → Printed old now text_now (total ++ more)
+pub printed_more : (old now : Told) (text text_now total more : List ℕ) → Printed old now text total → text_now ≡ text ++ more
+    → Printed old now text_now (total ++ more)
 printed_more old now text text_now total more printed grown = record {
   written = printed.written;
   told = printed.told;
@@ -121,15 +124,26 @@ stops_unread old new before text same = record {
 }
 
 -- it stops where the source gives no item, after what was gathered was written
-pub stops_reading : (fault : LineFault) (old new : ItemFeed) (input input_now : Input) (output output_now : Output) (text : List ℕ)
-    → output_now.taken ≡ added output.taken text → Reads old.waiting old.read new.read input input_now (LacksItem fault) → HasFault fault new.read input.calls input_now.calls
+stops_reading : (fault : LineFault) (old new : ItemFeed) (input input_now : Input) (output output_now : Output) (text : List ℕ)
+    → output_now.taken ≡ added output.taken text → Reads old.waiting old.read new.read input input_now (LacksItem fault)
+        → HasFault fault new.read input.calls input_now.calls
     → StopsAt (stop_of fault) old new (outside input output) (outside input_now output_now) text
-stops_reading faults.ReadFault old new input input_now output output_now text writing lacks cause = record { reading = lacks; count = cause.1; writing = writing }
+stops_reading faults.ReadFault old new input input_now output output_now text writing lacks cause = record
+    { reading = lacks; count = cause.1; writing = writing }
 stops_reading faults.Spent old new input input_now output output_now text writing lacks cause = record { reading = lacks; count = cause.1; writing = writing }
 stops_reading faults.OutOfMemory old new input input_now output output_now text writing lacks cause = record {
   reading = record { piece = lacks.piece; consumed = lacks.consumed; count = lacks.count; bytes = tt };
   writing = front_all output.taken output_now.taken text writing;
 }
+
+-- and no item was whole before
+pub stops_unbuffered : (fault : LineFault) (old same new : ItemFeed) (input input_now : Input) (output output_now : Output) (text : List ℕ) → same ≡ old
+    → output_now.taken ≡ added output.taken text → Reads same.waiting same.read new.read input input_now (LacksItem fault)
+        → HasFault fault new.read input.calls input_now.calls
+    → StopsAt (stop_of fault) old new (outside input output) (outside input_now output_now) text
+stops_unbuffered fault old same new input input_now output output_now text kept writing lacks cause =
+    subst (λ (old : ItemFeed). StopsAt (stop_of fault) old new (outside input output) (outside input_now output_now) text) kept
+    (stops_reading fault same new input input_now output output_now text writing lacks cause)
 
 -- what is printed of the bytes that were taken is the front of what is printed of the script
 abbrev pub Begins : Option (List ℕ) → List ℕ → Type 0
@@ -242,7 +256,8 @@ along_whole before now new feed feed_now run IsCount along gets =
           gets.writing ∙ ap (λ (told : Told). added told (string_bytes run.text)) along.printed.told
           ∙ added_more before.output.taken along.printed.written (string_bytes run.text)
           ∙ ap (added before.output.taken) (along.printed.parts
-          ∙ sym (ap (λ (answer : Answer). answer.text) (so_far_whole along.taken feed.waiting gets.reading.piece run.number along.so_far along.machine gets.reading.bytes)));
+          ∙ sym (ap (λ (answer : Answer). answer.text)
+              (so_far_whole along.taken feed.waiting gets.reading.piece run.number along.so_far along.machine gets.reading.bytes)));
     }
 
 -- the run stops where an item is wanted
@@ -250,10 +265,12 @@ pub along_stops : (stop : Stop) (before now new : Outside) (feed feed_now : Item
     → Along false before now feed run → StopsAt stop feed feed_now now new (string_bytes run.text)
     → Replays (status_of (Err stop)) before new × Reaches (status_of (Err stop)) before new
 along_stops stops.OutOfMemory before now new feed feed_now run limit along how =
-    (stopped stops.OutOfMemory before.input.left before.output.taken new.output.taken (along_cut false before now new feed run along (λ no. absurd (cc)) how.writing),
+    (stopped stops.OutOfMemory before.input.left before.output.taken new.output.taken
+        (along_cut false before now new feed run along (λ no. absurd (cc)) how.writing),
     along_piece before now new feed feed_now run how.reading.piece (λ count. count ≤ longest_script) along how.reading.consumed how.reading.count limit)
 along_stops stops.WriteFault before now new feed feed_now run limit along how =
-    (stopped stops.WriteFault before.input.left before.output.taken new.output.taken (along_cut false before now new feed run along (λ no. absurd (cc)) how.writing),
+    (stopped stops.WriteFault before.input.left before.output.taken new.output.taken
+        (along_cut false before now new feed run along (λ no. absurd (cc)) how.writing),
     along_piece before now new feed feed_now run how.reading.piece (λ count. count ≤ longest_script) along how.reading.consumed how.reading.count limit)
 along_stops stops.ReadFault before now new feed feed_now run limit along how =
     (stopped stops.ReadFault before.input.left before.output.taken new.output.taken
@@ -276,7 +293,8 @@ has_come (Some item) false taken waiting piece rest number so_far machine begins
 -- what a run does with what came
 record HasTaken (item : Option Item) (so_far : Answer) (moved run_now : Run) : Type 0 where
   stands : Stands run_now.state (answer_after so_far moved.number item).past
-  printed : (old now : Told) → Printed old now (string_bytes moved.text) so_far.text → Printed old now (string_bytes run_now.text) (answer_after so_far moved.number item).text
+  printed : (old now : Told) → Printed old now (string_bytes moved.text) so_far.text
+      → Printed old now (string_bytes run_now.text) (answer_after so_far moved.number item).text
   refused : run_now.refused ≡ (answer_after so_far moved.number item).refused
   number : run_now.number ≡ number_after moved.number item
 
@@ -292,7 +310,8 @@ has_taken (Some item) so_far moved run_now stood refused takes =
     let follows = takes.follows so_far.past stood in
     record {
       stands = follows.stands;
-      printed = λ old now printed. printed_more old now (string_bytes moved.text) (string_bytes run_now.text) so_far.text (answer (refused_line moved.number) so_far.past item).text printed follows.text;
+      printed = λ old now printed. printed_more old now (string_bytes moved.text) (string_bytes run_now.text) so_far.text
+          (answer (refused_line moved.number) so_far.past item).text printed follows.text;
       refused = follows.refused ∙ ap (λ (test : Bool). test || (answer (refused_line moved.number) so_far.past item).refused) refused;
       number = takes.number;
     }
@@ -305,7 +324,8 @@ pub along_next : (next : NextItem) (before now new : Outside) (feed feed_now : I
 unfolding along_piece
 along_next next before now new feed feed_now run moved run_now same along came gathers takes =
     let item : Option Item = item_next next feed_now in
-    let stood : Stands moved.state along.so_far.past = subst (λ (view : View). Stands view along.so_far.past) (sym (ap (λ (run : Run). run.state) same)) along.stands in
+    let stood : Stands moved.state along.so_far.past = subst (λ (view : View). Stands view along.so_far.past)
+        (sym (ap (λ (run : Run). run.state) same)) along.stands in
     let refused : moved.refused ≡ along.so_far.refused = ap (λ (run : Run). run.refused) same ∙ along.refused in
     let number : run.number ≡ moved.number = sym (ap (λ (run : Run). run.number) same) in
     let taken = has_taken item along.so_far moved run_now stood refused takes in
@@ -317,11 +337,13 @@ along_next next before now new feed feed_now run moved run_now same along came g
       read = counted.count;
       printed =
           taken.printed before.output.taken new.output.taken
-          (printed_moved before.output.taken now.output.taken new.output.taken (string_bytes run.text) (string_bytes moved.text) along.so_far.text along.printed gathers);
+          (printed_moved before.output.taken now.output.taken new.output.taken (string_bytes run.text)
+              (string_bytes moved.text) along.so_far.text along.printed gathers);
       stands = taken.stands;
       refused = taken.refused;
       machine =
-          subst (λ (count : ℕ). HasCome feed_now.ended (along.taken ++ came.piece) feed_now.waiting count (answer_after along.so_far moved.number item)) (sym taken.number)
+          subst (λ (count : ℕ). HasCome feed_now.ended (along.taken ++ came.piece) feed_now.waiting count (answer_after along.so_far moved.number item))
+              (sym taken.number)
           (has_come item feed_now.ended along.taken feed.waiting came.piece feed_now.waiting moved.number along.so_far
           (subst (λ (count : ℕ). SoFar along.taken feed.waiting count along.so_far) number along.machine) came.bytes);
     }
@@ -335,7 +357,8 @@ along_moved ended before input output output_now feed run moved same along gathe
   so_far = along.so_far;
   consumed = along.consumed;
   read = along.read;
-  printed = printed_moved before.output.taken output.taken output_now.taken (string_bytes run.text) (string_bytes moved.text) along.so_far.text along.printed gathers;
+  printed = printed_moved before.output.taken output.taken output_now.taken (string_bytes run.text)
+      (string_bytes moved.text) along.so_far.text along.printed gathers;
   stands = subst (λ (view : View). Stands view along.so_far.past) (sym (ap (λ (run : Run). run.state) same)) along.stands;
   refused = ap (λ (run : Run). run.refused) same ∙ along.refused;
   machine = subst (λ (number : ℕ). HasCome ended along.taken feed.waiting number along.so_far) (sym (ap (λ (run : Run). run.number) same)) along.machine;
@@ -356,9 +379,11 @@ list_of before now feed run along = ap (λ (now : Standing). along.so_far.text +
 
 -- it stops in the final list
 pub ended_cut : (before now new : Outside) (feed : ItemFeed) (run : Run) → IsAtEnd now.input.left → Along true before now feed run
-    → AppendsFront now.output.taken new.output.taken (string_bytes run.text ++ final_list run.state.now.frus) → IsFront before.input.left before.output.taken new.output.taken
+    → AppendsFront now.output.taken new.output.taken (string_bytes run.text ++ final_list run.state.now.frus)
+        → IsFront before.input.left before.output.taken new.output.taken
 ended_cut before now new feed run at_end along front =
-    begins_stopped before.input.left before.output.taken now.output.taken new.output.taken (string_bytes run.text) (final_list run.state.now.frus) along.so_far.text
+    begins_stopped before.input.left before.output.taken now.output.taken new.output.taken (string_bytes run.text)
+        (final_list run.state.now.frus) along.so_far.text
     (subst (Begins before.input.left) (sym (list_of before now feed run along))
     (ended_begins before.input.left now.input.left along.taken along.so_far along.consumed at_end along.machine))
     along.printed front
@@ -375,25 +400,29 @@ all_written refused None left_now taken so_far old new consumed at_end machine s
 all_written refused (Some script) None taken so_far old new consumed at_end machine same text = absurd consumed
 all_written refused (Some script) (Some rest) taken so_far old new consumed at_end machine same text =
     let is : answer_of script ≡ so_far = ap answer_of (taken_all script taken rest consumed at_end) ∙ machine in
-    writes_all refused script old new (text ∙ ap (λ (answer : Answer). added old (with_list answer)) (sym is)) (ap (λ (answer : Answer). answer.refused) is ∙ sym same)
+    writes_all refused script old new (text ∙ ap (λ (answer : Answer). added old (with_list answer)) (sym is))
+        (ap (λ (answer : Answer). answer.refused) is ∙ sym same)
 
 -- all is written
 pub ended_text : (before now new : Outside) (feed : ItemFeed) (run : Run) → IsAtEnd now.input.left → Along true before now feed run
     → new.output.taken ≡ added now.output.taken (string_bytes run.text ++ final_list run.state.now.frus) → Replays (status_of (Ok run.refused)) before new
 ended_text before now new feed run at_end along text =
-    all_written run.refused before.input.left now.input.left along.taken along.so_far before.output.taken new.output.taken along.consumed at_end along.machine along.refused
+    all_written run.refused before.input.left now.input.left along.taken along.so_far before.output.taken new.output.taken along.consumed at_end
+        along.machine along.refused
     (text ∙ ap (λ (told : Told). added told (string_bytes run.text ++ final_list run.state.now.frus)) along.printed.told
     ∙ added_more before.output.taken along.printed.written (string_bytes run.text ++ final_list run.state.now.frus)
     ∙ ap (added before.output.taken) (sym (append_assoc along.printed.written (string_bytes run.text) (final_list run.state.now.frus))
     ∙ ap (λ (text : List ℕ). text ++ final_list run.state.now.frus) along.printed.parts ∙ list_of before now feed run along))
 
 -- all was taken
-pub ended_reached : (before : Outside) (input : Input) (output output_now : Output) (feed : ItemFeed) (run : Run) → IsAtEnd input.left → feed.read < longest_script
+pub ended_reached : (before : Outside) (input : Input) (output output_now : Output) (feed : ItemFeed) (run : Run) → IsAtEnd input.left
+    → feed.read < longest_script
     → Along true before (outside input output) feed run → Reaches (status_of (Ok run.refused)) before (outside input output_now)
 ended_reached before input output output_now feed run at_end few along =
     of run.refused (along_count true before input output output_now feed run (λ count. count < longest_script) along few)
   where
-    of : (refused : Bool) → Takes before (outside input output_now) (λ count. count < longest_script) → Reaches (status_of (Ok refused)) before (outside input output_now)
+    of : (refused : Bool) → Takes before (outside input output_now) (λ count. count < longest_script)
+        → Reaches (status_of (Ok refused)) before (outside input output_now)
     of true takes = (at_end, takes)
     of false takes = (at_end, takes)
 
@@ -406,13 +435,15 @@ spends_item (Some item) feed feed_now piece true going taken read = absurd (cc)
 spends_item (Some item) feed feed_now piece false going taken read = omega (arith, taken.shorter, read, length-append feed.waiting piece)
 
 -- the number of the next item
-pub numbered : (item : Option Item) (moved run_now : Run) (ended : Bool) (bytes rest : List ℕ) → ended ≡ false → IsTaken item ended bytes rest → TakesNext item moved run_now
+pub numbered : (item : Option Item) (moved run_now : Run) (ended : Bool) (bytes rest : List ℕ) → ended ≡ false → IsTaken item ended bytes rest
+    → TakesNext item moved run_now
     → run_now.number ≡ moved.number + 1
 numbered None moved run_now ended bytes rest going taken takes = absurd (let no = taken.at_end in cc)
 numbered (Some item) moved run_now ended bytes rest going taken takes = takes.number
 
 -- a write in the final list stops for want of memory or by a fault of the sink
-pub stops_after : (stop : Stop) (before now : Outside) (calls calls_now : Calls) → Takes before now (λ count. count ≤ longest_script) → WriteCause stop calls calls_now → Reaches (status_of (Err stop)) before now
+pub stops_after : (stop : Stop) (before now : Outside) (calls calls_now : Calls) → Takes before now (λ count. count ≤ longest_script)
+    → WriteCause stop calls calls_now → Reaches (status_of (Err stop)) before now
 stops_after stops.OutOfMemory before now calls calls_now takes cause = takes
 stops_after stops.WriteFault before now calls calls_now takes cause = takes
 stops_after stops.ReadFault before now calls calls_now takes cause = absurd cause

@@ -30,7 +30,8 @@ gathers_more old mid new text kept grown left added_first more first grows next 
 }
 
 -- what was written so far is a front of all that is to be
-pub gathers_front : (old new : Told) (text kept added_first more : List ℕ) → Gathers old new text kept added_first → AppendsFront old new (text ++ (added_first ++ more))
+pub gathers_front : (old new : Told) (text kept added_first more : List ℕ) → Gathers old new text kept added_first
+    → AppendsFront old new (text ++ (added_first ++ more))
 gathers_front old new text kept added_first more gathers =
     front_so_far old new gathers.written (kept ++ more) (text ++ (added_first ++ more)) gathers.told
     (sym (append_assoc text added_first more) ∙ ap (λ (front : List ℕ). front ++ more) (sym gathers.parts) ∙ append_assoc gathers.written kept more)
@@ -45,7 +46,8 @@ gathers_stopped old mid new text kept grown added_first next more gathers grows 
     ∙ ap (λ (rest : List ℕ). gathers.written ++ rest) (sym (append_assoc kept next more) ∙ ap (λ (whole : List ℕ). whole ++ more) (sym grows)))
 
 -- a write of what is gathered stops, after which nothing is to follow
-pub gathers_cut : (old mid new : Told) (text kept added_first : List ℕ) → Gathers old mid text kept added_first → AppendsFront mid new kept → AppendsFront old new (text ++ added_first)
+pub gathers_cut : (old mid new : Told) (text kept added_first : List ℕ) → Gathers old mid text kept added_first → AppendsFront mid new kept
+    → AppendsFront old new (text ++ added_first)
 gathers_cut old mid new text kept added_first gathers front =
     front_after old mid new gathers.written kept (text ++ added_first) [] gathers.told front
     (sym gathers.parts ∙ ap (λ (rest : List ℕ). gathers.written ++ rest) (sym (append-nil kept)))
@@ -68,7 +70,8 @@ final_list-append (entry ∷ done) rest =
     ap (λ (rows : List ℕ). row_of (fru_of entry) ++ rows) (final_list-append done rest)
     ∙ sym (append_assoc (row_of (fru_of entry)) (final_list (frus_of done)) (final_list (frus_of rest)))
 
-final_list-cons : (entry : Place × Entry) (rest : List (Place × Entry)) → final_list (frus_of (entry ∷ rest)) ≡ row_of (fru_of entry) ++ final_list (frus_of rest)
+final_list-cons : (entry : Place × Entry) (rest : List (Place × Entry))
+    → final_list (frus_of (entry ∷ rest)) ≡ row_of (fru_of entry) ++ final_list (frus_of rest)
 unfolding final_list
 final_list-cons entry rest = refl
 
@@ -79,7 +82,8 @@ final_list-one entry = append-nil (row_of (fru_of entry))
 -- all rows, by those that came before
 all_rows : (entries rest : List (Place × Entry)) (old new : Told) (text kept : List ℕ) (rows : RowsGathered entries rest old new text kept)
     → final_list (frus_of entries) ≡ final_list (frus_of rows.done) ++ final_list (frus_of rest)
-all_rows entries rest old new text kept rows = ap (λ (entries : List (Place × Entry)). final_list (frus_of entries)) rows.parts ∙ final_list-append rows.done rest
+all_rows entries rest old new text kept rows = ap (λ (entries : List (Place × Entry)). final_list (frus_of entries)) rows.parts
+    ∙ final_list-append rows.done rest
 
 -- a row more
 pub rows_more : (entries waiting rest : List (Place × Entry)) (entry : Place × Entry) (old mid new : Told) (text kept grown left : List ℕ)

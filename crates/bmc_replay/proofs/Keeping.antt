@@ -1,5 +1,6 @@
 -- Lists of boards that are kept, and lines that are gathered, one after another.
-use Rattle.std.proofs.Common.{◌≡◌, ◌≢◌, ℕ, ◌+◌, ◌<◌, ◌≤◌, List, [], ◌∷◌, ◌++◌, Bool, true, false, cond, ◌||◌, Option, Some, None, Result, Ok, Err, OnOk, OnErr, IfOk, length, map, take, get_or, position, refl, sym, ap, ◌∙◌, arith, slice_get, option_map}
+use Rattle.std.proofs.Common.{◌≡◌, ◌≢◌, ℕ, ◌+◌, ◌<◌, ◌≤◌, List, [], ◌∷◌, ◌++◌, Bool, true, false, cond, ◌||◌, Option, Some, None, Result, Ok, Err, OnOk}
+use Rattle.std.proofs.Common.{OnErr, IfOk, length, map, take, get_or, position, refl, sym, ap, ◌∙◌, arith, slice_get, option_map}
 use Rattle.std.specs.Prelude.{◌==◌, nat_lt, slice_set, slice_index_or}
 use Rattle.std.specs.Option.{option_eq, unwrap_or}
 use Rattle.std.specs.List.{list_any, flat_map, position_or_len}
@@ -32,7 +33,8 @@ if_ok (Ok n) p h = h n p
 if_ok (Err e) p h = tt
 
 -- a line more is gathered
-pub line_more : (f : ℕ → List ℕ) (start text text_now : List ℕ) (hits : List ℕ) (i : ℕ) → text ≡ start ++ flat_map f (take i hits) → i < length hits → text_now ≡ text ++ f (slice_index_or hits i 0) → text_now ≡ start ++ flat_map f (take (i + 1) hits)
+pub line_more : (f : ℕ → List ℕ) (start text text_now : List ℕ) (hits : List ℕ) (i : ℕ) → text ≡ start ++ flat_map f (take i hits) → i < length hits
+    → text_now ≡ text ++ f (slice_index_or hits i 0) → text_now ≡ start ++ flat_map f (take (i + 1) hits)
 line_more f start text text_now hits i so_far within now =
     now ∙ ap (λ (t : List ℕ). t ++ f (slice_index_or hits i 0)) so_far
     ∙ flat_map_more f start (take i hits) (slice_index_or hits i 0)
@@ -55,7 +57,8 @@ kept_once there x = of (has_board there x) refl
     of false e = ap (λ (b : Bool). cond b (there ++ x ∷ []) ((there ++ x ∷ []) ++ x ∷ [])) ends
 
 -- and has the index that it gets
-pub index_kept : (hits : List ℕ) (place : Place) (kept : ℕ → List (Option Place)) (number : ℕ) → index_in (kept_with hits place kept number) (Some place) ≡ index_in (kept number) (Some place)
+pub index_kept : (hits : List ℕ) (place : Place) (kept : ℕ → List (Option Place)) (number : ℕ)
+    → index_in (kept_with hits place kept number) (Some place) ≡ index_in (kept number) (Some place)
 index_kept hits place kept number = of (list_any (λ hit. hit == number) hits)
   where
     of : (b : Bool) → index_in (cond b (with_board (kept number) (Some place)) (kept number)) (Some place) ≡ index_in (kept number) (Some place)
@@ -63,7 +66,10 @@ index_kept hits place kept number = of (list_any (λ hit. hit == number) hits)
     of false = refl
 
 -- a board is kept for a hit more
-pub kept_more : (lists old lists_now : List (List (Option Place))) (hits : List ℕ) (i : ℕ) (place : Place) → ((number : ℕ) → kept_of lists number ≡ kept_with (take i hits) place (kept_of old) number) → i < length hits → slice_index_or hits i 0 < length lists → lists_now ≡ slice_set lists (slice_index_or hits i 0) (with_board (kept_of lists (slice_index_or hits i 0)) (Some place)) → (number : ℕ) → kept_of lists_now number ≡ kept_with (take (i + 1) hits) place (kept_of old) number
+pub kept_more : (lists old lists_now : List (List (Option Place))) (hits : List ℕ) (i : ℕ) (place : Place)
+    → ((number : ℕ) → kept_of lists number ≡ kept_with (take i hits) place (kept_of old) number) → i < length hits → slice_index_or hits i 0 < length lists
+    → lists_now ≡ slice_set lists (slice_index_or hits i 0) (with_board (kept_of lists (slice_index_or hits i 0)) (Some place)) → (number : ℕ)
+    → kept_of lists_now number ≡ kept_with (take (i + 1) hits) place (kept_of old) number
 kept_more lists old lists_now hits i place so_far within listed now number =
     ap (λ (l : List (List (Option Place))). kept_of l number) now
     ∙ of (slice_index_or hits i 0 == number) refl
@@ -72,10 +78,13 @@ kept_more lists old lists_now hits i place so_far within listed now number =
     hit : ℕ
     hit = slice_index_or hits i 0
 
-    any_more : list_any (λ hit. hit == number) (take (i + 1) hits) ≡ (list_any (λ hit. hit == number) (take i hits) || ((slice_index_or hits i 0 == number) || false))
-    any_more = ap (list_any (λ hit. hit == number)) (take_more hits i 0 within) ∙ list_any-append (λ hit. hit == number) (take i hits) (slice_index_or hits i 0 ∷ [])
+    any_more : list_any (λ hit. hit == number) (take (i + 1) hits) ≡ (list_any (λ hit. hit == number) (take i hits) ||
+        ((slice_index_or hits i 0 == number) || false))
+    any_more = ap (list_any (λ hit. hit == number)) (take_more hits i 0 within) ∙ list_any-append (λ hit. hit == number) (take i hits)
+        (slice_index_or hits i 0 ∷ [])
 
-    once : (b : Bool) (n : ℕ) → with_board (cond b (with_board (kept_of old n) (Some place)) (kept_of old n)) (Some place) ≡ with_board (kept_of old n) (Some place)
+    once : (b : Bool) (n : ℕ)
+        → with_board (cond b (with_board (kept_of old n) (Some place)) (kept_of old n)) (Some place) ≡ with_board (kept_of old n) (Some place)
     once true n = kept_once (kept_of old n) (Some place)
     once false n = refl
 
@@ -87,7 +96,9 @@ kept_more lists old lists_now hits i place so_far within listed now number =
     or_none true = refl
     or_none false = refl
 
-    of : (b : Bool) → (slice_index_or hits i 0 == number) ≡ b → kept_of (slice_set lists (slice_index_or hits i 0) (with_board (kept_of lists (slice_index_or hits i 0)) (Some place))) number ≡ cond (list_any (λ hit. hit == number) (take i hits) || (b || false)) (with_board (kept_of old number) (Some place)) (kept_of old number)
+    of : (b : Bool) → (slice_index_or hits i 0 == number) ≡ b
+        → kept_of (slice_set lists (slice_index_or hits i 0) (with_board (kept_of lists (slice_index_or hits i 0)) (Some place))) number ≡ cond
+            (list_any (λ hit. hit == number) (take i hits) || (b || false)) (with_board (kept_of old number) (Some place)) (kept_of old number)
     of true e =
         let same : slice_index_or hits i 0 ≡ number = eqb-true _ _ e in
         ap (λ n. kept_of (slice_set lists (slice_index_or hits i 0) (with_board (kept_of lists (slice_index_or hits i 0)) (Some place))) n) (sym same)
@@ -95,12 +106,14 @@ kept_more lists old lists_now hits i place so_far within listed now number =
         ∙ ap (λ n. with_board (kept_of lists n) (Some place)) same
         ∙ ap (λ (l : List (Option Place)). with_board l (Some place)) (so_far number)
         ∙ once (list_any (λ hit. hit == number) (take i hits)) number
-        ∙ sym (ap (λ (b : Bool). cond b (with_board (kept_of old number) (Some place)) (kept_of old number)) (or_true (list_any (λ hit. hit == number) (take i hits))))
+        ∙ sym (ap (λ (b : Bool). cond b (with_board (kept_of old number) (Some place)) (kept_of old number))
+            (or_true (list_any (λ hit. hit == number) (take i hits))))
     of false e =
         let other : number ≢ slice_index_or hits i 0 = λ same. let yes : (slice_index_or hits i 0 == number) ≡ true = eq-eqb _ _ (sym same) in absurd (cc) in
         get_or-set_other lists (slice_index_or hits i 0) number (with_board (kept_of lists (slice_index_or hits i 0)) (Some place)) [] other
         ∙ so_far number
-        ∙ sym (ap (λ (b : Bool). cond b (with_board (kept_of old number) (Some place)) (kept_of old number)) (or_none (list_any (λ hit. hit == number) (take i hits))))
+        ∙ sym (ap (λ (b : Bool). cond b (with_board (kept_of old number) (Some place)) (kept_of old number))
+            (or_none (list_any (λ hit. hit == number) (take i hits))))
 
 -- the last list
 pub set_last : (lists : List (List (Option Place))) (list new : List (Option Place)) → slice_set (lists ++ list ∷ []) (length lists) new ≡ lists ++ new ∷ []
@@ -115,14 +128,17 @@ get_last (first ∷ lists) list = get_last lists list
 pub last_name : (configs : List Config) (config : Config) → name_of (configs ++ config ∷ []) (length configs) ≡ config.name
 last_name configs config =
     ap (λ (o : Option Config). unwrap_or (option_map (λ config. config.name) o) []) (get_more configs config (length configs))
-    ∙ ap (λ (b : Bool). unwrap_or (option_map (λ config. config.name) (cond b (Some config) (slice_get configs (length configs)))) []) (eq-eqb (length configs) (length configs) refl)
+    ∙ ap (λ (b : Bool). unwrap_or (option_map (λ config. config.name) (cond b (Some config) (slice_get configs (length configs)))) [])
+        (eq-eqb (length configs) (length configs) refl)
 
 -- what was kept is kept
-pub kept_stays : (hits : List ℕ) (place : Place) (kept : ℕ → List (Option Place)) (number : ℕ) (board : Option Place) → has_board (kept number) board ≡ true → has_board (kept_with hits place kept number) board ≡ true
+pub kept_stays : (hits : List ℕ) (place : Place) (kept : ℕ → List (Option Place)) (number : ℕ) (board : Option Place)
+    → has_board (kept number) board ≡ true → has_board (kept_with hits place kept number) board ≡ true
 kept_stays hits place kept number board h = of (list_any (λ hit. hit == number) hits)
   where
     of : (b : Bool) → has_board (cond b (with_board (kept number) (Some place)) (kept number)) board ≡ true
-    of true = ap (λ (l : List (Option Place)). has_board l board) (with_board_is (kept number) (Some place)) ∙ list_any-append (option_eq place_eq board) (kept number) _ ∙ or_left _ _ h
+    of true = ap (λ (l : List (Option Place)). has_board l board) (with_board_is (kept number) (Some place)) ∙ list_any-append (option_eq place_eq board)
+        (kept number) _ ∙ or_left _ _ h
     of false = h
 
 -- a list of lists by their keys, where one has another key
@@ -130,8 +146,10 @@ module _ {X : Type 0} (keys : X → List (Option Place)) (lists : List X) (numbe
   pub keys_at : number < length lists → slice_index_or (map keys lists) number [] ≡ keys (get_or lists number some)
   keys_at within = get_or-map keys lists number some [] within
 
-  pub keys_set : (place : Option Place) → number < length lists → keys new ≡ with_board (keys (get_or lists number some)) place → map keys (slice_set lists number new) ≡ slice_set (map keys lists) number (with_board (slice_index_or (map keys lists) number []) place)
-  keys_set place within now = map-set keys lists number new ∙ ap (slice_set (map keys lists) number) (now ∙ ap (λ (l : List (Option Place)). with_board l place) (sym (keys_at within)))
+  pub keys_set : (place : Option Place) → number < length lists → keys new ≡ with_board (keys (get_or lists number some)) place
+      → map keys (slice_set lists number new) ≡ slice_set (map keys lists) number (with_board (slice_index_or (map keys lists) number []) place)
+  keys_set place within now = map-set keys lists number new ∙ ap (slice_set (map keys lists) number)
+      (now ∙ ap (λ (l : List (Option Place)). with_board l place) (sym (keys_at within)))
 
   pub keys_same : keys new ≡ keys (get_or lists number some) → map keys (slice_set lists number new) ≡ map keys lists
   keys_same same = map-set_same keys lists number new some same
@@ -140,10 +158,12 @@ module _ {X : Type 0} (keys : X → List (Option Place)) (lists : List X) (numbe
 pub position_is : (test : Option Place → Bool) (there : List (Option Place)) → unwrap_or (position test there) (length there) ≡ position_or_len test there
 position_is test there = of (nat_lt (position_or_len test there) (length there)) refl
   where
-    of : (b : Bool) → nat_lt (position_or_len test there) (length there) ≡ b → unwrap_or (cond b (Some (position_or_len test there)) None) (length there) ≡ position_or_len test there
+    of : (b : Bool) → nat_lt (position_or_len test there) (length there) ≡ b
+        → unwrap_or (cond b (Some (position_or_len test there)) None) (length there) ≡ position_or_len test there
     of true e = refl
     of false e = let most : position_or_len test there ≤ length there = prefix_len-le-length _ there in grind (arith, nat_tests, e, most)
 
 -- and its index
-pub index_is : (there : List (Option Place)) (x : Option Place) (at index : ℕ) → at ≡ unwrap_or (position (option_eq place_eq x) there) (length there) → index ≡ at + 1 → index ≡ index_in there x
+pub index_is : (there : List (Option Place)) (x : Option Place) (at index : ℕ) → at ≡ unwrap_or (position (option_eq place_eq x) there) (length there)
+    → index ≡ at + 1 → index ≡ index_in there x
 index_is there x at index p e = e ∙ ap (λ n. n + 1) (p ∙ position_is (option_eq place_eq x) there)

@@ -37,7 +37,8 @@ and_then-silent : (first : Answer) → and_then first (silent first.past) ≡ fi
 and_then-silent first = same_answer first.past (append-nil first.text) (or_false first.refused)
 
 answers-cons : (number : ℕ) (past : List Step) (item : Item) (items : List Item)
-    → answers number past (item ∷ items) ≡ and_then (answer (refused_line number) past item) (answers (number + 1) (answer (refused_line number) past item).past items)
+    → answers number past (item ∷ items) ≡ and_then (answer (refused_line number) past item)
+        (answers (number + 1) (answer (refused_line number) past item).past items)
 unfolding answers
 answers-cons number past item items = refl
 
@@ -51,7 +52,8 @@ with_item so_far number item = and_then so_far (answer (refused_line number) so_
 
 -- by one item, and then by those that follow
 step_on : (so_far : Answer) (number : ℕ) (item : Item) (items : List Item)
-    → and_then so_far (answers number so_far.past (item ∷ items)) ≡ and_then (with_item so_far number item) (answers (number + 1) (with_item so_far number item).past items)
+    → and_then so_far (answers number so_far.past (item ∷ items)) ≡ and_then (with_item so_far number item)
+        (answers (number + 1) (with_item so_far number item).past items)
 step_on so_far number item items =
     ap (and_then so_far) (answers-cons number so_far.past item items)
     ∙ and_then-assoc so_far (answer (refused_line number) so_far.past item) (answers (number + 1) (with_item so_far number item).past items)

@@ -1,10 +1,11 @@
 -- What is kept stands for the history, before a step and after it.
-use Rattle.std.proofs.Common.{◌≡◌, ℕ, List, [], ◌∷◌, ◌++◌, Bool, true, false, cond, Option, Some, None, Result, Ok, Err, refl, ap, sym, subst, ◌∙◌, append_assoc, append-nil, string_bytes}
+use Rattle.std.proofs.Common.{◌≡◌, ℕ, List, [], ◌∷◌, ◌++◌, Bool, true, false, cond, Option, Some, None, Result, Ok, Err, refl, ap, sym, subst, ◌∙◌}
+use Rattle.std.proofs.Common.{append_assoc, append-nil, string_bytes}
 use Rattle.std.specs.Prelude.{◌+◌, ◌||◌, is_some, IfOk}
 use Rattle.std.specs.List.{flat_map}
 use Rattle.bmc_base.specs.Places.{Place}
 use Rattle.bmc_text.specs.Items.{Item, Block}
-use Rattle.fru_area.specs.Answers.{checked}
+use Rattle.fru_area.specs.Readings.{checked}
 use Rattle.fru_area.specs.declared.field.Field.{Field}
 use Rattle.fru_area.specs.declared.fault.FruFault.{FruFault}
 use Rattle.fru_record.specs.Records.{record_of}
@@ -66,8 +67,10 @@ same_changes : (view : View) (past : List Step) → Stands view past → view_ch
 unfolding standing
 same_changes view past stood =
     let kept_is : kept_of view.kept ≡ kept past = λ i number. stood.kept number i in
-    ap (λ (now : Standing). λ step. changes_between now (kept_of view.kept) (after_step now step) (kept_after (kept_of view.kept) (after_step now step))) stood.now
-    ∙ ap (λ (there : ℕ → List (Option Place)). λ step. changes_between (standing past) there (after_step (standing past) step) (kept_after there (after_step (standing past) step))) kept_is
+    ap (λ (now : Standing). λ step. changes_between now (kept_of view.kept) (after_step now step)
+        (kept_after (kept_of view.kept) (after_step now step))) stood.now
+    ∙ ap (λ (there : ℕ → List (Option Place)). λ step. changes_between (standing past) there (after_step (standing past) step)
+        (kept_after there (after_step (standing past) step))) kept_is
     ∙ (λ i step. changes_between (standing past) (kept past) (after_step (standing past) step) (λ number. sym (kept_next step past number) i))
 
 -- a step that is tried where a history stands is answered after it
@@ -94,16 +97,19 @@ tries_answers view step refusal new text text_now tried line past stood =
     }
 
 -- the same of what a step's call returns, where a step is all that is done
-pub step_answers : {E : Type 0} (what : (Refusal → List ℕ) → List Step → Answer) (view : View) (step : Step) (new : View) (text text_now : List ℕ) (result : Result (Option Refusal) E)
+pub step_answers : {E : Type 0} (what : (Refusal → List ℕ) → List Step → Answer) (view : View) (step : Step) (new : View) (text text_now : List ℕ)
+    (result : Result (Option Refusal) E)
     → ((line : Refusal → List ℕ) (past : List Step) → answer_step line past step ≡ what line past)
     → IfOk result (λ refusal. Tries view step refusal new text text_now) → IfOk result (λ refusal. Answers what refusal view new text text_now)
 step_answers what view step new text text_now (Err fault) is tried = tt
 step_answers what view step new text text_now (Ok refusal) is tried =
-    λ line past stood. subst (λ (answer : Answer). IsAnswer answer line refusal new text text_now) (is line past) (tries_answers view step refusal new text text_now tried line past stood)
+    λ line past stood. subst (λ (answer : Answer). IsAnswer answer line refusal new text text_now) (is line past)
+        (tries_answers view step refusal new text text_now tried line past stood)
 
 -- bytes that break a rule are refused by it
 pub broken_tries : (view : View) (place : Place) (bytes text : List ℕ) (rule : FruFault) (refusal : Refusal) (nothing : Unit {0})
-    → is_present view.now.frus place ≡ false → Err rule ≡ checked (record_of bytes) → record_refusal rule ≡ Some refusal → Tries view (Plug place bytes) (Some refusal) view text text
+    → is_present view.now.frus place ≡ false → Err rule ≡ checked (record_of bytes) → record_refusal rule ≡ Some refusal → Tries view (Plug place bytes)
+        (Some refusal) view text text
 broken_tries view place bytes text rule refusal nothing free broken is = record {
   reason = sym (ap (λ (there : Bool). cond there (Some Occupied) (broken_rule (record_of bytes))) free ∙ of (record_of bytes) broken ∙ is);
   left = refl;
@@ -127,7 +133,8 @@ pub silent_answers : (view : View) (text : List ℕ) → Answers (λ line past. 
 silent_answers view text line past stood = record { stands = stood; gathered = refl; refused = refl }
 
 -- a rule that a document breaks is known, but for want of memory
-known_rule : (rule : ConfigFault) (refusal : Refusal) (read : Result Config ConfigFault) → config_refusal rule ≡ Some refusal → GivesConfigFault rule read → read ≡ Err rule
+known_rule : (rule : ConfigFault) (refusal : Refusal) (read : Result Config ConfigFault) → config_refusal rule ≡ Some refusal → GivesConfigFault rule read
+    → read ≡ Err rule
 known_rule faults.NotJson refusal read is gives = gives
 known_rule faults.Fraction refusal read is gives = gives
 known_rule faults.MissingKey refusal read is gives = gives
@@ -137,11 +144,13 @@ known_rule faults.ProbeForm refusal read is gives = gives
 known_rule faults.OutOfMemory refusal read is gives = absurd (cc)
 
 -- a document that breaks a rule is refused by it
-pub broken_answers : (view : View) (bytes text : List ℕ) (rule : ConfigFault) (refusal : Refusal) → GivesConfigFault rule (config_read bytes) → config_refusal rule ≡ Some refusal
+pub broken_answers : (view : View) (bytes text : List ℕ) (rule : ConfigFault) (refusal : Refusal) → GivesConfigFault rule (config_read bytes)
+    → config_refusal rule ≡ Some refusal
     → Answers (λ line past. answer line past (Block bytes)) (Some refusal) view view text text
 broken_answers view bytes text rule refusal gives is line past stood =
     subst (λ (answer : Answer). IsAnswer answer line (Some refusal) view text text)
-    (sym (ap (answer_config line past) (known_rule rule refusal (config_read bytes) is gives) ∙ ap (λ (reason : Option Refusal). answer_broken reason line past) is))
+    (sym (ap (answer_config line past) (known_rule rule refusal (config_read bytes) is gives) ∙ ap
+        (λ (reason : Option Refusal). answer_broken reason line past) is))
     (refused_answers view refusal text line past stood)
 
 -- what was answered is counted

@@ -73,4 +73,5 @@ pub record AreKept (configs : List Config) (entries : List (Place × Entry)) (pl
   pub many : length lists ≡ length configs
   pub hits : map (λ entry. entry.1.hits.items) entries ≡ map (λ entry. hits_of configs (fru_of entry)) entries
   pub none : (plugged || (length entries == 0)) ≡ true
-  pub boards : (number : ℕ) → list_all (has_board (kept_of lists number)) (boards (record { configs = configs; frus = frus_of entries; plugged = plugged }) number) ≡ true
+  pub boards : (number : ℕ)
+      → list_all (has_board (kept_of lists number)) (boards (record { configs = configs; frus = frus_of entries; plugged = plugged }) number) ≡ true

@@ -46,7 +46,8 @@ pub record IsAnswer (answer : Answer) (line : Refusal → List ℕ) (refusal : O
 
 -- the same, for every history for which the state stood
 abbrev pub Answers : ((Refusal → List ℕ) → List Step → Answer) → Option Refusal → View → View → List ℕ → List ℕ → Type 0
-Answers to refusal old new text text_now = (line : Refusal → List ℕ) (past : List Step) → Stands old past → IsAnswer (to line past) line refusal new text text_now
+Answers to refusal old new text text_now = (line : Refusal → List ℕ) (past : List Step) → Stands old past → IsAnswer
+    (to line past) line refusal new text text_now
 
 -- an item that is refused for this reason, or accepted, is counted, and the line of its refusal is gathered
 pub record CountsItem (refusal : Option Refusal) (old new : Run) : Type 0 where

@@ -1,4 +1,5 @@
-ghost use Rattle.std.specs.Prelude.{◌≡◌, ◌<◌, ◌++◌, ◌∷◌, [], Some, None, Option, ℕ, length, filter, true, false, option_map, slice_get, IfOk, OnOk, OnErr, string_bytes};
+ghost use Rattle.std.specs.Prelude.{◌≡◌, ◌<◌, ◌++◌, ◌∷◌, [], Some, None, Option, ℕ, length, filter, true, false, option_map, slice_get, IfOk, OnOk, OnErr};
+ghost use Rattle.std.specs.Prelude.{string_bytes};
 ghost use Rattle.std.specs.List.{flat_map, range_with_len, All};
 ghost use Rattle.std.specs.Option.{unwrap_or};
 ghost use Rattle.cfg_json.specs.Probes.{matches};
@@ -46,7 +47,8 @@ pub fn find_hits(
 
 // The numbers of the configurations whose pattern a record matches.
 fn find_matches(alloc: Global, configs: &Shelf, fru: &FruRecord) -> Result<Vec<usize>, OutOfMemory>
-    ensures { IfOk result (λ hits. hits.items ≡ filter (λ number. unwrap_or (option_map (λ config. matches config.probe fru.now) (slice_get configs.now number)) false) (range_with_len 0 (length configs.now))) }
+    ensures { IfOk result (λ hits. hits.items ≡ filter (λ number. unwrap_or
+        (option_map (λ config. matches config.probe fru.now) (slice_get configs.now number)) false) (range_with_len 0 (length configs.now))) }
 {
     let hits = (0..configs.len())
         .filter(|number| is_match(configs, *number, fru))
@@ -74,7 +76,8 @@ fn push_board(
     place: Place,
 ) -> Result<(), OutOfMemory>
     requires { number < length configs.now }
-    ensures { OnOk result (string_bytes text.new ≡ string_bytes text.old ++ change_line 0 (changes.Board gone (name_of configs.now number) index (Some place))) }
+    ensures { OnOk result (string_bytes text.new ≡ string_bytes text.old ++ change_line 0
+        (changes.Board gone (name_of configs.now number) index (Some place))) }
 {
     let Some(config) = configs.at(number) else {
         unreachable!()
@@ -99,7 +102,8 @@ pub fn push_boards(
 ) -> Result<(), OutOfMemory>
     requires within { All (λ hit. hit < length configs.now) hits.now }
     requires many { length kept.now ≡ length configs.now }
-    ensures { OnOk result (string_bytes text.new ≡ string_bytes text.old ++ flat_map (λ hit. change_line 0 (board_at gone configs.now (kept_of kept.now) place hit)) hits.now) }
+    ensures { OnOk result (string_bytes text.new ≡ string_bytes text.old ++ flat_map
+        (λ hit. change_line 0 (board_at gone configs.now (kept_of kept.now) place hit)) hits.now) }
 {
     'hits: for hit in hits {
         let index = kept.index(*hit, Some(place))?;
@@ -142,7 +146,7 @@ pub fn accept(
         push_first(&config, text)?;
     }
     kept.add(alloc, always)?;
-    match configs.add(config) {
+    match configs.add(alloc, config) {
         Ok(()) => Ok(()),
         Err(fault) => {
             kept.take_back();

@@ -42,7 +42,8 @@ fn keep_in(
     place: Option<Place>,
 ) -> Result<(), OutOfMemory>
     requires { number < length lists.old }
-    ensures ok { OnOk result (map (λ list. list.keys) lists.new ≡ slice_set (map (λ list. list.keys) lists.old) number (with_board (slice_index_or (map (λ list. list.keys) lists.old) number []) place)) }
+    ensures ok { OnOk result (map (λ list. list.keys) lists.new ≡ slice_set (map (λ list. list.keys) lists.old) number
+        (with_board (slice_index_or (map (λ list. list.keys) lists.old) number []) place)) }
     ensures err { OnErr result (map (λ list. list.keys) lists.new ≡ map (λ list. list.keys) lists.old) }
 {
     lists[number].insert_full(place)?;

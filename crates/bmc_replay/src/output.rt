@@ -20,6 +20,9 @@ use std::collections::BTreeMap;
 /// How many bytes of text are gathered before they are written.
 pub const GATHERED: usize = 64 * 1024;
 
+/// How many bytes more fit before the text grows: the line of a refusal, or of a change.
+pub const SPARE: usize = 4096;
+
 /// Writes all that is gathered, or a front of it where a write fails.
 pub fn flush<K: Sink>(text: &mut String, output: &mut K) -> Result<(), IoFault>
     ensures all { OnOk result ((K.seen output.new).taken ≡ added (K.seen output.old).taken (string_bytes text.old)) }
@@ -63,9 +66,12 @@ pub fn push_list<K: Sink>(
     text: &mut String,
     output: &mut K,
 ) -> Result<(), Stop>
-    ensures all { OnOk result (Gathers (K.seen output.old).taken (K.seen output.new).taken (string_bytes text.old) (string_bytes text.new) (final_list (frus_of frus.now.entries))) }
-    ensures front { OnErr result (AppendsFront (K.seen output.old).taken (K.seen output.new).taken (string_bytes text.old ++ final_list (frus_of frus.now.entries))) }
-    ensures cause { MatchResult result (λ _. (K.seen output.new).calls.faults ≡ (K.seen output.old).calls.faults) (λ stop. WriteCause stop (K.seen output.old).calls (K.seen output.new).calls) }
+    ensures all { OnOk result (Gathers (K.seen output.old).taken (K.seen output.new).taken (string_bytes text.old) (string_bytes text.new)
+        (final_list (frus_of frus.now.entries))) }
+    ensures front { OnErr result (AppendsFront (K.seen output.old).taken (K.seen output.new).taken
+        (string_bytes text.old ++ final_list (frus_of frus.now.entries))) }
+    ensures cause { MatchResult result (λ _. (K.seen output.new).calls.faults ≡ (K.seen output.old).calls.faults)
+        (λ stop. WriteCause stop (K.seen output.old).calls (K.seen output.new).calls) }
 {
     'rows: for (place, entry) in frus.iter() {
         push_row(alloc, text, *place, entry.bytes.as_slice())?;

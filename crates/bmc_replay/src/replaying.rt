@@ -31,9 +31,12 @@ fn advance<S: Source, K: Sink>(
     ensures next { IfOk result (λ next. TakesNextItem next items.old items.new (S.seen input.old) (S.seen input.new)) }
     ensures gathered { OnOk result (Gathers (K.seen output.old).taken (K.seen output.new).taken (string_bytes text.old) (string_bytes text.new) []) }
     ensures at_end { OnOk result (items.new.ended ≡ true → IsAtEnd (S.seen input.new).left) }
-    ensures stops { IfErr result (λ stop. StopsAt stop items.old items.new (outside (S.seen input.old) (K.seen output.old)) (outside (S.seen input.new) (K.seen output.new)) (string_bytes text.old)) }
+    ensures stops { IfErr result (λ stop. StopsAt stop items.old items.new (outside (S.seen input.old) (K.seen output.old))
+        (outside (S.seen input.new) (K.seen output.new)) (string_bytes text.old)) }
     ensures limit { IsWithin items.new.read items.new.ended }
-    ensures reason { MatchResult result (λ _. HasReason Status.Done (outside (S.seen input.old) (K.seen output.old)) (outside (S.seen input.new) (K.seen output.new))) (λ stop. HasReason (status_of (Err stop)) (outside (S.seen input.old) (K.seen output.old)) (outside (S.seen input.new) (K.seen output.new))) }
+    ensures reason { MatchResult result (λ _. HasReason Status.Done (outside (S.seen input.old) (K.seen output.old))
+        (outside (S.seen input.new) (K.seen output.new))) (λ stop. HasReason (status_of (Err stop)) (outside (S.seen input.old) (K.seen output.old))
+        (outside (S.seen input.new) (K.seen output.new))) }
 {
     if let Some(next) = items.next_buffered(alloc)? {
         return Ok(next);
@@ -46,8 +49,10 @@ fn advance<S: Source, K: Sink>(
 // Writes what is gathered, and then the final list.
 fn finish<K: Sink>(alloc: Global, run: &mut Run, output: &mut K) -> Result<(), Stop>
     ensures all { OnOk result ((K.seen output.new).taken ≡ added (K.seen output.old).taken (string_bytes run.old.text ++ final_list run.old.state.now.frus)) }
-    ensures front { OnErr result (AppendsFront (K.seen output.old).taken (K.seen output.new).taken (string_bytes run.old.text ++ final_list run.old.state.now.frus)) }
-    ensures cause { MatchResult result (λ _. (K.seen output.new).calls.faults ≡ (K.seen output.old).calls.faults) (λ stop. WriteCause stop (K.seen output.old).calls (K.seen output.new).calls) }
+    ensures front { OnErr result (AppendsFront (K.seen output.old).taken (K.seen output.new).taken
+        (string_bytes run.old.text ++ final_list run.old.state.now.frus)) }
+    ensures cause { MatchResult result (λ _. (K.seen output.new).calls.faults ≡ (K.seen output.old).calls.faults)
+        (λ stop. WriteCause stop (K.seen output.old).calls (K.seen output.new).calls) }
 {
     run.state.push_list(alloc, &mut run.text, output)?;
     flush(&mut run.text, output)?;

@@ -4,7 +4,7 @@ ghost use Rattle.bmc_text.specs.NextItems.{item_next};
 ghost use Rattle.bmc_machine.specs.Answers.{answer, answer_command};
 ghost use Rattle.bmc_replay.specs.Runs.{Answers, CountsItem, IsNew, TakesNext};
 
-use crate::output::GATHERED;
+use crate::output::{GATHERED, SPARE};
 use crate::refusing::config_refused;
 use crate::state::State;
 use bmc_base::OutOfMemory;
@@ -35,7 +35,8 @@ fn run_command(
     command: Command,
     text: &mut String,
 ) -> Result<Option<Refusal>, OutOfMemory>
-    ensures { IfOk result (λ refusal. Answers (λ line past. answer_command line past (Ok command)) refusal state.old state.new (string_bytes text.old) (string_bytes text.new)) }
+    ensures { IfOk result (λ refusal. Answers (λ line past. answer_command line past (Ok command)) refusal state.old state.new (string_bytes text.old)
+        (string_bytes text.new)) }
 {
     match command {
         Command::Nothing => Ok(None),
@@ -52,7 +53,8 @@ fn take_line(
     line: &[u8],
     text: &mut String,
 ) -> Result<Option<Refusal>, OutOfMemory>
-    ensures { IfOk result (λ refusal. Answers (λ label past. answer label past (items.Line line.now)) refusal state.old state.new (string_bytes text.old) (string_bytes text.new)) }
+    ensures { IfOk result (λ refusal. Answers (λ label past. answer label past (items.Line line.now)) refusal state.old state.new (string_bytes text.old)
+        (string_bytes text.new)) }
 {
     match Command::read(alloc, line) {
         Ok(command) => run_command(alloc, state, command, text),
@@ -69,7 +71,8 @@ fn take_block(
     block: &[u8],
     text: &mut String,
 ) -> Result<Option<Refusal>, OutOfMemory>
-    ensures { IfOk result (λ refusal. Answers (λ line past. answer line past (items.Block block.now)) refusal state.old state.new (string_bytes text.old) (string_bytes text.new)) }
+    ensures { IfOk result (λ refusal. Answers (λ line past. answer line past (items.Block block.now)) refusal state.old state.new (string_bytes text.old)
+        (string_bytes text.new)) }
 {
     match Config::read(alloc, block) {
         Ok(config) => state.configure(alloc, config, text),
@@ -101,7 +104,7 @@ impl Run {
         let state = State::new(alloc)?;
         Ok(Run {
             state,
-            text: String::with_capacity(alloc, GATHERED + 4096)?,
+            text: String::with_capacity(alloc, GATHERED + SPARE)?,
             number: 1,
             refused: false,
         })

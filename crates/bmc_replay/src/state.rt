@@ -15,14 +15,11 @@ use crate::stop::Stop;
 use bmc_base::{Bytes, OutOfMemory, Place};
 use bmc_io::Sink;
 use bmc_report::Refusal;
-use cfg_json::{Config, Shelf};
+use cfg_json::{Config, MOST_CONFIGS, Shelf};
 use fru_record::check_record;
 use std::alloc::Global;
 use std::collections::BTreeMap;
 use std::marker::Model;
-
-/// How many configurations there are at the most.
-const MOST_CONFIGS: usize = 256;
 
 /// What stands: the configurations, the boards that each of them ever had, the FRUs that are present by
 /// place, and whether any FRU was ever plugged.
@@ -127,9 +124,12 @@ impl State {
         text: &mut String,
         output: &mut K,
     ) -> Result<(), Stop>
-        ensures all { OnOk result (Gathers (K.seen output.old).taken (K.seen output.new).taken (string_bytes text.old) (string_bytes text.new) (final_list self.now.now.frus)) }
-        ensures front { OnErr result (AppendsFront (K.seen output.old).taken (K.seen output.new).taken (string_bytes text.old ++ final_list self.now.now.frus)) }
-        ensures cause { MatchResult result (λ _. (K.seen output.new).calls.faults ≡ (K.seen output.old).calls.faults) (λ stop. WriteCause stop (K.seen output.old).calls (K.seen output.new).calls) }
+        ensures all { OnOk result (Gathers (K.seen output.old).taken (K.seen output.new).taken (string_bytes text.old) (string_bytes text.new)
+            (final_list self.now.now.frus)) }
+        ensures front { OnErr result (AppendsFront (K.seen output.old).taken (K.seen output.new).taken
+            (string_bytes text.old ++ final_list self.now.now.frus)) }
+        ensures cause { MatchResult result (λ _. (K.seen output.new).calls.faults ≡ (K.seen output.old).calls.faults)
+            (λ stop. WriteCause stop (K.seen output.old).calls (K.seen output.new).calls) }
     {
         push_list(alloc, &self.frus, text, output)
     }

@@ -31,7 +31,7 @@ same_last n bytes kept same =
     ]
 
 pub size_of : {part is : Part} → part ≡ is → part.size ≡ is.size
-size_of e = ap (λ (p : Part). p.size) e
+size_of same = ap (λ (p : Part). p.size) same
 
 -- no byte came yet
 pub HoldsFront-none : (part : Part) (size : ℕ) → part ≡ record { size = size; wanted = size; bytes = [] } → HoldsFront part []
@@ -97,5 +97,5 @@ pub AreOfBlock-last : (part : Part) (size : ℕ) (waiting bytes rest : List ℕ)
     → AreOfBlock part waiting bytes → item ≡ last_block part.size part.bytes → rest ≡ [] → ended ≡ true → TakesBlockOf size item ended bytes rest
 AreOfBlock-last part size waiting bytes rest item ended is_size empty are is none at_end =
     let all : bytes ≡ are.front = are.parts ∙ ap (λ (xs : List ℕ). are.front ++ xs) empty ∙ append-nil are.front in
-    subst (λ (n : ℕ). TakesBlockOf n item ended bytes rest) is_size (subst (λ (e : Bool). TakesBlockOf part.size item e bytes rest) (sym at_end)
+    subst (λ (n : ℕ). TakesBlockOf n item ended bytes rest) is_size (subst (λ (same : Bool). TakesBlockOf part.size item same bytes rest) (sym at_end)
     (omega (arith, are.holds.size, ap length all), same_last part.size bytes part.bytes (λ within. are.holds.bytes within ∙ sym all) ∙ sym is, none))

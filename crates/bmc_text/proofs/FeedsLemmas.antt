@@ -11,13 +11,13 @@ use Rattle.bmc_text.specs.Feeds.{Feed, Reads}
 
 -- what the fields of a reader are
 pub waiting_of : {feed is : Feed} → feed ≡ is → feed.waiting ≡ is.waiting
-waiting_of e = ap (λ (feed : Feed). feed.waiting) e
+waiting_of same = ap (λ (feed : Feed). feed.waiting) same
 
 pub read_of : {feed is : Feed} → feed ≡ is → feed.read ≡ is.read
-read_of e = ap (λ (feed : Feed). feed.read) e
+read_of same = ap (λ (feed : Feed). feed.read) same
 
 pub ended_of : {feed is : Feed} → feed ≡ is → feed.ended ≡ is.ended
-ended_of e = ap (λ (feed : Feed). feed.ended) e
+ended_of same = ap (λ (feed : Feed). feed.ended) same
 
 -- nothing is read
 pub Reads-none : (waiting : List ℕ) (read read_now : ℕ) (input : Input) (Are : List ℕ → Type 0) → read_now ≡ read → Are waiting

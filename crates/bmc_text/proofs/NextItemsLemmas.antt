@@ -43,35 +43,35 @@ alone (Some item) true bytes rest none line = record {
 }
 
 more_parts : (bytes raw rest piece : List ℕ) → bytes ≡ raw ++ 10 ∷ rest → bytes ++ piece ≡ raw ++ 10 ∷ (rest ++ piece)
-more_parts bytes raw rest piece e = ap (λ (xs : List ℕ). xs ++ piece) e ∙ append_assoc raw (10 ∷ rest) piece
+more_parts bytes raw rest piece parts = ap (λ (xs : List ℕ). xs ++ piece) parts ∙ append_assoc raw (10 ∷ rest) piece
 
 none_left : (rest piece : List ℕ) → rest ≡ [] → piece ≡ [] → rest ++ piece ≡ []
-none_left rest piece r p = ap (λ (xs : List ℕ). xs ++ piece) r ∙ p
+none_left rest piece rest_none piece_none = ap (λ (xs : List ℕ). xs ++ piece) rest_none ∙ piece_none
 
 -- a line and its block are an item
 with_block : (item block : Item) (n : ℕ) (ended ended_now : Bool) (bytes rest piece others : List ℕ) → TakesLine (Some item) ended bytes rest
     → asks item ≡ Some n → (ended ≡ true → piece ≡ [])
     → TakesBlockOf n block ended_now (rest ++ piece) others → TakesItem (Some block) ended_now (bytes ++ piece) others
-with_block item block n false false bytes rest piece others line asked no_more b =
+with_block item block n false false bytes rest piece others line asked no_more of_block =
     begins_with (bytes ++ piece) others block
     (ap whole_item (more_parts bytes line.raw rest piece line.parts) ∙ whole_item-line line.raw (rest ++ piece) line.none
-    ∙ ap (λ (size : Option ℕ). whole_behind (line_item line.raw) size (rest ++ piece)) (ap asks (sym line.item_is) ∙ asked) ∙ b)
-with_block item block n false true bytes rest piece others line asked no_more b =
+    ∙ ap (λ (size : Option ℕ). whole_behind (line_item line.raw) size (rest ++ piece)) (ap asks (sym line.item_is) ∙ asked) ∙ of_block)
+with_block item block n false true bytes rest piece others line asked no_more of_block =
     let size : asks (line_item line.raw) ≡ Some n = ap asks (sym line.item_is) ∙ asked in
     record {
       all =
           ap items_of (more_parts bytes line.raw rest piece line.parts)
           ∙ items_of-cut line.raw (rest ++ piece) line.none
-          (ap (λ (size : Option ℕ). whole_behind (line_item line.raw) size (rest ++ piece)) size ∙ whole_block-none n (rest ++ piece) b.0)
+          (ap (λ (size : Option ℕ). whole_behind (line_item line.raw) size (rest ++ piece)) size ∙ whole_block-none n (rest ++ piece) of_block.0)
           ∙ ap (λ (size : Option ℕ). last_behind (line_item line.raw) size (rest ++ piece) ∷ []) size
-          ∙ ap (λ (found : Item). found ∷ []) b.1;
-      none = b.2;
+          ∙ ap (λ (found : Item). found ∷ []) of_block.1;
+      none = of_block.2;
     }
-with_block item block n true false bytes rest piece others line asked no_more b =
+with_block item block n true false bytes rest piece others line asked no_more of_block =
     let empty : rest ++ piece ≡ [] = none_left rest piece line.all (no_more refl) in
     let cut = whole_block-none n (rest ++ piece) (omega (arith, ap length empty)) in
     absurd cc
-with_block item block n true true bytes rest piece others line asked no_more b =
+with_block item block n true true bytes rest piece others line asked no_more of_block =
     let empty : rest ++ piece ≡ [] = none_left rest piece line.all (no_more refl) in
     record {
       all =
@@ -79,8 +79,8 @@ with_block item block n true true bytes rest piece others line asked no_more b =
           ∙ items_of-last bytes line.some line.none
           ∙ ap (λ (size : Option ℕ). last_behind (line_item bytes) size [] ∷ []) (ap asks (sym line.item_is) ∙ asked)
           ∙ ap (λ (xs : List ℕ). last_block n xs ∷ []) (sym empty)
-          ∙ ap (λ (found : Item). found ∷ []) b.1;
-      none = b.2;
+          ∙ ap (λ (found : Item). found ∷ []) of_block.1;
+      none = of_block.2;
     }
 
 -- what was got asks for a block, so it is a line
@@ -90,8 +90,8 @@ record Asks (found : Option Item) (n : ℕ) : Type 0 where
   size : asks item ≡ Some n
 
 asks_item : (found : Option Item) (n : ℕ) → option_and_then asks found ≡ Some n → Asks found n
-asks_item None n e = absurd cc
-asks_item (Some item) n e = record { item = item; is = refl; size = e }
+asks_item None n asked = absurd cc
+asks_item (Some item) n asked = record { item = item; is = refl; size = asked }
 
 -- of a line that was got and the bytes behind it
 pub takes_block : (got : Got) (line : List ℕ) (n : ℕ) (ended ended_now : Bool) (block : Item) (bytes rest more others : List ℕ)
@@ -177,14 +177,14 @@ waits_with_block got line n ended waiting rest asked took whole =
 pub Reads-seen : {feed old : ItemFeed} {read_now : ℕ} {before now : Input} {Are : List ℕ → Type 0} → feed ≡ old
     → Reads feed.waiting feed.read read_now before now Are
     → Reads old.waiting old.read read_now before now Are
-Reads-seen {read_now = read_now} {before} {now} {Are} e reads = subst (λ (feed : ItemFeed). Reads feed.waiting feed.read read_now before now Are) e reads
+Reads-seen {read_now = read_now} {before} {now} {Are} is reads = subst (λ (feed : ItemFeed). Reads feed.waiting feed.read read_now before now Are) is reads
 
 -- what comes of these bytes, where this is the item, whether the script ended, and the rest
 pub takes_item : (found item : Option Item) (ended_now ended : Bool) (bytes rest_now rest : List ℕ) → found ≡ item → ended_now ≡ ended → rest_now ≡ rest
     → TakesItem item ended bytes rest → TakesItem found ended_now bytes rest_now
 takes_item found item ended_now ended bytes rest_now rest is at_end behind takes =
-    subst (λ (i : Option Item). TakesItem i ended_now bytes rest_now) (sym is)
-    (subst (λ (e : Bool). TakesItem item e bytes rest_now) (sym at_end) (subst (λ (xs : List ℕ). TakesItem item ended bytes xs) (sym behind) takes))
+    subst (λ (which : Option Item). TakesItem which ended_now bytes rest_now) (sym is)
+    (subst (λ (end : Bool). TakesItem item end bytes rest_now) (sym at_end) (subst (λ (xs : List ℕ). TakesItem item ended bytes xs) (sym behind) takes))
 
 -- the question is asked of the line that was taken
 pub asks_of : (got : Got) (line taken : List ℕ) (asked size : Option ℕ) → line ≡ taken → asked ≡ option_and_then asks (line_got got line) → size ≡ asked

@@ -58,7 +58,7 @@ no_point n fits =
     (λ beyond. absurd (omega arith)) in
     ap (option_map (λ at. (take at (decimal n), drop (at + 1) (decimal n))))
     (ap (λ at. cond (ltb at (length (decimal n))) (Some at) None) all
-    ∙ ap (λ t. cond t (Some (length (decimal n))) None) (le-ltb (length (decimal n)) (length (decimal n)) (omega arith)))
+    ∙ ap (λ test. cond test (Some (length (decimal n))) None) (le-ltb (length (decimal n)) (length (decimal n)) (omega arith)))
 
 -- the number with the sign of z
 abbrev signed_as : ℤ → ℕ → ℤ
@@ -76,8 +76,8 @@ signed_as-times (negsuc n) factor = refl
 -- what reads the text of a number reads it behind a sign
 signed-decimal : (read : List ℕ → Option ℕ) (z : ℤ) (found : ℕ) → nat_abs z < 2 ^ 64 → read (decimal (nat_abs z)) ≡ Some found
     → signed read (signed_decimal z) ≡ Some (signed_as z found)
-signed-decimal read (pos n) found fits e = rw (no_minus n fits) (ap (option_map pos) e)
-signed-decimal read (negsuc n) found fits e = ap (option_map (λ number. neg_ℤ (pos number))) e
+signed-decimal read (pos n) found fits is = rw (no_minus n fits) (ap (option_map pos) is)
+signed-decimal read (negsuc n) found fits is = ap (option_map (λ number. neg_ℤ (pos number))) is
 
 pub raw-decimal : (z : ℤ) → nat_abs z < 10 ^ raw_digits → raw (signed_decimal z) ≡ Some z
 raw-decimal z below =
@@ -99,34 +99,35 @@ is_space byte = byte == 32
 
 split_config : (digits : List ℕ) → split_space (codes "config " ++ digits) ≡ Some (codes "config", digits)
 split_config digits =
-    ap (λ (t : Bool). option_map (λ (at : ℕ). (take at (codes "config " ++ digits), drop (at + 1) (codes "config " ++ digits))) (cond t (Some 6) None))
+    ap (λ (test : Bool). option_map (λ (at : ℕ). (take at (codes "config " ++ digits), drop (at + 1) (codes "config " ++ digits))) (cond test (Some 6) None))
     (lt-ltb 6 (length (codes "config " ++ digits)) (omega arith))
 
 -- a line of the form
 pub asks_for : (line digits : List ℕ) → line ≡ codes "config " ++ digits → block_size line ≡ number digits
 unfolding block_size
-asks_for line digits e = ap (λ (bytes : List ℕ). option_and_then size_of (split_space bytes)) e ∙ ap (option_and_then size_of) (split_config digits)
+asks_for line digits is = ap (λ (bytes : List ℕ). option_and_then size_of (split_space bytes)) is ∙ ap (option_and_then size_of) (split_config digits)
 
 parts_at : (line : List ℕ) (at : ℕ) → position is_space line ≡ Some at → line ≡ take at line ++ 32 ∷ drop (at + 1) line
-parts_at line at e =
-    let found = position-Some is_space line at 0 e in
+parts_at line at is =
+    let found = position-Some is_space line at 0 is in
     let next : at + 1 ≡ suc at = omega arith in
     sym (take-append-drop at line)
     ∙ ap (λ (rest : List ℕ). take at line ++ rest)
     (drop-cons line at 0 found.0 ∙ ap (λ (b : ℕ). b ∷ drop (suc at) line) (eqb-true (slice_index line at) 32 found.1))
     ∙ ap (λ (n : ℕ). take at line ++ 32 ∷ drop n line) (sym next)
 
-none_named : (first rest line : List ℕ) (t : Bool) → bytes_eq first (codes "config") ≡ t → line ≡ first ++ 32 ∷ rest
-    → ((digits : List ℕ) → line ≢ codes "config " ++ digits) → cond t (number rest) None ≡ None
-none_named first rest line true e parts other =
-    let config : first ≡ codes "config" = (bytes_eq-Decides first (codes "config")).0 e in
+none_named : (first rest line : List ℕ) (test : Bool) → bytes_eq first (codes "config") ≡ test → line ≡ first ++ 32 ∷ rest
+    → ((digits : List ℕ) → line ≢ codes "config " ++ digits) → cond test (number rest) None ≡ None
+none_named first rest line true is parts other =
+    let config : first ≡ codes "config" = (bytes_eq-Decides first (codes "config")).0 is in
     absurd (other rest (parts ∙ ap (λ (word : List ℕ). word ++ 32 ∷ rest) config))
-none_named first rest line false e parts other = refl
+none_named first rest line false is parts other = refl
 
 none_at : (line : List ℕ) (place : Option ℕ) → position is_space line ≡ place → ((digits : List ℕ) → line ≢ codes "config " ++ digits)
     → option_and_then size_of (option_map (λ (at : ℕ). (take at line, drop (at + 1) line)) place) ≡ None
-none_at line None e other = refl
-none_at line (Some at) e other = none_named (take at line) (drop (at + 1) line) line (bytes_eq (take at line) (codes "config")) refl (parts_at line at e) other
+none_at line None is other = refl
+none_at line (Some at) is other =
+    none_named (take at line) (drop (at + 1) line) line (bytes_eq (take at line) (codes "config")) refl (parts_at line at is) other
 
 -- any other line
 pub asks_for_none : (line : List ℕ) → ((digits : List ℕ) → line ≢ codes "config " ++ digits) → block_size line ≡ None
@@ -135,4 +136,4 @@ asks_for_none line other = none_at line (position is_space line) refl other
 
 -- a line that begins with another byte than c (99) asks for no block
 pub asks_none : (line : List ℕ) → slice_index line 0 ≢ 99 → block_size line ≡ None
-asks_none line other = asks_for_none line (λ digits e. other (ap (λ (xs : List ℕ). slice_index xs 0) e))
+asks_none line other = asks_for_none line (λ digits is. other (ap (λ (xs : List ℕ). slice_index xs 0) is))

@@ -38,7 +38,7 @@ pub fn reason_of(status: Status) -> Option<&'static str> {
         Status::ReadFault => Some("bmcreplay: the input could not be read\n"),
         Status::WriteFault => Some("bmcreplay: the output could not be written\n"),
         Status::TooLong => {
-            Some("bmcreplay: the input is longer than 1,099,511,627,776 bytes\n")
+            Some("bmcreplay: the input has at least 1,099,511,627,776 bytes\n")
         }
     }
 }
@@ -57,7 +57,7 @@ mod tests {
             (Status::WriteFault, Some("the output could not be written")),
             (
                 Status::TooLong,
-                Some("the input is longer than 1,099,511,627,776 bytes"),
+                Some("the input has at least 1,099,511,627,776 bytes"),
             ),
         ];
         for (status, words) in rows {

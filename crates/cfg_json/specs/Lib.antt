@@ -2,5 +2,5 @@ pub mod Probes
 pub mod BoardNames
 pub mod Configs
 pub mod Documents
-pub mod Answers
+pub mod Readings
 pub mod Shelves

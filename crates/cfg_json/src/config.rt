@@ -2,7 +2,7 @@ ghost use Rattle.std.specs.Prelude.{◌≡◌};
 ghost use Rattle.serde_json.specs.View.{view};
 ghost use Rattle.serde_json.specs.Find.{get};
 ghost use Rattle.cfg_json.specs.Documents.{GivesConfig, config_read, document_of, config_in, required, short_text, probe_of};
-ghost use Rattle.cfg_json.specs.Answers.{GivesDocument, GivesMember};
+ghost use Rattle.cfg_json.specs.Readings.{GivesDocument, GivesMember};
 
 use crate::fraction::has_fraction;
 use crate::probe::{PlainProbe, plain_probe};

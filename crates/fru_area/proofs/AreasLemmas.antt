@@ -6,7 +6,7 @@ use Rattle.fru_area.specs.declared.fault.Area.{Area}
 use Rattle.fru_area.specs.declared.fault.FruFault.{FruFault}
 use Rattle.fru_area.specs.declared.field.Field.{Field}
 use Rattle.fru_area.specs.declared.name.FieldName.{FieldName}
-use Rattle.fru_area.specs.Answers.{seen}
+use Rattle.fru_area.specs.Readings.{seen}
 use Rattle.fru_area.specs.Areas.{named, named_field, named_ok, area_fields}
 use Rattle.fru_area.specs.NextNames.{IsNext}
 use Rattle.fru_area.specs.Texts.{text_of}

@@ -4,5 +4,5 @@ pub mod TextsLemmas
 pub mod UnitsLemmas
 pub mod NamesLemmas
 pub mod AreasLemmas
-pub mod AnswersLemmas
+pub mod ReadingsLemmas
 pub mod RawFieldsLemmas

@@ -7,7 +7,7 @@ use Rattle.std.proofs.lemmas.Bool.{cases_lt, cases_eq}
 use Rattle.fru_area.specs.declared.fault.Area.{Area}
 use Rattle.fru_area.specs.declared.fault.FruFault.{FruFault}
 use Rattle.fru_area.specs.declared.fault.FruFault.TheVariants.{FieldOutside, NoEnd}
-use Rattle.fru_area.specs.Answers.{checked}
+use Rattle.fru_area.specs.Readings.{checked}
 use Rattle.fru_area.specs.Positions.{checksum_at, IsFieldAt, field_end, Reaches, first, next, HasFieldOutside, LacksEnd, HasEnd}
 use Rattle.fru_area.specs.Walks.{Raw, end_mark, len_of, first_field, with_field, raw_fields, field_bytes}
 use Rattle.fru_area.proofs.WalksLemmas.{raw_at, first_field-fits, first_field-outside, first_field-mark, first_field-none, GoesOn, GoesOn-start}

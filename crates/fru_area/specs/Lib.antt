@@ -5,7 +5,7 @@ pub mod Texts
 pub mod Units
 pub mod Names
 pub mod Areas
-pub mod Answers
+pub mod Readings
 pub mod RawFields
 pub mod NextNames
 pub mod WorkedTexts

@@ -2,7 +2,7 @@ ghost use Rattle.std.specs.Prelude.{◌≡◌, ◌+◌, ◌^◌, ◌<◌, ◌≤
 ghost use Rattle.fru_area.specs.Headers.{area_at, unit, longest_area, last_start};
 ghost use Rattle.fru_area.specs.Walks.{first_field, raw_fields, field_bytes, last_kind, longest_field};
 ghost use Rattle.fru_area.specs.Areas.{area_fields};
-ghost use Rattle.fru_area.specs.Answers.{Appends, Gives, checked, seen};
+ghost use Rattle.fru_area.specs.Readings.{Appends, Gives, checked, seen};
 ghost use Rattle.fru_area.specs.NextNames.{IsNext};
 ghost use Rattle.fru_area.specs.RawFields.{found_view};
 

@@ -2,7 +2,7 @@
 use Rattle.std.proofs.Common.{◌≡◌, ◌≢◌, ◌*◌, ℕ, zero, suc, List, [], ◌∷◌, ◌++◌, Bool, true, false, cond, Option, Some, None, Result, Ok, Err, refl}
 use Rattle.std.proofs.Common.{ap, sym, subst, ◌∙◌, append_assoc, append-nil}
 use Rattle.std.proofs.lemmas.Bool.{ne_eqb}
-use Rattle.fru_area.specs.Answers.{Appends, GivesFault, checked, seen}
+use Rattle.fru_area.specs.Readings.{Appends, GivesFault, checked, seen}
 use Rattle.fru_area.specs.Areas.{area_fields, named_ok}
 use Rattle.fru_area.specs.Headers.{header, area_at}
 use Rattle.fru_area.specs.declared.fault.Area.{Area}

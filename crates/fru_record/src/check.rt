@@ -1,5 +1,5 @@
 ghost use Rattle.std.specs.Prelude.{◌≡◌, ◌<◌, length};
-ghost use Rattle.fru_area.specs.Answers.{checked};
+ghost use Rattle.fru_area.specs.Readings.{checked};
 ghost use Rattle.fru_area.specs.Headers.{unit};
 ghost use Rattle.fru_record.specs.Records.{record_of, fields_start, fields_at};
 

@@ -1,5 +1,5 @@
 ghost use Rattle.std.specs.Prelude.{◌≡◌, ◌≤◌, ◌<◌, ◌++◌, length, option_map, option_copied, option_to_list, bytes_eq, find, OnOk};
-ghost use Rattle.fru_area.specs.Answers.{Appends, Gives};
+ghost use Rattle.fru_area.specs.Readings.{Appends, Gives};
 ghost use Rattle.fru_area.specs.Areas.{area_fields};
 ghost use Rattle.fru_area.specs.Headers.{unit, longest_area};
 ghost use Rattle.fru_area.specs.Names.{name_text};

@@ -1,5 +1,5 @@
 ghost use Rattle.std.specs.Prelude.{◌≡◌, ◌≢◌, ◌↔◌, ℕ, List, None, Ok, Err, IsUtf8, All};
-ghost use Rattle.fru_area.specs.Answers.{checked};
+ghost use Rattle.fru_area.specs.Readings.{checked};
 ghost use Rattle.fru_area.specs.Positions.{HasFieldOutside, LacksEnd};
 ghost use Rattle.fru_area.specs.declared.fault.Area.{Area};
 ghost use Rattle.fru_area.specs.declared.fault.FruFault.TheVariants.{FieldOutside, NoEnd, OutOfMemory};

@@ -3,7 +3,7 @@ use lib.Utf8.{encode}
 use Rattle.std.specs.Str.{chars, is_utf8}
 use Rattle.hex.proofs.OnLiterals.{hex_on_literals}
 use Rattle.bmc_text.specs.Items.{without_return, line_item, whole_block, whole_item, cut_most, cut}
-use Rattle.bmc_text.specs.Words.{number, block_size}
+use Rattle.bmc_text.specs.Words.{digits as digits_in, number, block_size}
 use Rattle.bmc_text.specs.Hex.{hex_decoded}
 use Rattle.bmc_script.specs.Commands.{place_named, plug_of, unplug_of, words_of, command_of}
 use Rattle.fru_area.specs.Headers.{header, area_at}
@@ -23,7 +23,7 @@ use Rattle.bmc_machine.specs.Answers.{answers}
 use Rattle.bmc_machine.proofs.examples.boards_were_met.Goals as goal
 
 pub returns : goal.returns
-unfolding encode is_utf8 chars hex_on_literals without_return line_item whole_block whole_item cut_most cut block_size hex_decoded number place_named
+unfolding encode is_utf8 chars hex_on_literals without_return line_item whole_block whole_item cut_most cut block_size hex_decoded digits_in number place_named
     plug_of unplug_of words_of command_of header area_at first_field walk raw_fields text_of name_text area_fields fields_of_area fields_at
     fields_under record_of text_named serde_json_on_literals config_in config_of text_in plain_probe_of stands_in boards kept standing answers
 returns c = record { second = refl; third = refl; before = refl }

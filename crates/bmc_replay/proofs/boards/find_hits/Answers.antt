@@ -11,4 +11,5 @@ returns-then-bus-ge-VISIBLE c =
 
 pub returns-in_default : goal.returns-in_default
 returns-in_default c =
-    c.new-in_default.ensures.items ∙ sym (broken_hits c.args.configs.now c.args.place c.args.bytes.now c.in-Err.fault (broken_by c.in-Err.fault _ c.in_default.not-OutOfMemory c.in-Err.ensures))
+    c.new-in_default.ensures.items ∙ sym (broken_hits c.args.configs.now c.args.place c.args.bytes.now c.in-Err.fault
+        (broken_by c.in-Err.fault _ c.in_default.not-OutOfMemory c.in-Err.ensures))

@@ -8,5 +8,7 @@ use Rattle.bmc_replay.proofs.boards.push_boards.Goals as goal
 
 pub hits-preserved : goal.hits-preserved
 hits-preserved c =
-    line_more (λ hit. change_line 0 (board_at c.args.gone c.args.configs.now (kept_of c.args.kept.now) c.args.place hit)) _ _ _ c.args.hits.now c.hits.hit-index c.hits.invariant c.hits-test.true
-    (c.in_ok-push_board.ensures ∙ ap (λ (index : ℕ). string_bytes c.hits.text ++ change_line 0 (Board c.args.gone (name_of c.args.configs.now (slice_index_or c.args.hits.now c.hits.hit-index 0)) index (Some c.args.place))) c.in_ok-index.ensures)
+    line_more (λ hit. change_line 0 (board_at c.args.gone c.args.configs.now
+        (kept_of c.args.kept.now) c.args.place hit)) _ _ _ c.args.hits.now c.hits.hit-index c.hits.invariant c.hits-test.true
+    (c.in_ok-push_board.ensures ∙ ap (λ (index : ℕ). string_bytes c.hits.text ++ change_line 0
+        (Board c.args.gone (name_of c.args.configs.now (slice_index_or c.args.hits.now c.hits.hit-index 0)) index (Some c.args.place))) c.in_ok-index.ensures)

@@ -17,14 +17,18 @@ returns-in_err-push_row-clause-front g c =
 
 pub rows-preserved : goal.rows-preserved
 rows-preserved g c =
-    let row = c.in_ok-push_row.ensures ∙ ap (λ (bytes : List ℕ). string_bytes c.rows.text ++ row_of (record { place = c.in-Some.place.now; bytes = bytes })) c.as_slice.ensures in
+    let row = c.in_ok-push_row.ensures ∙ ap (λ (bytes : List ℕ). string_bytes c.rows.text ++ row_of
+        (record { place = c.in-Some.place.now; bytes = bytes })) c.as_slice.ensures in
     record {
-      rows = rows_more _ _ _ (c.in-Some.place.now, c.in-Some.entry.now) _ _ _ _ _ _ _ c.rows.invariant.rows c.in-Some.ensures.steps row c.in_ok-flush_large.ensures.all;
+      rows = rows_more _ _ _ (c.in-Some.place.now, c.in-Some.entry.now) _ _ _ _ _ _ _ c.rows.invariant.rows c.in-Some.ensures.steps row
+          c.in_ok-flush_large.ensures.all;
       sink = c.in_ok-flush_large.ensures.cause.none ∙ c.rows.invariant.sink;
     }
 
 pub returns-in_err-flush_large-clause-front : goal.returns-in_err-flush_large-clause-front
 returns-in_err-flush_large-clause-front g c =
-    let row = c.in_ok-push_row.ensures ∙ ap (λ (bytes : List ℕ). string_bytes c.rows.text ++ row_of (record { place = c.in-Some.place.now; bytes = bytes })) c.as_slice.ensures in
+    let row = c.in_ok-push_row.ensures ∙ ap (λ (bytes : List ℕ). string_bytes c.rows.text ++ row_of
+        (record { place = c.in-Some.place.now; bytes = bytes })) c.as_slice.ensures in
     let p = err_from_is_err_and c.from_residual-in_err-flush_large.result c.from_residual-in_err-flush_large.ensures.1 in
-    rw p.1 (rows_stopped _ _ _ (c.in-Some.place.now, c.in-Some.entry.now) _ _ _ _ _ _ c.rows.invariant.rows c.in-Some.ensures.steps row c.in_err-flush_large.ensures.front)
+    rw p.1 (rows_stopped _ _ _ (c.in-Some.place.now, c.in-Some.entry.now) _ _ _ _ _ _ c.rows.invariant.rows c.in-Some.ensures.steps row
+        c.in_err-flush_large.ensures.front)

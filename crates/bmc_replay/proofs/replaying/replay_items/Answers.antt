@@ -2,7 +2,8 @@ use Rattle.std.proofs.Common.{◌≡◌, ◌≤◌, ◌∙◌, ℕ, true, false,
 use Rattle.std.proofs.lemmas.Result.{err_from_is_err_and}
 use Rattle.bmc_text.specs.Feeds.{ItemFeed, longest_script}
 use Rattle.bmc_replay.specs.Outside.{Outside, outside}
-use Rattle.bmc_replay.proofs.Along.{along_piece, none_written, stopped, along_none, along_stops, along_front, along_next, along_told, along_count, along_cut, ended_cut, ended_text, ended_reached, spends_item, numbered, stops_after}
+use Rattle.bmc_replay.proofs.Along.{along_piece, none_written, stopped, along_none, along_stops, along_front, along_next, along_told, along_count}
+use Rattle.bmc_replay.proofs.Along.{along_cut, ended_cut, ended_text, ended_reached, spends_item, numbered, stops_after}
 use Rattle.bmc_replay.proofs.replaying.replay_items.Goals as goal
 
 pub returns-in_err-run-clause-text : goal.returns-in_err-run-clause-text
@@ -27,13 +28,15 @@ pub returns-in_err-next-clause-text : goal.returns-in_err-next-clause-text
 returns-in_err-next-clause-text g c =
     let p = err_from_is_err_and c.from_residual-in_err-next.result c.from_residual-in_err-next.ensures.1 in
     rw (p.1, p.2)
-    (along_stops c.in_err-next.field-0.0 _ _ _ c.items.items c.advance.new.items c.items.run c.in_err-next.ensures.limit.limit c.items.invariant.along c.in_err-next.ensures.stops).0
+    (along_stops c.in_err-next.field-0.0 _ _ _ c.items.items c.advance.new.items c.items.run c.in_err-next.ensures.limit.limit c.items.invariant.along
+        c.in_err-next.ensures.stops).0
 
 pub returns-in_err-next-clause-reached : goal.returns-in_err-next-clause-reached
 returns-in_err-next-clause-reached g c =
     let p = err_from_is_err_and c.from_residual-in_err-next.result c.from_residual-in_err-next.ensures.1 in
     rw (p.1, p.2)
-    (along_stops c.in_err-next.field-0.0 _ _ _ c.items.items c.advance.new.items c.items.run c.in_err-next.ensures.limit.limit c.items.invariant.along c.in_err-next.ensures.stops).1
+    (along_stops c.in_err-next.field-0.0 _ _ _ c.items.items c.advance.new.items c.items.run c.in_err-next.ensures.limit.limit c.items.invariant.along
+        c.in_err-next.ensures.stops).1
 
 pub returns-in_err-take-clause-text : goal.returns-in_err-take-clause-text
 returns-in_err-take-clause-text g c =
@@ -69,7 +72,8 @@ returns-in_err-flush_large-clause-reached g c =
     c.items.items c.advance.new.items c.items.run (record c.items.run { text = c.advance.new.text }) c.take.new.self
     refl c.items.invariant.along c.in_ok-next.ensures.next c.in_ok-next.ensures.gathered c.in_ok-take.ensures in
     rw (p.1, p.2)
-    (along_count c.advance.new.items.ended _ _ _ (g.K.Sink.seen c.flush_large.new.output) c.advance.new.items c.take.new.self (λ count. count ≤ longest_script) took
+    (along_count c.advance.new.items.ended _ _ _ (g.K.Sink.seen c.flush_large.new.output) c.advance.new.items c.take.new.self
+        (λ count. count ≤ longest_script) took
     c.in_ok-next.ensures.limit.limit)
 
 pub items-preserved : goal.items-preserved
@@ -78,7 +82,8 @@ items-preserved g c =
     c.items.items c.advance.new.items c.items.run (record c.items.run { text = c.advance.new.text }) c.take.new.self
     refl c.items.invariant.along c.in_ok-next.ensures.next c.in_ok-next.ensures.gathered c.in_ok-take.ensures in
     let going : c.advance.new.items.ended ≡ false = sym c.is_ended.ensures ∙ c.if-is_ended.false in
-    let spent = spends_item _ c.items.items c.advance.new.items c.in_ok-next.ensures.next.piece c.advance.new.items.ended going c.in_ok-next.ensures.next.bytes c.in_ok-next.ensures.next.count in
+    let spent = spends_item _ c.items.items c.advance.new.items c.in_ok-next.ensures.next.piece c.advance.new.items.ended going
+        c.in_ok-next.ensures.next.bytes c.in_ok-next.ensures.next.count in
     let number = numbered _ _ c.take.new.self c.advance.new.items.ended _ _ going c.in_ok-next.ensures.next.bytes c.in_ok-take.ensures in
     record {
       along =
@@ -115,7 +120,8 @@ returns-in_err-finish-clause-reached g c =
     let all = along_told c.advance.new.items.ended true _ _ _ (g.K.Sink.seen c.flush_large.new.output)
     c.advance.new.items c.take.new.self (record c.take.new.self { text = c.flush_large.new.text }) ended refl took c.in_ok-flush_large.ensures.all in
     rw (p.1, p.2)
-    (stops_after c.in_err-finish.field-0.0 _ _ _ _ (along_count true _ _ _ (g.K.Sink.seen c.finish.new.output) c.advance.new.items (record c.take.new.self { text = c.flush_large.new.text })
+    (stops_after c.in_err-finish.field-0.0 _ _ _ _ (along_count true _ _ _ (g.K.Sink.seen c.finish.new.output) c.advance.new.items
+        (record c.take.new.self { text = c.flush_large.new.text })
     (λ count. count ≤ longest_script) all c.in_ok-next.ensures.limit.limit) c.in_err-finish.ensures.cause)
 
 pub returns-clause-text : goal.returns-clause-text

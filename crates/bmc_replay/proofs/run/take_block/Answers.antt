@@ -11,4 +11,5 @@ returns-in-Ok c =
     (λ line past. ap (answer_config line past) (sym c.in-Ok.ensures)) c.configure.ensures
 
 pub returns-in_ok-refusal-in-Err : goal.returns-in_ok-refusal-in-Err
-returns-in_ok-refusal-in-Err c = broken_answers _ c.args.block.now _ c.in-Err.rule c.in_ok-refusal-in-Err.refusal c.in-Err.ensures c.in_ok-refusal-in-Err.ensures
+returns-in_ok-refusal-in-Err c = broken_answers _ c.args.block.now _ c.in-Err.rule c.in_ok-refusal-in-Err.refusal c.in-Err.ensures
+    c.in_ok-refusal-in-Err.ensures

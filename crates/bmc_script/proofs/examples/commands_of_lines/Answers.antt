@@ -1,11 +1,11 @@
 use Rattle.std.proofs.Common.{refl}
 use lib.Utf8.{encode}
-use Rattle.bmc_text.specs.Words.{number}
+use Rattle.bmc_text.specs.Words.{digits, number}
 use Rattle.bmc_script.specs.Commands.{place_named, plug_of, unplug_of, words_of, command_of}
 use Rattle.bmc_script.proofs.examples.commands_of_lines.Goals as goal
 
 pub returns : goal.returns
-unfolding encode number place_named plug_of unplug_of words_of command_of
+unfolding encode digits number place_named plug_of unplug_of words_of command_of
 returns c = record {
   empty = refl;
   comment = refl;

@@ -2,7 +2,7 @@ use Rattle.std.proofs.Common.{Ok, arith, ap, sym, ◌∙◌, append-nil}
 use Rattle.std.proofs.Math.Seq.{take-length}
 use Rattle.std.proofs.lemmas.Result.{err_from_is_err_and}
 use Rattle.fru_area.specs.RawFields.{raw_view}
-use Rattle.fru_area.proofs.AnswersLemmas.{GivesFault-seen}
+use Rattle.fru_area.proofs.ReadingsLemmas.{GivesFault-seen}
 use Rattle.fru_area.proofs.AreasLemmas.{so_far-start, so_far-field, front-more}
 use Rattle.fru_area.proofs.RawFieldsLemmas.{first-found}
 use Rattle.fru_area.proofs.WalksLemmas.{GoesOn-start, GoesOn-field, GoesOn-end, GoesOn-fault}

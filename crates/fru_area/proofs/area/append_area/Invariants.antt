@@ -1,5 +1,5 @@
 use Rattle.std.proofs.Common.{◌≡◌, ◌+◌, ◌≤◌, ◌++◌, length, take}
-use Rattle.fru_area.specs.Answers.{seen}
+use Rattle.fru_area.specs.Readings.{seen}
 use Rattle.fru_area.specs.Areas.{area_fields}
 use Rattle.fru_area.proofs.AreasLemmas.{so_far}
 use Rattle.fru_area.proofs.WalksLemmas.{GoesOn}

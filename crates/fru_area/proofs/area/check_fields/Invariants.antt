@@ -1,5 +1,5 @@
 use Rattle.std.proofs.Common.{length}
-use Rattle.fru_area.specs.Answers.{checked}
+use Rattle.fru_area.specs.Readings.{checked}
 use Rattle.fru_area.specs.Walks.{raw_fields}
 use Rattle.fru_area.proofs.WalksLemmas.{GoesOn}
 use Rattle.fru_area.proofs.area.check_fields.Given as goal

@@ -28,9 +28,8 @@ returns-in_err-block-in-Some-clause-lacks g c =
     rw (fault.1, fault.2)
     (Reads-seen c.self.view_is
     (Reads-then _ c.in_ok-got.ensures.next c.in_err-block-in-Some.ensures.lacks refl refl
-    (λ bytes more count took lacks. lacks_its_block c.in_err-block-in-Some.field-0.0 c.in_ok-got.got c.next.new.self.line c.in-Some.size c.next.new.self.ended
-    bytes
-    c.next.new.self.waiting more asked took
+    (λ bytes more count took lacks. lacks_its_block c.in_err-block-in-Some.field-0.0 c.in_ok-got.got c.next.new.self.line c.in-Some.size
+    c.next.new.self.ended bytes c.next.new.self.waiting more asked took
     (λ ended. let last = c.in_err-block-in-Some.ensures.after_end ended in (last.0, no_more c.block.new.self c.next.new.self more last.1 count)) lacks)))
 
 pub returns-in_err-block-in-Some-clause-waits : goal.returns-in_err-block-in-Some-clause-waits
@@ -40,8 +39,8 @@ returns-in_err-block-in-Some-clause-waits g c whole =
     let lines = c.self.inside.lines in
     let same = c.next.ensures.waits (line_waits lines c.self.inside.block c.args.self.now c.self.view_is whole) in
     let waits =
-    block_waits c.in_ok-got.got lines c.next.new.self c.self.inside.block c.args.self.now c.in-Some.size c.self.view_is whole c.in_ok-got.ensures.next same
-    asked in
+    block_waits c.in_ok-got.got lines c.next.new.self c.self.inside.block c.args.self.now c.in-Some.size c.self.view_is whole
+    c.in_ok-got.ensures.next same asked in
     c.block.ensures.waits waits ∙ same ∙ ap (λ (feed : ItemFeed). feed.read) c.self.view_is
 
 pub returns-in-None-clause-next : goal.returns-in-None-clause-next
@@ -80,6 +79,6 @@ returns-in_ok-block-in-Some-clause-waits g c whole =
     let lines = c.self.inside.lines in
     let same = c.next.ensures.waits (line_waits lines c.self.inside.block c.args.self.now c.self.view_is whole) in
     let waits =
-    block_waits c.in_ok-got.got lines c.next.new.self c.self.inside.block c.args.self.now c.in-Some.size c.self.view_is whole c.in_ok-got.ensures.next same
-    asked in
+    block_waits c.in_ok-got.got lines c.next.new.self c.self.inside.block c.args.self.now c.in-Some.size c.self.view_is whole
+    c.in_ok-got.ensures.next same asked in
     ap (λ (feed : ItemFeed). feed.read) c.keep.ensures.frame ∙ c.block.ensures.waits waits ∙ same ∙ ap (λ (feed : ItemFeed). feed.read) c.self.view_is

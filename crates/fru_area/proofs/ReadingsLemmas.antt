@@ -2,7 +2,7 @@
 use Rattle.std.proofs.Common.{◌≡◌, List, [], ◌++◌, Result, Ok, Err, ap}
 use Rattle.fru_area.specs.declared.fault.FruFault.{FruFault}
 use Rattle.fru_area.specs.declared.fault.FruFault.TheVariants as faults
-use Rattle.fru_area.specs.Answers.{GivesFault, seen}
+use Rattle.fru_area.specs.Readings.{GivesFault, seen}
 
 gives_fault : {X : Type 0} (fault : FruFault) (read : Result X FruFault) → read ≡ Err fault → GivesFault fault read
 gives_fault faults.OutOfMemory read is = tt
