@@ -6,11 +6,11 @@ mod blocks;
 #[cfg(test)]
 mod boards;
 #[cfg(test)]
-mod copies;
-#[cfg(test)]
 mod documents;
 #[cfg(test)]
 mod faults;
+#[cfg(test)]
+mod limits;
 #[cfg(test)]
 mod lines;
 #[cfg(test)]

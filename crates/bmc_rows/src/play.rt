@@ -1,26 +1,57 @@
-ghost use Rattle.std.specs.Prelude.{IfOk};
-
 use bmc_base::OutOfMemory;
 use bmc_io::{MemSink, MemSource};
 use bmc_replay::{Status, replay};
 use std::alloc::Global;
 use std::process::Abort;
+use std::str;
+use std::test::Fail;
 
 /// A record with a board area, in hexadecimal.
-pub const R1: &str = "01000001000000FE010300000000C341434DC452535231C25331C0C0C10000F5";
+pub const BOARD_RECORD: &str = "01000001000000FE010300000000C341434DC452535231C25331C0C0C10000F5";
 
-/// What stands in its row behind its place.
-pub const FIELDS: &str =
-    " BOARD_MANUFACTURER=\"ACM\" BOARD_PRODUCT_NAME=\"RSR1\" BOARD_SERIAL_NUMBER=\"S1\" BOARD_PART_NUMBER=\"\" BOARD_FRU_VERSION_ID=\"\"";
+/// What stands in its row behind the place.
+pub const BOARD_FIELDS: &str =
+    r#" BOARD_MANUFACTURER="ACM" BOARD_PRODUCT_NAME="RSR1" BOARD_SERIAL_NUMBER="S1" BOARD_PART_NUMBER="" BOARD_FRU_VERSION_ID="""#;
 
-/// A number of a call that is not made.
+/// A document that is always found.
+pub const ALWAYS: &str = r#"{"Name":"A","Probe":"TRUE"}"#;
+
+/// What is printed of it.
+pub const ALWAYS_BOARD: &str = "0 new board \"A\" 1\n";
+
+/// What is printed of a first line that is no command in its form.
+pub const UNKNOWN: &str = "line 1 refused UnknownCommand\n";
+
+/// The number of a call that is not made.
 pub const NEVER: u64 = u64::MAX;
 
 /// More bytes than a script or a text here has.
 pub const AMPLE: usize = 1 << 20;
 
-/// How the outside of a run behaves: the call of the source that fails, what the sink takes in a call
-/// and in all, and its call that fails.
+/// A part of a script.
+#[derive(Clone, Copy)]
+pub enum Part {
+    /// A text, in which `$` stands for the board record.
+    Text(&'static str),
+    /// Bytes that need not be text.
+    Bytes(&'static [u8]),
+    /// A text, so many times.
+    Times(usize, &'static str),
+    /// The line that asks for a document, and the document.
+    Config(&'static str),
+    /// The line that asks for bytes that need not be text, and the bytes.
+    Block(&'static [u8]),
+    /// The line and a document in which so many arrays stand in one another.
+    Nested(usize),
+    /// So many configurations that find a record with the product name `RSR9`. Their names are the numbers from 1.
+    Many(usize),
+}
+
+/// A script, how its run ends, and what is printed, where `$` stands for the fields of the board record.
+pub type Row = (&'static [Part], Status, &'static str);
+
+/// How the outside of a run behaves: the call of the source that fails, what the sink takes in a call and in all, and
+/// its call that fails.
 #[derive(Clone, Copy)]
 pub struct Outside {
     pub read_fail: u64,
@@ -37,7 +68,10 @@ pub const SOUND: Outside = Outside {
     write_fail: NEVER,
 };
 
-/// A text with `filling` for each dollar sign.
+// How many bytes the source gives and the sink takes in a call.
+const PIECES: [(usize, usize); 3] = [(AMPLE, AMPLE), (1, 7), (7, 1)];
+
+/// Returns a text with `filling` for each dollar sign.
 pub fn filled(alloc: Global, text: &str, filling: &str) -> Result<String, OutOfMemory> {
     let mut whole = String::new(alloc);
     for char in text.chars() {
@@ -50,7 +84,68 @@ pub fn filled(alloc: Global, text: &str, filling: &str) -> Result<String, OutOfM
     Ok(whole)
 }
 
-/// Plays a script that comes in pieces of these sizes, and answers the status and what the sink took.
+// Appends the line that asks for a block of these bytes, and the bytes.
+fn push_block(script: &mut Vec<u8>, alloc: Global, bytes: &[u8]) -> Result<(), OutOfMemory> {
+    let size = bytes.len();
+    let line = format!(in alloc; "config {size}\n")?;
+    script.extend_from_slice(line.as_bytes())?;
+    script.extend_from_slice(bytes)?;
+    Ok(())
+}
+
+// Appends a document in which so many arrays stand in one another.
+fn push_nested(script: &mut Vec<u8>, alloc: Global, arrays: usize) -> Result<(), OutOfMemory> {
+    let mut document = String::from_str(alloc, r#"{"Name":"A","Probe":"TRUE","x":"#)?;
+    for _ in 0..arrays {
+        document.push('[')?;
+    }
+    for _ in 0..arrays {
+        document.push(']')?;
+    }
+    document.push('}')?;
+    push_block(script, alloc, document.as_bytes())
+}
+
+// Appends so many configurations.
+fn push_many(script: &mut Vec<u8>, alloc: Global, count: usize) -> Result<(), OutOfMemory> {
+    let probe = "xyz.openbmc_project.FruDevice({'BOARD_PRODUCT_NAME': 'RSR9'})";
+    for number in 1..=count {
+        let document = format!(in alloc; "{{\"Name\":\"{number}\",\"Probe\":\"{probe}\"}}")?;
+        push_block(script, alloc, document.as_bytes())?;
+    }
+    Ok(())
+}
+
+fn push_part(script: &mut Vec<u8>, alloc: Global, part: Part) -> Result<(), OutOfMemory> {
+    match part {
+        Part::Text(text) => {
+            let text = filled(alloc, text, BOARD_RECORD)?;
+            script.extend_from_slice(text.as_bytes())?;
+        }
+        Part::Bytes(bytes) => script.extend_from_slice(bytes)?,
+        Part::Times(count, text) => {
+            for _ in 0..count {
+                script.extend_from_slice(text.as_bytes())?;
+            }
+        }
+        Part::Config(document) => push_block(script, alloc, document.as_bytes())?,
+        Part::Block(bytes) => push_block(script, alloc, bytes)?,
+        Part::Nested(arrays) => push_nested(script, alloc, arrays)?,
+        Part::Many(count) => push_many(script, alloc, count)?,
+    }
+    Ok(())
+}
+
+/// Returns the script of these parts.
+pub fn script_of(alloc: Global, parts: &[Part]) -> Result<Vec<u8>, OutOfMemory> {
+    let mut script = Vec::new(alloc);
+    for part in parts {
+        push_part(&mut script, alloc, *part)?;
+    }
+    Ok(script)
+}
+
+/// Plays a script that the source gives in pieces of these sizes, and returns the status and what the sink took.
 pub fn played<R: Abort>(
     rt: &R,
     alloc: Global,
@@ -65,4 +160,61 @@ pub fn played<R: Abort>(
     let status = replay(alloc, &mut source, &mut sink);
     let text = Vec::from_slice(alloc, sink.bytes())?;
     Ok((status, text))
+}
+
+/// Plays a script whole and in small pieces, and asserts how its run ends and what is printed.
+pub fn play<R: Abort>(
+    rt: &R,
+    alloc: Global,
+    script: &[u8],
+    status: Status,
+    text: &str,
+) -> Result<(), Fail> {
+    // What a failure shows of the script.
+    let head = str::from_utf8(&script[..script.len().min(200)]);
+    for (given, taken) in PIECES {
+        let outside = Outside {
+            piece: taken,
+            ..SOUND
+        };
+        let (ended, printed) = played(rt, alloc, script, &[given], outside)?;
+        assert_eq!(rt;
+            str::from_utf8(printed.as_slice()),
+            Ok(text),
+            "in pieces of {given}"
+        );
+        assert_eq!(rt; ended, status, "{head:?} in pieces of {given}");
+    }
+    Ok(())
+}
+
+// Plays the script of these parts, and asserts how its run ends and what is printed.
+fn play_row<R: Abort>(
+    rt: &R,
+    alloc: Global,
+    parts: &[Part],
+    status: Status,
+    text: &str,
+) -> Result<(), Fail> {
+    let script = script_of(alloc, parts)?;
+    let text = filled(alloc, text, BOARD_FIELDS)?;
+    play(rt, alloc, script.as_slice(), status, text.as_str())
+}
+
+/// Plays the script of each row, and asserts what the row says of it.
+pub fn play_rows<R: Abort>(rt: &R, alloc: Global, rows: &[Row]) -> Result<(), Fail> {
+    for (parts, status, text) in rows {
+        play_row(rt, alloc, parts, *status, text)?;
+    }
+    Ok(())
+}
+
+/// Plays each part of each row as a script by itself, and asserts what the row says of it.
+pub fn play_parts<R: Abort>(rt: &R, alloc: Global, rows: &[Row]) -> Result<(), Fail> {
+    for (parts, status, text) in rows {
+        for part in *parts {
+            play_row(rt, alloc, &[*part], *status, text)?;
+        }
+    }
+    Ok(())
 }

@@ -1,0 +1,180 @@
+use crate::play::Part::{Config, Many, Text, Times};
+use crate::play::{ALWAYS, ALWAYS_BOARD, Row, UNKNOWN, play_rows};
+use bmc_replay::Status::{Done, Refused};
+use std::test::Fail;
+
+// How many bytes a line has before its newline, a block, and a record, and how many configurations there are, at most.
+const LONGEST_LINE: usize = 9000;
+
+const LONGEST_BLOCK: usize = 262_144;
+
+const LONGEST_RECORD: usize = 4096;
+
+const MOST_CONFIGURATIONS: usize = 256;
+
+// The spaces behind a document that make it the longest block.
+const SPACES: usize = LONGEST_BLOCK - ALWAYS.len();
+
+// The bytes behind the 32 of the board record that make it the longest record.
+const ZEROS: usize = LONGEST_RECORD - 32;
+
+const LINES: [Row; 9] = [
+    (&[Times(LONGEST_LINE, "#")], Done, ""),
+    (&[Times(LONGEST_LINE, "#"), Text("\n")], Done, ""),
+    (&[Times(LONGEST_LINE - 1, "#"), Text("\r\n")], Done, ""),
+    (&[Times(LONGEST_LINE - 1, "#"), Text("\r")], Done, ""),
+    (&[Times(LONGEST_LINE + 1, "#")], Refused, UNKNOWN),
+    (
+        &[Times(LONGEST_LINE + 1, "#"), Text("\n")],
+        Refused,
+        UNKNOWN,
+    ),
+    (&[Times(LONGEST_LINE, "#"), Text("\r\n")], Refused, UNKNOWN),
+    (&[Times(200_000, "#"), Text("\n#")], Refused, UNKNOWN),
+    (
+        &[Times(70_000, "#"), Text("\n#\n\njump")],
+        Refused,
+        "line 1 refused UnknownCommand\nline 4 refused UnknownCommand\n",
+    ),
+];
+
+const BLOCKS: [Row; 8] = [
+    (
+        &[Text("config 262144\n"), Text(ALWAYS), Times(SPACES, " ")],
+        Done,
+        ALWAYS_BOARD,
+    ),
+    (
+        &[
+            Text("config 262144\n"),
+            Text(ALWAYS),
+            Times(SPACES, " "),
+            Text("\n"),
+        ],
+        Done,
+        ALWAYS_BOARD,
+    ),
+    (
+        &[
+            Text("config 262144\n"),
+            Text(ALWAYS),
+            Times(SPACES, " "),
+            Text("\njump"),
+        ],
+        Refused,
+        "0 new board \"A\" 1\nline 2 refused UnknownCommand\n",
+    ),
+    (
+        &[
+            Text("config 262144\n"),
+            Text(ALWAYS),
+            Times(SPACES, " "),
+            Text("\r\njump"),
+        ],
+        Refused,
+        "0 new board \"A\" 1\nline 3 refused UnknownCommand\n",
+    ),
+    (
+        &[
+            Text("config 262144\n"),
+            Text(ALWAYS),
+            Times(SPACES - 1, " "),
+        ],
+        Refused,
+        "line 1 refused ConfigShort\n",
+    ),
+    (
+        &[
+            Text("config 262145\n"),
+            Text(ALWAYS),
+            Times(SPACES + 1, " "),
+            Text("\njump"),
+        ],
+        Refused,
+        "line 1 refused ConfigTooLong\nline 2 refused UnknownCommand\n",
+    ),
+    (
+        &[
+            Text("config 262145\n"),
+            Text(ALWAYS),
+            Times(SPACES + 1, " "),
+            Text("jump"),
+        ],
+        Refused,
+        "line 1 refused ConfigTooLong\nline 2 refused UnknownCommand\n",
+    ),
+    (
+        &[Text("config 262145\n"), Text(ALWAYS), Times(SPACES, " ")],
+        Refused,
+        "line 1 refused ConfigTooLong\n",
+    ),
+];
+
+const RECORDS: [Row; 2] = [
+    (
+        &[Text("plug 5 0 $"), Times(ZEROS, "00")],
+        Done,
+        "fru 5 0$\n",
+    ),
+    (
+        &[Text("plug 5 0 $"), Times(ZEROS + 1, "00")],
+        Refused,
+        "line 1 refused FruTooLong\n",
+    ),
+];
+
+const CONFIGURATIONS: [Row; 6] = [
+    (&[Many(MOST_CONFIGURATIONS)], Done, ""),
+    (
+        &[Many(MOST_CONFIGURATIONS), Config(ALWAYS)],
+        Refused,
+        "line 257 refused ConfigLimit\n",
+    ),
+    // a name that was given, and a document that is refused by itself
+    (
+        &[
+            Many(MOST_CONFIGURATIONS),
+            Config(r#"{"Name":"256","Probe":"TRUE"}"#),
+        ],
+        Refused,
+        "line 257 refused DuplicateName\n",
+    ),
+    (
+        &[Many(MOST_CONFIGURATIONS), Config("{}")],
+        Refused,
+        "line 257 refused MissingKey\n",
+    ),
+    (
+        &[
+            Many(MOST_CONFIGURATIONS),
+            Text("plug 1 80 $\n"),
+            Config(ALWAYS),
+        ],
+        Refused,
+        "line 258 refused ConfigAfterPlug\nfru 1 80$\n",
+    ),
+    // a configuration that was refused does not count
+    (
+        &[
+            Many(MOST_CONFIGURATIONS - 1),
+            Config("{}"),
+            Config(ALWAYS),
+            Config(r#"{"Name":"B","Probe":"TRUE"}"#),
+        ],
+        Refused,
+        "line 256 refused MissingKey\n0 new board \"A\" 1\nline 258 refused ConfigLimit\n",
+    ),
+];
+
+#[test]
+fn long_blocks(rt: HostRuntime) -> Result<(), Fail> {
+    play_rows(&rt, rt.alloc(), &BLOCKS)
+}
+
+#[test]
+fn limits(rt: HostRuntime) -> Result<(), Fail> {
+    for rows in [LINES.as_slice(), &RECORDS, &CONFIGURATIONS] {
+        play_rows(&rt, rt.alloc(), rows)?;
+    }
+    Ok(())
+}
