@@ -1,0 +1,3 @@
+pub mod PlainReading
+pub mod PlainMatching
+pub mod Regexes
