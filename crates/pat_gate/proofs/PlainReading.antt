@@ -164,7 +164,7 @@ branches_of plain is =
     ∙ ap (λ o. o >>= more_branches n []) (join_parts_is cat_all _ ∙ branch_of plain is)
     ∙ join_ends alt_all (join cat_all (parts_of plain) ∷ []) _
 
-pub ascii_plain : (text : List ℕ) → list_all is_plain text ≡ true → IsAscii text
+ascii_plain : (text : List ℕ) → list_all is_plain text ≡ true → IsAscii text
 ascii_plain [] plain i = omega arith
 ascii_plain (c ∷ text) plain zero =
     let ascii : is_ascii c ≡ true = (and_parts _ _ (and_parts (is_plain c) (list_all is_plain text) plain).0).0 in grind (arith, nat_tests, ascii)
@@ -178,7 +178,7 @@ ascii_part : (some : Bool) (c : ℕ) → c < 128 → IsAscii (if some then c ∷
 ascii_part true c h = ascii_one c h
 ascii_part false c h = λ i. omega arith
 
-pub ascii_written : (plain : Plain) → IsPlain plain → IsAscii (written plain)
+ascii_written : (plain : Plain) → IsPlain plain → IsAscii (written plain)
 ascii_written plain is =
     IsAscii-append _ _ (ascii_part plain.at_start 0x5E (omega arith))
     (IsAscii-append plain.text _ (ascii_plain plain.text is.all) (ascii_part plain.at_end 0x24 (omega arith)))

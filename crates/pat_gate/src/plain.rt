@@ -46,7 +46,6 @@ impl Plain {
     }
 
     // Whether the pattern has a match in a text.
-    #[tactic(auto, using(crate::proofs::PlainMatching::contains_match, crate::proofs::PlainMatching::starts_with_match, crate::proofs::PlainMatching::ends_with_match, crate::proofs::PlainMatching::equal_match))]
     pub(crate) fn found_in(&self, hay: &str) -> bool
         ensures { result ≡ has_match (written self.now) hay.now }
     {
