@@ -1,13 +1,13 @@
 -- What regex's grammar reads in a plain pattern.
-use Rattle.std.proofs.Common.{◌≡◌, ℕ, ◌+◌, ◌-◌, ◌*◌, ◌<◌, ◌≤◌, List, [], ◌∷◌, ◌++◌, map, length, Bool, true, false, ◌==◌, ◌&&◌, not, if◌then◌else◌, None, Some, refl, sym, ap, ap₂, ◌∙◌, subst, ne_eqb, append_assoc, append-nil, length-append, chars, codes, zero-add, zero, suc, nat_lt, max, arith}
-use Rattle.std.proofs.lemmas.Bool.{both_ways, and_parts, and_left, cond_both}
+use Rattle.std.proofs.Common.{◌≡◌, ℕ, ◌+◌, ◌-◌, ◌*◌, ◌<◌, ◌≤◌, List, [], ◌∷◌, ◌++◌, map, length, Bool, true, false, ◌==◌, not, if◌then◌else◌, None, Some, refl, sym, ap, ap₂, ◌∙◌, ne_eqb, append_assoc, append-nil, length-append, chars, codes, zero-add, zero, suc, nat_lt, max, arith}
+use Rattle.std.proofs.lemmas.Bool.{both_ways, and_parts, cond_both}
 use Rattle.std.proofs.lemmas.Bool.Decides.{nat_tests}
 use Rattle.std.proofs.lemmas.Str.{chars-IsAscii, IsAscii-append}
-use Rattle.std.specs.Char.{is_ascii, encode_utf8}
+use Rattle.std.specs.Char.{is_ascii}
 use Rattle.std.specs.List.{list_all}
 use Rattle.std.specs.Str.{IsAscii}
 use Rattle.regex_hir.specs.Meaning.{cat_all, alt_all}
-use Rattle.regex_hir.specs.Re.{Re, literal, look}
+use Rattle.regex_hir.specs.Re.{Re, look}
 use Rattle.regex_hir.specs.declared.look.Look.TheVariants.{Start, End}
 use Rattle.regex_syntax.proofs.BracketLemmas.{deepest-append}
 use Rattle.regex_syntax.proofs.BranchLemmas.{Read, ends_branch, join_after, group_inside, more_parts, branch_goes, branch_ends, repetitions_end, join_parts_is, branches_go, more_branches, join_ends}
@@ -21,9 +21,9 @@ use Rattle.regex.specs.Patterns.{default_config}
 use Rattle.pat_gate.specs.Grammar.{is_pattern, IsPattern}
 use Rattle.pat_gate.specs.Plain.{Plain, IsPlain, is_operator, is_plain, written}
 
--- a place in a pattern without groups, under the default options
-abbrev place : Text → Place
-place text = record { config = default_config; names = None ∷ []; text = text }
+-- what is left to read of a pattern without groups, under the default options
+abbrev left : Text → Place
+left text = record { config = default_config; names = None ∷ []; text = text }
 
 -- no operator of repetition follows
 abbrev IsSingle : Text → Type 0
@@ -32,8 +32,8 @@ IsSingle rest = is_at "?*+{" rest ≡ false
 differs : (c d : ℕ) → is_operator c ≡ false → is_operator d ≡ true → (c == d) ≡ false
 differs c d plain operator = ne_eqb c d (λ e. both_ways _ plain (ap is_operator e ∙ operator))
 
-stands_for_itself : (c : ℕ) → is_plain c ≡ true → is_operator c ≡ false
-stands_for_itself c plain = not_true (is_operator c) (and_parts (is_ascii c) (not (is_operator c)) plain).1
+no_operator : (c : ℕ) → is_plain c ≡ true → is_operator c ≡ false
+no_operator c plain = not_true (is_operator c) (and_parts (is_ascii c) (not (is_operator c)) plain).1
   where
     not_true : (b : Bool) → not b ≡ true → b ≡ false
     not_true true e = sym e
@@ -41,7 +41,8 @@ stands_for_itself c plain = not_true (is_operator c) (and_parts (is_ascii c) (no
 
 -- an atom that is no group and that no operator of repetition follows is an item
 item_of_atom : (inner : Place → Read (Nested Re)) (text rest : Text) (part : Nested Re)
-    → is_at "(" text ≡ false → atom default_config text ≡ Some (part, rest) → IsSingle rest → item inner (place text) ≡ Some (part, place rest)
+    → is_at "(" text ≡ false → atom default_config text ≡ Some (part, rest) → IsSingle rest
+    → item inner (left text) ≡ Some (part, left rest)
 unfolding item with_repetitions
 item_of_atom inner text rest part no_group read_atom single =
     rw (
@@ -55,9 +56,9 @@ item_of_atom inner text rest part no_group read_atom single =
 -- and the branch goes on behind it
 branch_passes : (n m : ℕ) (earlier : List (Nested Re)) (text rest : Text) (part : Nested Re) → n ≡ m + 1
     → (is_at "(" text ≡ false) × (ends_branch text ≡ false) → atom default_config text ≡ Some (part, rest) → IsSingle rest
-    → join_after cat_all earlier (items n (place text)) ≡ join_after cat_all (earlier ++ part ∷ []) (items m (place rest))
+    → join_after cat_all earlier (items n (left text)) ≡ join_after cat_all (earlier ++ part ∷ []) (items m (left rest))
 branch_passes n m earlier text rest part e begins read_atom single =
-    branch_goes n m earlier (place text) text (omega arith) (sym (skip-false text)) begins.1
+    branch_goes n m earlier (left text) text (omega arith) (sym (skip-false text)) begins.1
     ∙ ap (λ o. o >>= more_parts m earlier) (item_of_atom (group_inside m) text rest part begins.0 read_atom single)
 
 atom_itself : (c : ℕ) (rest : Text) → is_operator c ≡ false → atom default_config (c ∷ rest) ≡ Some (itself c, rest)
@@ -85,20 +86,21 @@ single_before : (text rest : Text) → list_all is_plain text ≡ true → IsSin
 unfolding first
 single_before [] rest plain single = single
 single_before (c ∷ text) rest plain single =
-    let own : is_operator c ≡ false = stands_for_itself c (and_parts _ _ plain).0 in
+    let own : is_operator c ≡ false = no_operator c (and_parts _ _ plain).0 in
     rw (differs c 63 own refl, differs c 42 own refl, differs c 43 own refl, differs c 123 own refl)
 
 -- plain characters are read one by one
-items_plain : (text rest : Text) (n m : ℕ) (earlier : List (Nested Re)) → list_all is_plain text ≡ true → n ≡ length text + m → IsSingle rest
-    → join_after cat_all earlier (items n (place (text ++ rest))) ≡ join_after cat_all (earlier ++ map itself text) (items m (place rest))
+items_plain : (text rest : Text) (n m : ℕ) (earlier : List (Nested Re)) → list_all is_plain text ≡ true → n ≡ length text + m
+    → IsSingle rest → join_after cat_all earlier (items n (left (text ++ rest)))
+    ≡ join_after cat_all (earlier ++ map itself text) (items m (left rest))
 items_plain [] rest n m earlier plain e single = rw (append-nil, e ∙ zero-add m)
 items_plain (c ∷ text) rest n m earlier plain e single =
     let parts = and_parts (is_plain c) (list_all is_plain text) plain in
-    let own : is_operator c ≡ false = stands_for_itself c parts.0 in
+    let own : is_operator c ≡ false = no_operator c parts.0 in
     branch_passes n (n - 1) earlier _ (text ++ rest) (itself c) (omega arith) (begins_no_group c (text ++ rest) own)
     (atom_itself c (text ++ rest) own) (single_before text rest parts.1 single)
     ∙ items_plain text rest (n - 1) m (earlier ++ itself c ∷ []) parts.1 (omega arith) single
-    ∙ ap (λ all. join_after cat_all all (items m (place rest))) (append_assoc earlier (itself c ∷ []) (map itself text))
+    ∙ ap (λ all. join_after cat_all all (items m (left rest))) (append_assoc earlier (itself c ∷ []) (map itself text))
 
 -- what `^` and `$` are read as, where they stand
 abbrev pub starts : Bool → List (Nested Re)
@@ -108,19 +110,22 @@ abbrev pub ends : Bool → List (Nested Re)
 ends at_end = if at_end then flat (look End) ∷ [] else []
 
 items_start : (at_start : Bool) (rest : Text) (n m : ℕ) → n ≡ length (starts at_start) + m → IsSingle rest
-    → join_after cat_all [] (items n (place ((if at_start then codes "^" else []) ++ rest))) ≡ join_after cat_all (starts at_start) (items m (place rest))
+    → join_after cat_all [] (items n (left ((if at_start then codes "^" else []) ++ rest)))
+    ≡ join_after cat_all (starts at_start) (items m (left rest))
 unfolding first atom char_meaning
-items_start true rest n m e single = branch_passes n m [] _ rest (flat (look Start)) (omega arith) (refl, grind (arith, nat_tests)) refl single
+items_start true rest n m e single =
+    branch_passes n m [] _ rest (flat (look Start)) (omega arith) (refl, grind (arith, nat_tests)) refl single
 items_start false rest n m e single = rw (e ∙ zero-add m)
 
 items_end : (at_end : Bool) (n m : ℕ) (earlier : List (Nested Re)) → n ≡ m + 2
-    → join_after cat_all earlier (items n (place (if at_end then codes "$" else []))) ≡ Some (join cat_all (earlier ++ ends at_end), place [])
+    → join_after cat_all earlier (items n (left (if at_end then codes "$" else [])))
+    ≡ Some (join cat_all (earlier ++ ends at_end), left [])
 unfolding first atom char_meaning
 items_end true n m earlier e =
     branch_passes n (m + 1) earlier (codes "$") [] (flat (look End)) (omega arith) (refl, refl) refl refl
-    ∙ branch_ends (m + 1) m (earlier ++ flat (look End) ∷ []) (place []) [] (omega arith) (sym (skip-false [])) refl
+    ∙ branch_ends (m + 1) m (earlier ++ flat (look End) ∷ []) (left []) [] (omega arith) (sym (skip-false [])) refl
 items_end false n m earlier e =
-    rw (append-nil) (branch_ends n (m + 1) earlier (place []) [] (omega arith) (sym (skip-false [])) refl)
+    rw (append-nil) (branch_ends n (m + 1) earlier (left []) [] (omega arith) (sym (skip-false [])) refl)
 
 single_end : (at_end : Bool) → IsSingle (if at_end then codes "$" else [])
 unfolding first
@@ -136,7 +141,8 @@ abbrev pub parts_of : Plain → List (Nested Re)
 parts_of plain = starts plain.at_start ++ (map itself plain.text ++ ends plain.at_end)
 
 branch_of : (plain : Plain) → IsPlain plain
-    → join_after cat_all [] (items (2 * length (written plain) + 1) (place (written plain))) ≡ Some (join cat_all (parts_of plain), place [])
+    → join_after cat_all [] (items (2 * length (written plain) + 1) (left (written plain)))
+    ≡ Some (join cat_all (parts_of plain), left [])
 branch_of plain is =
     let n = 2 * length (written plain) + 1 in
     let front = starts plain.at_start in
@@ -145,18 +151,18 @@ branch_of plain is =
     let k = m - length plain.text in
     let some : 0 < length plain.text = is.some in
     let long : length (written plain) ≡ length front + (length plain.text + length back)
-        = length-append _ (plain.text ++ back) ∙ ap₂ ◌+◌ (length_start plain.at_start) (length-append plain.text back) in
+    = length-append _ (plain.text ++ back) ∙ ap₂ ◌+◌ (length_start plain.at_start) (length-append plain.text back) in
     items_start plain.at_start (plain.text ++ back) n m (omega arith) (single_before plain.text back is.all (single_end plain.at_end))
     ∙ items_plain plain.text back m k front is.all (omega arith) (single_end plain.at_end)
     ∙ items_end plain.at_end k (k - 2) (front ++ map itself plain.text) (omega arith)
-    ∙ ap (λ parts. Some (join cat_all parts, place [])) (append_assoc front (map itself plain.text) (ends plain.at_end))
+    ∙ ap (λ parts. Some (join cat_all parts, left [])) (append_assoc front (map itself plain.text) (ends plain.at_end))
 
 -- what a plain pattern is read as
 abbrev pub tree_of : Plain → Nested Re
 tree_of plain = join alt_all (join cat_all (parts_of plain) ∷ [])
 
 branches_of : (plain : Plain) → IsPlain plain
-    → join_parts alt_all (branches (2 * length (written plain) + 2) (place (written plain))) ≡ Some (tree_of plain, place [])
+    → join_parts alt_all (branches (2 * length (written plain) + 2) (left (written plain))) ≡ Some (tree_of plain, left [])
 unfolding first
 branches_of plain is =
     let n = 2 * length (written plain) + 1 in
@@ -167,7 +173,9 @@ branches_of plain is =
 ascii_plain : (text : List ℕ) → list_all is_plain text ≡ true → IsAscii text
 ascii_plain [] plain i = omega arith
 ascii_plain (c ∷ text) plain zero =
-    let ascii : is_ascii c ≡ true = (and_parts _ _ (and_parts (is_plain c) (list_all is_plain text) plain).0).0 in grind (arith, nat_tests, ascii)
+    let own = (and_parts (is_plain c) (list_all is_plain text) plain).0 in
+    let ascii : is_ascii c ≡ true = (and_parts (is_ascii c) (not (is_operator c)) own).0 in
+    grind (arith, nat_tests, ascii)
 ascii_plain (c ∷ text) plain (suc i) = ascii_plain text (and_parts (is_plain c) (list_all is_plain text) plain).1 i
 
 ascii_one : (c : ℕ) → c < 128 → IsAscii (c ∷ [])
@@ -184,9 +192,13 @@ ascii_written plain is =
     (IsAscii-append plain.text _ (ascii_plain plain.text is.all) (ascii_part plain.at_end 0x24 (omega arith)))
 
 -- the grammar reads a plain pattern as that tree
-pub read_written : (plain : Plain) → IsPlain plain → (names : Names) × (read default_config (chars (written plain)) ≡ Some (tree_of plain, names))
+pub read_written : (plain : Plain) → IsPlain plain
+    → (names : Names) × (read default_config (chars (written plain)) ≡ Some (tree_of plain, names))
 unfolding read
-read_written plain is = (names_below (tree_of plain).value (None ∷ []) (max 1 (group_count (tree_of plain).value)), rw (chars-IsAscii (written plain) (ascii_written plain is), read, branches_of plain is))
+read_written plain is =
+    let whole = (tree_of plain).value in
+    let own = chars-IsAscii (written plain) (ascii_written plain is) in
+    (names_below whole (None ∷ []) (max 1 (group_count whole)), rw (own, read, branches_of plain is))
 
 deepest_itself : (text : List ℕ) → deepest (map itself text) ≡ 0
 deepest_itself [] = refl
@@ -204,8 +216,15 @@ deepest_end false = refl
 pub flat_tree : (plain : Plain) → (tree_of plain).depth ≤ 1
 flat_tree plain =
     let one = cond_both (nat_lt 1 (length (parts_of plain))) 1 0 (λ n. n ≤ 1) (λ _. omega arith) (λ _. omega arith) in
-    omega (arith, one, deepest-append (starts plain.at_start) (map itself plain.text ++ ends plain.at_end),
-      deepest-append (map itself plain.text) (ends plain.at_end), deepest_itself plain.text, deepest_start plain.at_start, deepest_end plain.at_end)
+    omega (
+      arith,
+      one,
+      deepest-append (starts plain.at_start) (map itself plain.text ++ ends plain.at_end),
+      deepest-append (map itself plain.text) (ends plain.at_end),
+      deepest_itself plain.text,
+      deepest_start plain.at_start,
+      deepest_end plain.at_end,
+    )
 
 pub plain_is_pattern : (plain : Plain) → IsPlain plain → IsPattern (written plain)
 unfolding is_pattern

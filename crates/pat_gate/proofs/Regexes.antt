@@ -19,7 +19,8 @@ use Rattle.pat_gate.specs.Grammar.{is_pattern, has_match, IsPattern, IsBad}
 abbrev is_shallow : Nested Re × Names → Bool
 is_shallow found = nat_le found.0.depth default_config.nest_limit
 
-pattern_by : (o : Option (Nested Re × Names)) (P : Nested Re × Names → Type 0) → ((found : Nested Re × Names) → P found → found.0.depth ≤ default_config.nest_limit)
+pattern_by : (o : Option (Nested Re × Names)) (P : Nested Re × Names → Type 0)
+    → ((found : Nested Re × Names) → P found → found.0.depth ≤ default_config.nest_limit)
     → IsSomeAnd o P → is_some_and o is_shallow ≡ true
 pattern_by None P shallow h = absurd h
 pattern_by (Some found) P shallow h = let low = shallow found h in grind (arith, nat_tests, low)
@@ -43,29 +44,32 @@ unfolding Reads has_match
 reads_match text hir names reads hay bytes = match_by _ (meaning hir) (λ found h. h.1) (read default_config (chars text)) reads hay bytes
 
 bad_by : (kind : ErrorKind) (o : Option (Nested Re × Names))
-    → (o ≡ None) ⊎ ((kind ≡ NestLimitExceeded) × IfSome o (λ found. default_config.nest_limit < found.0.depth)) → is_some_and o is_shallow ≡ false
+    → (o ≡ None) ⊎ ((kind ≡ NestLimitExceeded) × IfSome o (λ found. default_config.nest_limit < found.0.depth))
+    → is_some_and o is_shallow ≡ false
 bad_by kind None h = refl
 bad_by kind (Some found) h = elim h [
-    | inl none ↦ absurd (cc)
-    | inr deep ↦ let high : default_config.nest_limit < found.0.depth = deep.1 in grind (arith, nat_tests, high)
-  ]
+  | inl none ↦ absurd (cc)
+  | inr deep ↦ let high : default_config.nest_limit < found.0.depth = deep.1 in grind (arith, nat_tests, high)
+]
 
 -- an error of syntax comes of a bad text
 pub refuses_bad : (text : List ℕ) (kind : ErrorKind) → Refuses default_config text kind → kind ≢ OutOfMemory → IsBad text
 unfolding Refuses is_pattern
 refuses_bad text kind refuses own = elim refuses [
-    | inl memory ↦ absurd (own memory)
-    | inr bad ↦ bad_by kind (read default_config (chars text)) bad
-  ]
+  | inl memory ↦ absurd (own memory)
+  | inr bad ↦ bad_by kind (read default_config (chars text)) bad
+]
 
 module _ (regex : Regex) (config : regex_config regex ≡ default_config) (is_read : IsReadFromSource regex) where
   reads : Reads default_config (regex_source regex) regex.pattern.program.hir (names_of regex.pattern.names.items)
-  reads = subst (λ (c : Config). Reads c (regex_source regex) regex.pattern.program.hir (names_of regex.pattern.names.items)) config is_read
+  reads =
+      subst (λ (c : Config). Reads c (regex_source regex) regex.pattern.program.hir (names_of regex.pattern.names.items)) config is_read
 
   -- a regex stands for a pattern
   pub source_is_pattern : IsPattern (regex_source regex)
   source_is_pattern = reads_pattern (regex_source regex) _ _ reads
 
   -- and finds what its text says
-  pub source_match : (hay : List ℕ) → All (λ x. x < 256) hay → is_some (find_str (regex_pattern regex) hay 0) ≡ has_match (regex_source regex) hay
+  pub source_match : (hay : List ℕ) → All (λ x. x < 256) hay
+      → is_some (find_str (regex_pattern regex) hay 0) ≡ has_match (regex_source regex) hay
   source_match hay bytes = reads_match (regex_source regex) _ _ reads hay bytes

@@ -20,7 +20,7 @@ new_maker = record { faults = 0; refused = [] }
 abbrev pub with_refused : Maker → List ℕ → Maker
 with_refused maker text = record { faults = raised maker.faults 1; refused = maker.refused ++ text ∷ [] }
 
--- one call: the pattern that the grammar reads in the text, or why there is none; only a text that is too large changes the maker
+-- one call: the pattern that the grammar reads in the text, or why there is none; where no text is refused, the maker is as it was
 abbrev pub Makes : Maker → Maker → List ℕ → Result (List ℕ) MakeFault → Type 0
 Makes old new text (Ok compiled) = (compiled ≡ text) × IsPattern text × (new ≡ old)
 Makes old new text (Err PatternSyntax) = IsBad text × (new ≡ old)

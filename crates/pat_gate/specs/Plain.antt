@@ -1,4 +1,4 @@
--- Patterns without operators: a text that stands for itself, maybe between `^` and `$`.
+-- Plain patterns: a text without operators, maybe behind `^`, before `$` or between both.
 use Rattle.std.specs.Prelude.{ℕ, ◌≡◌, ◌<◌, Bool, true, not, ◌&&◌, if◌then◌else◌, List, [], ◌++◌, length, codes}
 use Rattle.std.specs.List.{list_all}
 use Rattle.std.specs.Char.{is_ascii}
@@ -8,17 +8,17 @@ use Rattle.regex_syntax.specs.Reading.{◌∈◌}
 abbrev pub is_operator : ℕ → Bool
 is_operator c = c ∈ "\\.+*?()|[{^$"
 
--- whether it is an ASCII character that stands for itself
+-- whether it is an ASCII character without one
 abbrev pub is_plain : ℕ → Bool
 is_plain c = is_ascii c && not (is_operator c)
 
--- a text, and whether it has to stand at the start and at the end
+-- a text, and whether it has to stand at the start and at the end of a haystack
 pub record Plain : Type 0 where
   pub text : List ℕ
   pub at_start : Bool
   pub at_end : Bool
 
--- the text is not empty, and each of its characters stands for itself
+-- the text is not empty, and all its characters are plain
 pub record IsPlain (plain : Plain) : Type 0 where
   pub some : 0 < length plain.text
   pub all : list_all is_plain plain.text ≡ true
@@ -27,8 +27,8 @@ pub record IsPlain (plain : Plain) : Type 0 where
 abbrev pub written : Plain → List ℕ
 written plain = (if plain.at_start then codes "^" else []) ++ (plain.text ++ (if plain.at_end then codes "$" else []))
 
--- it stands in the haystack between two parts, of which one is empty where it has to be
-pub record Stands (plain : Plain) (hay : List ℕ) : Type 0 where
+-- the text stands in the haystack, with nothing before it where it has to stand at the start, and nothing behind it at the end
+pub record StandsIn (plain : Plain) (hay : List ℕ) : Type 0 where
   pub before : List ℕ
   pub behind : List ℕ
   pub parts : hay ≡ before ++ (plain.text ++ behind)

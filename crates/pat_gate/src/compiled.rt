@@ -1,10 +1,9 @@
 ghost use Rattle.std.specs.Prelude.{◌≡◌, IfOk, IfSome};
-ghost use Rattle.regex.specs.Patterns.{default_config};
-ghost use Rattle.regex.specs.Strings.{regex_source, regex_config, IsReadFromSource};
 ghost use Rattle.pat_gate.specs.Grammar.{has_match, IsPattern};
 ghost use Rattle.pat_gate.specs.Makers.{Builds};
 
 use crate::MakeFault;
+use crate::form::{Form, is_match};
 use crate::plain::Plain;
 use bmc_base::OutOfMemory;
 use regex::Regex;
@@ -15,13 +14,6 @@ use std::marker::Model;
 #[derive(Drop)]
 pub struct Compiled {
     form: Form,
-}
-
-// What is kept of a pattern: a text that stands for itself, or the tables of `regex`.
-#[derive(Drop)]
-pub(crate) enum Form {
-    Plain(Plain),
-    Regex(Regex),
 }
 
 impl Model for Compiled {
@@ -76,15 +68,4 @@ impl Compiled {
             Err(regex::Error::OutOfMemory) => Err(MakeFault::OutOfMemory),
         }
     }
-}
-
-// Whether a regex has a match in a text. A matcher borrows its regex, so each match makes one.
-#[tactic(auto, using(crate::proofs::Regexes::source_match))]
-fn is_match(alloc: Global, regex: &Regex, text: &str) -> Result<bool, OutOfMemory>
-    requires config { regex_config regex.now ≡ default_config }
-    requires read { IsReadFromSource regex.now }
-    ensures { IfOk result (λ found. found ≡ has_match (regex_source regex.now) text.now) }
-{
-    let mut matcher = regex.matcher(alloc)?;
-    Ok(matcher.is_match(text))
 }

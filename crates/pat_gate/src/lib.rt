@@ -2,11 +2,14 @@
 #![tactic(auto)]
 
 mod compiled;
+mod form;
 mod list_maker;
 mod make_fault;
 mod pattern_maker;
 mod plain;
 mod regex_maker;
+#[cfg(test)]
+mod tests;
 
 pub use compiled::Compiled;
 pub use list_maker::ListMaker;

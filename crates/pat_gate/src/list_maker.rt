@@ -60,7 +60,7 @@ impl PatternMaker for ListMaker {
         ensures made { Makes self.old.maker self.new.maker text.now result }
         ensures listed { is_listed self.old.too_large text.now ≡ true → IsErrAnd result IsRefusal }
         ensures too_large { is_listed self.old.too_large text.now ≡ false → result ≡ Err MakeFault.PatternTooLarge → IsPattern text.now }
-        ensures kept { self.new.too_large ≡ self.old.too_large }
+        ensures same { self.new.too_large ≡ self.old.too_large }
     {
         if is_listed(&self.too_large, text) {
             let copied = self.maker.room_for(alloc, text)?;

@@ -7,8 +7,8 @@ use bmc_base::{OutOfMemory, Text};
 use std::alloc::Global;
 use std::marker::Model;
 
-// A pattern without operators: a text that stands for itself, maybe between `^` and `$`. It is matched
-// without a matcher, which takes a hundred times as long to make as to use.
+// A text without operators, maybe behind `^`, before `$` or between both. It is matched as a text: a
+// matcher takes a hundred times as long to make as to use.
 #[derive(Drop)]
 pub(crate) struct Plain {
     text: Text,
@@ -27,8 +27,8 @@ impl Model for Plain {
 }
 
 impl Plain {
-    // Returns the plain pattern of this text, or `None` where it has an operator or none of its own
-    // characters.
+    // Returns the plain pattern that is written so, or `None` where its text is empty or has a character
+    // that is not plain.
     pub(crate) fn read(alloc: Global, pattern: &str) -> Result<Option<Plain>, OutOfMemory>
         ensures { IfOk result (λ read. IfSome read (λ plain. written plain ≡ pattern.now)) }
     {
@@ -79,11 +79,12 @@ fn split_end(pattern: &str) -> (bool, &str)
     }
 }
 
-// Whether each character stands for itself.
+// Whether all its characters are plain.
 fn is_plain(text: &str) -> bool
     ensures { result ≡ list_all is_plain text.now }
 {
-    text.bytes().all(|byte| byte.is_ascii() && !is_operator(byte))
+    text.bytes()
+        .all(|byte| byte.is_ascii() && !is_operator(byte))
 }
 
 // Whether the character has a meaning of its own in a pattern.

@@ -7,7 +7,7 @@ use bmc_base::{OutOfMemory, Text};
 use std::alloc::Global;
 use std::marker::Model;
 
-/// Makes patterns with the `regex` crate, and keeps the texts of those that were too large for it.
+/// Makes patterns with the `regex` crate, and lists the texts that were too large for it.
 #[derive(Drop)]
 pub struct RegexMaker {
     refused: Vec<Text>,
@@ -43,7 +43,7 @@ impl RegexMaker {
     // Copies the text and makes room for it, so that a refusal takes no memory.
     pub(crate) fn room_for(&mut self, alloc: Global, text: &str) -> Result<Text, OutOfMemory>
         ensures copied { IfOk result (λ t. t ≡ text.now) }
-        ensures kept { self.new ≡ self.old }
+        ensures same { self.new ≡ self.old }
     {
         self.refused.reserve(1)?;
         Text::copy(alloc, text)

@@ -2,7 +2,7 @@ use Rattle.std.proofs.Common.{ap, ◌∙◌, ℕ, ◌<◌, is_some, subst}
 use Rattle.std.proofs.lemmas.List.{get_or_default}
 use Rattle.regex.specs.Patterns.{Re, find_str}
 use Rattle.pat_gate.proofs.Regexes.{source_match}
-use Rattle.pat_gate.proofs.compiled.is_match.Goals as goal
+use Rattle.pat_gate.proofs.form.is_match.Goals as goal
 
 pub returns : goal.returns
 returns c =
