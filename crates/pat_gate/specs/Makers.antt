@@ -43,7 +43,7 @@ pub record Listing : Type 0 where
 abbrev pub is_listed : List (List ℕ) → List ℕ → Bool
 is_listed texts text = list_any (λ other. pointwise nat_eq other text) texts
 
--- the text was too large, or there was no memory to keep it
+-- the text was too large, or there was no memory to list it
 abbrev pub IsRefusal : MakeFault → Type 0
 IsRefusal PatternSyntax = ⊥
 IsRefusal PatternTooLarge = ⊤
