@@ -6,5 +6,6 @@ use Rattle.pat_gate.proofs.compiled.Compiled.build.Goals as goal
 
 pub returns-in-Err-Syntax : goal.returns-in-Err-Syntax
 returns-in-Err-Syntax c =
-    let e = c.in-Err-Syntax.ensures in
-    refuses_bad _ _ (e.by_grammar c.in-Err-Syntax.field-0-0 c.in-Err-Syntax.field-0-is) (subst (IsRightKind default_config c.args.text.now) c.in-Err-Syntax.field-0-is e.kind)
+    let error = c.in-Err-Syntax in
+    let own = subst (IsRightKind default_config c.args.text.now) error.field-0-is error.ensures.kind in
+    refuses_bad _ _ (error.ensures.by_grammar error.field-0-0 error.field-0-is) own
