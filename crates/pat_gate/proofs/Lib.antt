@@ -1,0 +1,4 @@
+pub mod PlainReading
+pub mod PlainMatching
+pub mod PlainTests
+pub mod Regexes

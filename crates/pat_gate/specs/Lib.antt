@@ -1,0 +1,4 @@
+pub mod Grammar
+pub mod Plain
+pub mod Makers
+pub mod Forms
