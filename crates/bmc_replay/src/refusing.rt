@@ -1,4 +1,4 @@
-ghost use Rattle.std.specs.Prelude.{◌≡◌, Some, IfOk};
+ghost use Rattle.std.specs.Prelude.{◌≡◌, Some, None, IfOk, OnErr};
 ghost use Rattle.bmc_machine.specs.Refusals.{record_refusal, config_refusal};
 
 use bmc_base::OutOfMemory;
@@ -6,9 +6,10 @@ use bmc_report::Refusal;
 use cfg_json::ConfigFault;
 use fru_area::FruFault;
 
-/// The refusal by a rule that bytes break to be a record.
+/// The refusal by a rule that bytes break to be a record; want of memory is no rule.
 pub fn record_refused(rule: FruFault) -> Result<Refusal, OutOfMemory>
-    ensures { IfOk result (λ refusal. record_refusal rule ≡ Some refusal) }
+    ensures refusal { IfOk result (λ refusal. record_refusal rule ≡ Some refusal) }
+    ensures memory { OnErr result (record_refusal rule ≡ None) }
 {
     let refusal = match rule {
         FruFault::FruShort => Refusal::FruShort,
@@ -26,9 +27,10 @@ pub fn record_refused(rule: FruFault) -> Result<Refusal, OutOfMemory>
     Ok(refusal)
 }
 
-/// The refusal by a rule that a document breaks.
+/// The refusal by a rule that a document breaks; want of memory is no rule.
 pub fn config_refused(rule: ConfigFault) -> Result<Refusal, OutOfMemory>
-    ensures { IfOk result (λ refusal. config_refusal rule ≡ Some refusal) }
+    ensures refusal { IfOk result (λ refusal. config_refusal rule ≡ Some refusal) }
+    ensures memory { OnErr result (config_refusal rule ≡ None) }
 {
     let refusal = match rule {
         ConfigFault::NotJson => Refusal::NotJson,

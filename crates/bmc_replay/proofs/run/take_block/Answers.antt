@@ -12,4 +12,4 @@ returns-in-Ok c =
 
 pub returns-in_ok-refusal-in-Err : goal.returns-in_ok-refusal-in-Err
 returns-in_ok-refusal-in-Err c = broken_answers _ c.args.block.now _ c.in-Err.rule c.in_ok-refusal-in-Err.refusal c.in-Err.ensures
-    c.in_ok-refusal-in-Err.ensures
+    c.in_ok-refusal-in-Err.ensures.refusal

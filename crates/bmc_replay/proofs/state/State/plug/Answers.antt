@@ -63,4 +63,4 @@ returns-in-Err c =
     (broken_tries (view_of c.self.inside.configs c.self.inside.frus.entries c.self.inside.plugged c.self.inside.kept) c.args.place c.args.bytes
     (string_bytes c.args.text.now) c.in-Err.rule c.in_ok-refusal.refusal tt
     (sym c.if-has.ensures) (subst (λ (bytes : List ℕ). Err c.in-Err.rule ≡ checked
-    (record_of bytes)) c.as_slice.ensures c.in-Err.ensures) c.in_ok-refusal.ensures)
+    (record_of bytes)) c.as_slice.ensures c.in-Err.ensures) c.in_ok-refusal.ensures.refusal)
