@@ -1,7 +1,6 @@
-use crate::play::Part::{self, Config, Many, Text};
-use crate::play::{ALWAYS, Row, play, play_rows, script_of};
-use bmc_replay::Status::{self, Done, Refused};
-use std::fmt::Write;
+use crate::play::Part::{Config, Text};
+use crate::play::{ALWAYS, Row, play_rows};
+use bmc_replay::Status::{Done, Refused};
 use std::test::Fail;
 
 // Documents whose patterns match the board record.
@@ -166,33 +165,4 @@ fru 1 80$
 #[test]
 fn boards_come_and_go(rt: HostRuntime) -> Result<(), Fail> {
     play_rows(&rt, rt.alloc(), &SCRIPTS)
-}
-
-// A script in which a FRU that 256 configurations find comes, goes and comes again.
-const COMING: [Part; 4] = [
-    Many(256),
-    Text("plug 1 80 01000001000000FE010300000000C341434DC452535239C25331C0C0C10000ED\n"),
-    Text("unplug 1 80\n"),
-    Text("plug 1 80 01000001000000FE010300000000C341434DC452535239C25331C0C0C10000ED\n"),
-];
-
-#[test]
-fn many_boards_of_one_fru(rt: HostRuntime) -> Result<(), Fail> {
-    let script = script_of(rt.alloc(), &COMING)?;
-    let mut text = String::new(rt.alloc());
-    for change in ["new", "gone", "new"] {
-        for number in 1..=256 {
-            write!(text, "0 {change} board \"{number}\" 1 at 1 80\n")?;
-        }
-    }
-    let fields =
-        r#"BOARD_MANUFACTURER="ACM" BOARD_PRODUCT_NAME="RSR9" BOARD_SERIAL_NUMBER="S1" BOARD_PART_NUMBER="" BOARD_FRU_VERSION_ID="""#;
-    write!(text, "fru 1 80 {fields}\n")?;
-    play(
-        &rt,
-        rt.alloc(),
-        script.as_slice(),
-        Status::Done,
-        text.as_str(),
-    )
 }

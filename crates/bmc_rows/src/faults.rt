@@ -1,6 +1,6 @@
 use crate::play::Part::{self, Config, Text};
 use crate::play::{
-    ALWAYS, ALWAYS_BOARD, AMPLE, BOARD_FIELDS, NEVER, Outside, SOUND, filled, played, script_of,
+    ALWAYS, ALWAYS_BOARD, BOARD_FIELDS, NEVER, Outside, SOUND, filled, play_once, played, script_of,
 };
 use bmc_base::OutOfMemory;
 use bmc_replay::Status;
@@ -8,7 +8,7 @@ use std::alloc::Global;
 use std::test::Fail;
 
 // What makes the items of a script whole in turn, and what is printed of them. A block is whole with the byte behind it.
-const ITEMS: [(&[Part], &str); 13] = [
+const ITEMS: &[(&[Part], &str)] = &[
     (&[Text("unplug 1 80\n")], "line 1 refused NotPresent\n"),
     (&[Text("# comment\r\n")], ""),
     (&[Config(ALWAYS), Text("\n")], ALWAYS_BOARD),
@@ -24,144 +24,126 @@ const ITEMS: [(&[Part], &str); 13] = [
     (&[Text("plug 9 9 $\n")], ""),
 ];
 
-// The script of them, and all that is printed of it.
-fn whole(alloc: Global) -> Result<(Vec<u8>, String), OutOfMemory> {
+// A script, what is printed of it, and for each item how many bytes of the one make it whole and how many of the other
+// are printed then.
+#[derive(Drop)]
+struct Whole {
+    script: Vec<u8>,
+    text: String,
+    ends: Vec<(usize, usize)>,
+}
+
+// The script of items, at whose end a FRU is present at bus 9, address 9.
+fn whole_of(alloc: Global, items: &[(&[Part], &str)]) -> Result<Whole, OutOfMemory> {
     let mut script = Vec::new(alloc);
     let mut text = String::new(alloc);
-    for (parts, printed) in ITEMS {
+    let mut ends = Vec::new(alloc);
+    for (parts, printed) in items {
         script.extend_from_slice(script_of(alloc, parts)?.as_slice())?;
         text.push_str(printed)?;
+        ends.push((script.len(), text.len()))?;
     }
     text.push_str(filled(alloc, "fru 9 9$\n", BOARD_FIELDS)?.as_str())?;
-    Ok((script, text))
+    Ok(Whole { script, text, ends })
 }
 
-// How many bytes each of them has.
-fn sizes(alloc: Global) -> Result<Vec<usize>, OutOfMemory> {
-    let mut sizes = Vec::new(alloc);
-    for (parts, _) in ITEMS {
-        sizes.push(script_of(alloc, parts)?.len())?;
-    }
-    Ok(sizes)
-}
-
-// What is printed of the items that are whole in so many bytes.
-fn printed_of(alloc: Global, count: usize) -> Result<String, OutOfMemory> {
-    let mut left = count;
-    let mut text = String::new(alloc);
-    for (parts, printed) in ITEMS {
-        let size = script_of(alloc, parts)?.len();
-        if left < size {
-            break;
+// How many bytes are printed of the items that are whole in so many bytes of the script.
+fn printed_of(ends: &[(usize, usize)], given: usize) -> usize {
+    let mut printed = 0;
+    for (script, text) in ends {
+        if *script <= given {
+            printed = *text;
         }
-        left -= size;
-        text.push_str(printed)?;
     }
-    Ok(text)
-}
-
-// How many bytes a source has given before a call, by the sizes of its answers.
-fn given_before(pieces: &[usize], call: usize) -> usize {
-    let mut given: usize = 0;
-    for at in 0..call {
-        let size = pieces.get(at).or(pieces.last()).copied().unwrap_or(0);
-        given = given.saturating_add(size);
-    }
-    given
+    printed
 }
 
 #[test]
 fn failing_reads(rt: HostRuntime) -> Result<(), Fail> {
-    let (script, text) = whole(rt.alloc())?;
+    let Whole { script, text, ends } = whole_of(rt.alloc(), ITEMS)?;
     let script = script.as_slice();
-    let sizes = sizes(rt.alloc())?;
-    for pieces in [[1].as_slice(), &[7], &[64], sizes.as_slice()] {
-        for call in 0..=script.len() {
+    for gives in [1, 7, 64] {
+        // the last call gives the end
+        for call in 0..=script.len().div_ceil(gives) {
             let outside = Outside {
+                gives,
                 read_fail: call as u64,
                 ..SOUND
             };
-            let (status, taken) = played(&rt, rt.alloc(), script, pieces, outside)?;
-            let given = given_before(pieces, call);
-            let printed = printed_of(rt.alloc(), given)?;
-            assert_eq!(rt; status, Status::ReadFault, "call {call} of {pieces:?}");
-            assert_eq!(rt;
-                taken.as_slice(),
-                printed.as_bytes(),
-                "call {call} of {pieces:?}"
-            );
-            // the call behind the last bytes is the last that is made
-            if given >= script.len() {
-                break;
-            }
+            let printed = printed_of(ends.as_slice(), call.saturating_mul(gives));
+            let text = text.as_bytes().get(..printed).unwrap_or(b"");
+            play_once(&rt, rt.alloc(), script, outside, Status::ReadFault, text)?;
         }
     }
     // the end is given once
     let outside = Outside {
+        gives: 1,
         read_fail: script.len() as u64 + 1,
         ..SOUND
     };
-    let (status, taken) = played(&rt, rt.alloc(), script, &[1], outside)?;
-    assert_eq!(rt; status, Status::Refused);
-    assert_eq!(rt; taken.as_slice(), text.as_bytes());
-    Ok(())
+    play_once(
+        &rt,
+        rt.alloc(),
+        script,
+        outside,
+        Status::Refused,
+        text.as_bytes(),
+    )
 }
 
 #[test]
 fn failing_writes(rt: HostRuntime) -> Result<(), Fail> {
-    let (script, text) = whole(rt.alloc())?;
-    let text = text.as_bytes();
+    let Whole { script, text, .. } = whole_of(rt.alloc(), ITEMS)?;
+    let (script, text) = (script.as_slice(), text.as_bytes());
     for count in 0..=text.len() {
-        // a sink that takes a byte a call and fails at that call, and sinks with room for so many bytes
-        let by_byte = Outside {
-            piece: 1,
-            write_fail: count as u64,
-            ..SOUND
-        };
-        let in_pieces = Outside {
-            piece: 7,
-            room: count,
-            ..SOUND
-        };
-        let in_whole = Outside {
-            room: count,
-            ..SOUND
-        };
-        let wanted = if count == text.len() {
+        let status = if count == text.len() {
             Status::Refused
         } else {
             Status::WriteFault
         };
-        for outside in [by_byte, in_pieces, in_whole] {
-            for size in [AMPLE, 1] {
-                let (status, taken) = played(&rt, rt.alloc(), script.as_slice(), &[size], outside)?;
-                assert_eq!(rt; status, wanted, "{count} bytes");
-                assert_eq!(rt; taken.as_slice(), &text[..count], "{count} bytes");
-            }
+        let call = count as u64;
+        // a sink that takes a byte a call and fails at this call, and sinks with room for so many bytes
+        let outsides = [
+            Outside {
+                takes: 1,
+                write_fail: call,
+                ..SOUND
+            },
+            Outside {
+                gives: 1,
+                takes: 1,
+                write_fail: call,
+                ..SOUND
+            },
+            Outside {
+                takes: 7,
+                room: count,
+                ..SOUND
+            },
+            Outside {
+                gives: 1,
+                room: count,
+                ..SOUND
+            },
+        ];
+        for outside in outsides {
+            play_once(&rt, rt.alloc(), script, outside, status, &text[..count])?;
         }
-    }
-    Ok(())
-}
-
-#[test]
-fn failing_writes_of_pieces(rt: HostRuntime) -> Result<(), Fail> {
-    let (script, text) = whole(rt.alloc())?;
-    let text = text.as_bytes();
-    for call in 0..=text.len() {
+        // a sink that takes more a call has a front
         let outside = Outside {
-            piece: 7,
-            write_fail: call as u64,
+            gives: 7,
+            takes: 7,
+            write_fail: call,
             ..SOUND
         };
-        let (status, taken) = played(&rt, rt.alloc(), script.as_slice(), &[7], outside)?;
-        let is_whole = taken.as_slice() == text;
-        let wanted = if is_whole {
+        let (ended, taken) = played(&rt, rt.alloc(), script, outside)?;
+        let status = if taken.len() == text.len() {
             Status::Refused
         } else {
             Status::WriteFault
         };
-        assert_eq!(rt; status, wanted, "call {call}");
         assert!(rt; text.starts_with(taken.as_slice()), "call {call}");
+        assert_eq!(rt; ended, status, "call {call}");
     }
     Ok(())
 }
@@ -195,19 +177,21 @@ const FIRST_FAULTS: [(u64, u64, Status, &str); 7] = [
 
 #[test]
 fn the_first_fault_ends_the_run(rt: HostRuntime) -> Result<(), Fail> {
-    for (read_fail, write_fail, wanted, text) in FIRST_FAULTS {
+    for (read_fail, write_fail, status, text) in FIRST_FAULTS {
         let outside = Outside {
+            gives: 5,
             read_fail,
             write_fail,
             ..SOUND
         };
-        let (status, taken) = played(&rt, rt.alloc(), b"jump\njump\n", &[5], outside)?;
-        assert_eq!(rt; status, wanted, "calls {read_fail} and {write_fail}");
-        assert_eq!(rt;
-            taken.as_slice(),
+        play_once(
+            &rt,
+            rt.alloc(),
+            b"jump\njump\n",
+            outside,
+            status,
             text.as_bytes(),
-            "calls {read_fail} and {write_fail}"
-        );
+        )?;
     }
     Ok(())
 }

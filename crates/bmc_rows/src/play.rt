@@ -50,26 +50,40 @@ pub enum Part {
 /// A script, how its run ends, and what is printed, where `$` stands for the fields of the board record.
 pub type Row = (&'static [Part], Status, &'static str);
 
-/// How the outside of a run behaves: the call of the source that fails, what the sink takes in a call and in all, and
-/// its call that fails.
-#[derive(Clone, Copy)]
+/// How the outside of a run behaves: how many bytes the source gives in a call, and the call of it that fails; how many
+/// the sink takes in a call and in all, and the call of it that fails.
+#[derive(Clone, Copy, Debug)]
 pub struct Outside {
+    pub gives: usize,
     pub read_fail: u64,
-    pub piece: usize,
+    pub takes: usize,
     pub room: usize,
     pub write_fail: u64,
 }
 
-/// An outside that does not fail, and takes all in whole.
+/// An outside that does not fail, and gives and takes all in whole.
 pub const SOUND: Outside = Outside {
+    gives: AMPLE,
     read_fail: NEVER,
-    piece: AMPLE,
+    takes: AMPLE,
     room: AMPLE,
     write_fail: NEVER,
 };
 
-// How many bytes the source gives and the sink takes in a call.
-const PIECES: [(usize, usize); 3] = [(AMPLE, AMPLE), (1, 7), (7, 1)];
+// Outsides that do not fail.
+const SOUND_ONES: [Outside; 3] = [
+    SOUND,
+    Outside {
+        gives: 1,
+        takes: 7,
+        ..SOUND
+    },
+    Outside {
+        gives: 7,
+        takes: 1,
+        ..SOUND
+    },
+];
 
 /// Returns a text with `filling` for each dollar sign.
 pub fn filled(alloc: Global, text: &str, filling: &str) -> Result<String, OutOfMemory> {
@@ -145,24 +159,45 @@ pub fn script_of(alloc: Global, parts: &[Part]) -> Result<Vec<u8>, OutOfMemory> 
     Ok(script)
 }
 
-/// Plays a script that the source gives in pieces of these sizes, and returns the status and what the sink took.
+/// Plays a script, and returns the status and what the sink took.
 pub fn played<R: Abort>(
     rt: &R,
     alloc: Global,
     script: &[u8],
-    pieces: &[usize],
     outside: Outside,
 ) -> Result<(Status, Vec<u8>), OutOfMemory> {
+    assert!(rt; outside.takes > 0);
+    let pieces = [outside.gives];
     assert!(rt; pieces.iter().all(|size| *size > 0));
-    assert!(rt; outside.piece > 0);
-    let mut source = MemSource::new(alloc, script, pieces, &[outside.read_fail])?;
-    let mut sink = MemSink::new(alloc, outside.piece, outside.room, &[outside.write_fail])?;
+    let mut source = MemSource::new(alloc, script, &pieces, &[outside.read_fail])?;
+    let mut sink = MemSink::new(alloc, outside.takes, outside.room, &[outside.write_fail])?;
     let status = replay(alloc, &mut source, &mut sink);
     let text = Vec::from_slice(alloc, sink.bytes())?;
     Ok((status, text))
 }
 
-/// Plays a script whole and in small pieces, and asserts how its run ends and what is printed.
+/// Plays a script, and asserts how its run ends and what the sink took.
+pub fn play_once<R: Abort>(
+    rt: &R,
+    alloc: Global,
+    script: &[u8],
+    outside: Outside,
+    status: Status,
+    text: &[u8],
+) -> Result<(), Fail> {
+    let (ended, taken) = played(rt, alloc, script, outside)?;
+    // what a failure shows: the front of the script, and the texts
+    let head = str::from_utf8(&script[..script.len().min(200)]);
+    let (given, wanted) = (str::from_utf8(taken.as_slice()), str::from_utf8(text));
+    assert!(rt;
+        taken.as_slice() == text,
+        "{head:?} gives {given:?}, and not {wanted:?}, over {outside:?}"
+    );
+    assert_eq!(rt; ended, status, "{head:?} over {outside:?}");
+    Ok(())
+}
+
+/// Plays a script over each outside that does not fail, and asserts how its run ends and what is printed.
 pub fn play<R: Abort>(
     rt: &R,
     alloc: Global,
@@ -170,20 +205,8 @@ pub fn play<R: Abort>(
     status: Status,
     text: &str,
 ) -> Result<(), Fail> {
-    // What a failure shows of the script.
-    let head = str::from_utf8(&script[..script.len().min(200)]);
-    for (given, taken) in PIECES {
-        let outside = Outside {
-            piece: taken,
-            ..SOUND
-        };
-        let (ended, printed) = played(rt, alloc, script, &[given], outside)?;
-        assert_eq!(rt;
-            str::from_utf8(printed.as_slice()),
-            Ok(text),
-            "in pieces of {given}"
-        );
-        assert_eq!(rt; ended, status, "{head:?} in pieces of {given}");
+    for outside in SOUND_ONES {
+        play_once(rt, alloc, script, outside, status, text.as_bytes())?;
     }
     Ok(())
 }

@@ -1,295 +1,290 @@
-use crate::play::{BOARD_RECORD, play};
-use bmc_base::OutOfMemory;
-use bmc_replay::Status;
-use std::alloc::Global;
-use std::fmt::Write;
+use crate::play::Part::Text;
+use crate::play::{Row, play_parts, play_rows};
+use bmc_replay::Status::{Done, Refused};
 use std::test::Fail;
 
-// Fields in the order of their record, each with its text as it is printed.
-type Fields = &'static [(&'static str, &'static str)];
-
-// Those of the board record.
-const BOARD: Fields = &[
-    ("BOARD_MANUFACTURER", "ACM"),
-    ("BOARD_PRODUCT_NAME", "RSR1"),
-    ("BOARD_SERIAL_NUMBER", "S1"),
-    ("BOARD_PART_NUMBER", ""),
-    ("BOARD_FRU_VERSION_ID", ""),
-];
-
-// Records, and their fields.
-const LISTED: [(&str, Fields); 20] = [
-    (BOARD_RECORD, BOARD),
+// Records, and their rows.
+const LISTED: [Row; 20] = [
+    (&[Text("plug 0 127 $")], Done, "fru 0 127$\n"),
     // bytes behind the area
     (
-        "01000001000000FE010300000000C341434DC452535231C25331C0C0C10000F5AB",
-        BOARD,
+        &[Text("plug 0 127 01000001000000FE010300000000C341434DC452535231C25331C0C0C10000F5AB")],
+        Done,
+        "fru 0 127$\n",
     ),
     // an area that does not begin behind the header
     (
-        "01000002000000FDFFFFFFFFFFFFFFFF010300000000C341434DC452535231C25331C0C0C10000F5",
-        BOARD,
+        &[Text(
+            "plug 0 127 01000002000000FDFFFFFFFFFFFFFFFF010300000000C341434DC452535231C25331C0C0C10000F5",
+        )],
+        Done,
+        "fru 0 127$\n",
     ),
     // no area, with bytes behind the header and without
-    ("01000000000000FF", &[]),
+    (&[Text("plug 0 127 01000000000000FF")], Done, "fru 0 127\n"),
     (
-        "01000000000000FF010300000000C341434DC452535231C25331C0C0C10000F5",
-        &[],
+        &[Text("plug 0 127 01000000000000FF010300000000C341434DC452535231C25331C0C0C10000F5")],
+        Done,
+        "fru 0 127\n",
     ),
     // no field
-    ("01000001000000FE010100000000C13D", &[]),
+    (
+        &[Text("plug 0 127 01000001000000FE010100000000C13D")],
+        Done,
+        "fru 0 127\n",
+    ),
     // each type of field: in the chassis area, in a board area of language 25, and in a product area of language 1
     (
-        "01000104090000F1010317020AFF4212AB42CDEF8329DCA6C4436166E9C10037\
+        &[Text(
+            "plug 0 127 01000104090000F1010317020AFF4212AB42CDEF8329DCA6C4436166E9C10037\
         01051920050803001FFF480123456789ABCDEF85EEDC481205C3FF807E8141824142C10000000095\
         010501010A42DEF08340F0EBC41753E900C43DD800DEC63DD8410000DEC3410042C1000000000071",
-        &[
-            ("CHASSIS_TYPE", "23"),
-            ("CHASSIS_PART_NUMBER", "0aff"),
-            ("CHASSIS_SERIAL_NUMBER", "12 -"),
-            ("CHASSIS_INFO_AM1", ".:,_"),
-            ("CHASSIS_INFO_AM2", "IPMI"),
-            ("CHASSIS_INFO_AM3", "Caf\u{e9}"),
-            ("BOARD_MANUFACTURE_DATE", "1996-12-31 00:00"),
-            ("BOARD_MANUFACTURER", "001fff"),
-            ("BOARD_PRODUCT_NAME", "0123456789 -.:,_"),
-            ("BOARD_SERIAL_NUMBER", "NS-224"),
-            ("BOARD_PART_NUMBER", "\u{ff}\u{80}~"),
-            ("BOARD_FRU_VERSION_ID", "!"),
-            ("BOARD_INFO_AM1", "!)"),
-            ("PRODUCT_MANUFACTURER", "0a"),
-            ("PRODUCT_PRODUCT_NAME", ":,_0"),
-            ("PRODUCT_PART_NUMBER", " !_Z"),
-            ("PRODUCT_VERSION", "\u{5317}\u{e9}"),
-            ("PRODUCT_SERIAL_NUMBER", "\u{1f600}"),
-            ("PRODUCT_ASSET_TAG", "\u{fffd}A\u{fffd}"),
-            ("PRODUCT_FRU_VERSION_ID", "A\u{fffd}"),
-        ],
+        )],
+        Done,
+        "fru 0 127 CHASSIS_TYPE=\"23\" CHASSIS_PART_NUMBER=\"0aff\" CHASSIS_SERIAL_NUMBER=\"12 -\" \
+        CHASSIS_INFO_AM1=\".:,_\" CHASSIS_INFO_AM2=\"IPMI\" CHASSIS_INFO_AM3=\"Caf\u{e9}\" \
+        BOARD_MANUFACTURE_DATE=\"1996-12-31 00:00\" BOARD_MANUFACTURER=\"001fff\" \
+        BOARD_PRODUCT_NAME=\"0123456789 -.:,_\" BOARD_SERIAL_NUMBER=\"NS-224\" \
+        BOARD_PART_NUMBER=\"\u{ff}\u{80}~\" BOARD_FRU_VERSION_ID=\"!\" BOARD_INFO_AM1=\"!)\" \
+        PRODUCT_MANUFACTURER=\"0a\" PRODUCT_PRODUCT_NAME=\":,_0\" PRODUCT_PART_NUMBER=\" !_Z\" \
+        PRODUCT_VERSION=\"\u{5317}\u{e9}\" PRODUCT_SERIAL_NUMBER=\"\u{1f600}\" \
+        PRODUCT_ASSET_TAG=\"\u{fffd}A\u{fffd}\" PRODUCT_FRU_VERSION_ID=\"A\u{fffd}\"\n",
     ),
     // 6-bit ASCII and BCD plus behind a date
     (
-        "01000001000000FE0103002005088329DCA643ABCDEFC0C0C0C10000000000F6",
-        &[
-            ("BOARD_MANUFACTURE_DATE", "1996-12-31 00:00"),
-            ("BOARD_MANUFACTURER", "IPMI"),
-            ("BOARD_PRODUCT_NAME", " -.:,_"),
-            ("BOARD_SERIAL_NUMBER", ""),
-            ("BOARD_PART_NUMBER", ""),
-            ("BOARD_FRU_VERSION_ID", ""),
-        ],
+        &[Text("plug 0 127 01000001000000FE0103002005088329DCA643ABCDEFC0C0C0C10000000000F6")],
+        Done,
+        "fru 0 127 BOARD_MANUFACTURE_DATE=\"1996-12-31 00:00\" BOARD_MANUFACTURER=\"IPMI\" \
+        BOARD_PRODUCT_NAME=\" -.:,_\" BOARD_SERIAL_NUMBER=\"\" BOARD_PART_NUMBER=\"\" \
+        BOARD_FRU_VERSION_ID=\"\"\n",
     ),
     // language 25, Latin 1, each escape, and custom fields
     (
-        "01000001000000FE010519000000C7436166E920FF80C56122625C63C4001F7F0AC27E20C23D3DC36F6E65C0C1000091",
-        &[
-            ("BOARD_MANUFACTURER", "Caf\u{e9} \u{ff}\u{80}"),
-            ("BOARD_PRODUCT_NAME", "a\\\"b\\\\c"),
-            ("BOARD_SERIAL_NUMBER", "\\x00\\x1f\\x7f\\x0a"),
-            ("BOARD_PART_NUMBER", "~ "),
-            ("BOARD_FRU_VERSION_ID", "=="),
-            ("BOARD_INFO_AM1", "one"),
-            ("BOARD_INFO_AM2", ""),
-        ],
+        &[Text(
+            "plug 0 127 01000001000000FE010519000000C7436166E920FF80C56122625C63C4001F7F0AC27E20C23D3DC36F6E65C0C1000091",
+        )],
+        Done,
+        "fru 0 127 BOARD_MANUFACTURER=\"Caf\u{e9} \u{ff}\u{80}\" BOARD_PRODUCT_NAME=\"a\\\"b\\\\c\" \
+        BOARD_SERIAL_NUMBER=\"\\x00\\x1f\\x7f\\x0a\" BOARD_PART_NUMBER=\"~ \" BOARD_FRU_VERSION_ID=\"==\" \
+        BOARD_INFO_AM1=\"one\" BOARD_INFO_AM2=\"\"\n",
     ),
     // language 1, with an odd byte
     (
-        "01000001000000FE010301000000C341434DC452535231C25331C0C0C10000F4",
-        &[
-            ("BOARD_MANUFACTURER", "\u{4341}\u{fffd}"),
-            ("BOARD_PRODUCT_NAME", "\u{5352}\u{3152}"),
-            ("BOARD_SERIAL_NUMBER", "\u{3153}"),
-            ("BOARD_PART_NUMBER", ""),
-            ("BOARD_FRU_VERSION_ID", ""),
-        ],
+        &[Text("plug 0 127 01000001000000FE010301000000C341434DC452535231C25331C0C0C10000F4")],
+        Done,
+        "fru 0 127 BOARD_MANUFACTURER=\"\u{4341}\u{fffd}\" BOARD_PRODUCT_NAME=\"\u{5352}\u{3152}\" \
+        BOARD_SERIAL_NUMBER=\"\u{3153}\" BOARD_PART_NUMBER=\"\" BOARD_FRU_VERSION_ID=\"\"\n",
     ),
     // binary, and custom fields in BCD plus and in 6-bit ASCII
     (
-        "01000001000000FE0103000000000341434DC452535231C25331C0C0C10000B5",
-        &[
-            ("BOARD_MANUFACTURER", "41434d"),
-            ("BOARD_PRODUCT_NAME", "RSR1"),
-            ("BOARD_SERIAL_NUMBER", "S1"),
-            ("BOARD_PART_NUMBER", ""),
-            ("BOARD_FRU_VERSION_ID", ""),
-        ],
+        &[Text("plug 0 127 01000001000000FE0103000000000341434DC452535231C25331C0C0C10000B5")],
+        Done,
+        "fru 0 127 BOARD_MANUFACTURER=\"41434d\" BOARD_PRODUCT_NAME=\"RSR1\" BOARD_SERIAL_NUMBER=\"S1\" \
+        BOARD_PART_NUMBER=\"\" BOARD_FRU_VERSION_ID=\"\"\n",
     ),
     (
-        "01000001000000FE010400000000C341434DC452535231C25331C0C0423132C1000000000000004F",
-        &[
-            ("BOARD_MANUFACTURER", "ACM"),
-            ("BOARD_PRODUCT_NAME", "RSR1"),
-            ("BOARD_SERIAL_NUMBER", "S1"),
-            ("BOARD_PART_NUMBER", ""),
-            ("BOARD_FRU_VERSION_ID", ""),
-            ("BOARD_INFO_AM1", "3132"),
-        ],
+        &[Text(
+            "plug 0 127 01000001000000FE010400000000C341434DC452535231C25331C0C0423132C1000000000000004F",
+        )],
+        Done,
+        "fru 0 127 BOARD_MANUFACTURER=\"ACM\" BOARD_PRODUCT_NAME=\"RSR1\" BOARD_SERIAL_NUMBER=\"S1\" \
+        BOARD_PART_NUMBER=\"\" BOARD_FRU_VERSION_ID=\"\" BOARD_INFO_AM1=\"3132\"\n",
     ),
     (
-        "01000001000000FE010400000000C341434DC452535231C25331C0C083616263C10000000000004B",
-        &[
-            ("BOARD_MANUFACTURER", "ACM"),
-            ("BOARD_PRODUCT_NAME", "RSR1"),
-            ("BOARD_SERIAL_NUMBER", "S1"),
-            ("BOARD_PART_NUMBER", ""),
-            ("BOARD_FRU_VERSION_ID", ""),
-            ("BOARD_INFO_AM1", "A)V8"),
-        ],
+        &[Text(
+            "plug 0 127 01000001000000FE010400000000C341434DC452535231C25331C0C083616263C10000000000004B",
+        )],
+        Done,
+        "fru 0 127 BOARD_MANUFACTURER=\"ACM\" BOARD_PRODUCT_NAME=\"RSR1\" BOARD_SERIAL_NUMBER=\"S1\" \
+        BOARD_PART_NUMBER=\"\" BOARD_FRU_VERSION_ID=\"\" BOARD_INFO_AM1=\"A)V8\"\n",
     ),
     // dates: minute 1, minute 65,536, the last minute of two leap days, and the last minute of all; minute 0 stands above
     (
-        "01000001000000FE010100010000C13C",
-        &[("BOARD_MANUFACTURE_DATE", "1996-01-01 00:01")],
+        &[Text("plug 0 127 01000001000000FE010100010000C13C")],
+        Done,
+        "fru 0 127 BOARD_MANUFACTURE_DATE=\"1996-01-01 00:01\"\n",
     ),
     (
-        "01000001000000FE010300000001C341434DC452535231C25331C0C0C10000F4",
-        &[
-            ("BOARD_MANUFACTURE_DATE", "1996-02-15 12:16"),
-            ("BOARD_MANUFACTURER", "ACM"),
-            ("BOARD_PRODUCT_NAME", "RSR1"),
-            ("BOARD_SERIAL_NUMBER", "S1"),
-            ("BOARD_PART_NUMBER", ""),
-            ("BOARD_FRU_VERSION_ID", ""),
-        ],
+        &[Text("plug 0 127 01000001000000FE010300000001C341434DC452535231C25331C0C0C10000F4")],
+        Done,
+        "fru 0 127 BOARD_MANUFACTURE_DATE=\"1996-02-15 12:16\" BOARD_MANUFACTURER=\"ACM\" \
+        BOARD_PRODUCT_NAME=\"RSR1\" BOARD_SERIAL_NUMBER=\"S1\" BOARD_PART_NUMBER=\"\" \
+        BOARD_FRU_VERSION_ID=\"\"\n",
     ),
     (
-        "01000001000000FE0101007F5101C16C",
-        &[("BOARD_MANUFACTURE_DATE", "1996-02-29 23:59")],
+        &[Text("plug 0 127 01000001000000FE0101007F5101C16C")],
+        Done,
+        "fru 0 127 BOARD_MANUFACTURE_DATE=\"1996-02-29 23:59\"\n",
     ),
     (
-        "01000001000000FE0101009F6B21C112",
-        &[("BOARD_MANUFACTURE_DATE", "2000-02-29 23:59")],
+        &[Text("plug 0 127 01000001000000FE0101009F6B21C112")],
+        Done,
+        "fru 0 127 BOARD_MANUFACTURE_DATE=\"2000-02-29 23:59\"\n",
     ),
     (
-        "01000001000000FE010100FFFFFFC140",
-        &[("BOARD_MANUFACTURE_DATE", "2027-11-24 20:15")],
+        &[Text("plug 0 127 01000001000000FE010100FFFFFFC140")],
+        Done,
+        "fru 0 127 BOARD_MANUFACTURE_DATE=\"2027-11-24 20:15\"\n",
     ),
     // a chassis area with a custom field
     (
-        "01000100000000FE010217C25031C25332C25831C1000050",
-        &[
-            ("CHASSIS_TYPE", "23"),
-            ("CHASSIS_PART_NUMBER", "P1"),
-            ("CHASSIS_SERIAL_NUMBER", "S2"),
-            ("CHASSIS_INFO_AM1", "X1"),
-        ],
+        &[Text("plug 0 127 01000100000000FE010217C25031C25332C25831C1000050")],
+        Done,
+        "fru 0 127 CHASSIS_TYPE=\"23\" CHASSIS_PART_NUMBER=\"P1\" CHASSIS_SERIAL_NUMBER=\"S2\" \
+        CHASSIS_INFO_AM1=\"X1\"\n",
     ),
     // a product area without fields behind a board area
     (
-        "01000001040000FA010300000000C341434DC452535231C25331C0C0C10000F5010100C10000003D",
-        BOARD,
+        &[Text(
+            "plug 0 127 01000001040000FA010300000000C341434DC452535231C25331C0C0C10000F5010100C10000003D",
+        )],
+        Done,
+        "fru 0 127$\n",
     ),
 ];
 
-// The row of a FRU with these fields.
-fn row_of(alloc: Global, fields: Fields) -> Result<String, OutOfMemory> {
-    let mut row = String::from_str(alloc, "fru 0 127")?;
-    for (name, value) in fields {
-        write!(row, " {name}=\"{value}\"")?;
-    }
-    row.push('\n')?;
-    Ok(row)
-}
-
-#[test]
-fn listed_records(rt: HostRuntime) -> Result<(), Fail> {
-    for (record, fields) in LISTED {
-        let script = format!(in rt.alloc(); "plug 0 127 {record}")?;
-        let text = row_of(rt.alloc(), fields)?;
-        play(
-            &rt,
-            rt.alloc(),
-            script.as_bytes(),
-            Status::Done,
-            text.as_str(),
-        )?;
-    }
-    Ok(())
-}
-
-// Bytes that are no record, and the first rule that they break.
-const BROKEN: [(&str, &str); 28] = [
-    ("01000001000000", "FruShort"),
+// Bytes that are no record, each plugged in a script by itself, and the first rule that they break.
+const BROKEN: [Row; 24] = [
     (
-        "02000001000000FD010300000000C341434DC452535231C25331C0C0C10000F5",
-        "HeaderVersion",
+        &[Text("plug 1 80 01000001000000")],
+        Refused,
+        "line 1 refused FruShort\n",
     ),
-    // the version and the sum
+    // alone, and with a wrong sum
     (
-        "02000001000000FE010300000000C341434DC452535231C25331C0C0C10000F5",
-        "HeaderVersion",
+        &[
+            Text("plug 1 80 02000001000000FD010300000000C341434DC452535231C25331C0C0C10000F5"),
+            Text("plug 1 80 02000001000000FE010300000000C341434DC452535231C25331C0C0C10000F5"),
+        ],
+        Refused,
+        "line 1 refused HeaderVersion\n",
     ),
     (
-        "01000001000000FF010300000000C341434DC452535231C25331C0C0C10000F5",
-        "HeaderChecksum",
+        &[Text("plug 1 80 01000001000000FF010300000000C341434DC452535231C25331C0C0C10000F5")],
+        Refused,
+        "line 1 refused HeaderChecksum\n",
     ),
     // a header alone, an area of less than 8 bytes, and one that lacks its last byte
-    ("01000001000000FE", "AreaOutside Board"),
-    ("01000001000000FE010100000000C1", "AreaOutside Board"),
     (
-        "01000001000000FE010300000000C341434DC452535231C25331C0C0C10000",
-        "AreaOutside Board",
-    ),
-    (
-        "01000001000000FE010300000000C341434DC452535231C2",
-        "AreaOutside Board",
+        &[
+            Text("plug 1 80 01000001000000FE"),
+            Text("plug 1 80 01000001000000FE010100000000C1"),
+            Text("plug 1 80 01000001000000FE010300000000C341434DC452535231C25331C0C0C10000"),
+            Text("plug 1 80 01000001000000FE010300000000C341434DC452535231C2"),
+        ],
+        Refused,
+        "line 1 refused AreaOutside Board\n",
     ),
     // each rule of an area, in each area
-    ("01000100000000FE010217C100000026", "AreaOutside Chassis"),
-    ("01000100000000FE020117C100000025", "AreaVersion Chassis"),
-    ("01000100000000FE010017C100000027", "AreaLength Chassis"),
-    ("01000100000000FE010117C100000027", "AreaChecksum Chassis"),
-    ("01000100000000FE010117C441414160", "FieldOutside Chassis"),
-    ("01000100000000FE010117C0C0C0C0E7", "NoEnd Chassis"),
     (
-        "01000001000000FE020300000000C341434DC452535231C25331C0C0C10000F4",
-        "AreaVersion Board",
+        &[Text("plug 1 80 01000100000000FE010217C100000026")],
+        Refused,
+        "line 1 refused AreaOutside Chassis\n",
     ),
     (
-        "01000001000000FE010000000000C341434DC452535231C25331C0C0C10000F8",
-        "AreaLength Board",
+        &[Text("plug 1 80 01000100000000FE020117C100000025")],
+        Refused,
+        "line 1 refused AreaVersion Chassis\n",
     ),
     (
-        "01000001000000FE010300000000C341434DC452535231C25331C0C0C10000F4",
-        "AreaChecksum Board",
+        &[Text("plug 1 80 01000100000000FE010017C100000027")],
+        Refused,
+        "line 1 refused AreaLength Chassis\n",
     ),
-    ("01000001000000FE010100000000C33B", "FieldOutside Board"),
     (
-        "01000001000000FE010200000000C341434DC4525352317D",
-        "NoEnd Board",
+        &[Text("plug 1 80 01000100000000FE010117C100000027")],
+        Refused,
+        "line 1 refused AreaChecksum Chassis\n",
     ),
-    ("01000000010000FE010200C10000003D", "AreaOutside Product"),
-    ("01000000010000FE020100C10000003C", "AreaVersion Product"),
-    ("01000000010000FE010000C10000003E", "AreaLength Product"),
-    ("01000000010000FE010100C10000003E", "AreaChecksum Product"),
-    ("01000000010000FE010100C441414177", "FieldOutside Product"),
-    ("01000000010000FE010100C0C0C0C0FE", "NoEnd Product"),
+    (
+        &[Text("plug 1 80 01000100000000FE010117C441414160")],
+        Refused,
+        "line 1 refused FieldOutside Chassis\n",
+    ),
+    (
+        &[Text("plug 1 80 01000100000000FE010117C0C0C0C0E7")],
+        Refused,
+        "line 1 refused NoEnd Chassis\n",
+    ),
+    (
+        &[Text("plug 1 80 01000001000000FE020300000000C341434DC452535231C25331C0C0C10000F4")],
+        Refused,
+        "line 1 refused AreaVersion Board\n",
+    ),
+    (
+        &[Text("plug 1 80 01000001000000FE010000000000C341434DC452535231C25331C0C0C10000F8")],
+        Refused,
+        "line 1 refused AreaLength Board\n",
+    ),
+    (
+        &[Text("plug 1 80 01000001000000FE010300000000C341434DC452535231C25331C0C0C10000F4")],
+        Refused,
+        "line 1 refused AreaChecksum Board\n",
+    ),
+    (
+        &[Text("plug 1 80 01000001000000FE010100000000C33B")],
+        Refused,
+        "line 1 refused FieldOutside Board\n",
+    ),
+    (
+        &[Text("plug 1 80 01000001000000FE010200000000C341434DC4525352317D")],
+        Refused,
+        "line 1 refused NoEnd Board\n",
+    ),
+    (
+        &[Text("plug 1 80 01000000010000FE010200C10000003D")],
+        Refused,
+        "line 1 refused AreaOutside Product\n",
+    ),
+    (
+        &[Text("plug 1 80 01000000010000FE020100C10000003C")],
+        Refused,
+        "line 1 refused AreaVersion Product\n",
+    ),
+    (
+        &[Text("plug 1 80 01000000010000FE010000C10000003E")],
+        Refused,
+        "line 1 refused AreaLength Product\n",
+    ),
+    (
+        &[Text("plug 1 80 01000000010000FE010100C10000003E")],
+        Refused,
+        "line 1 refused AreaChecksum Product\n",
+    ),
+    (
+        &[Text("plug 1 80 01000000010000FE010100C441414177")],
+        Refused,
+        "line 1 refused FieldOutside Product\n",
+    ),
+    (
+        &[Text("plug 1 80 01000000010000FE010100C0C0C0C0FE")],
+        Refused,
+        "line 1 refused NoEnd Product\n",
+    ),
     // the chassis area first, then the board area, then the product area
     (
-        "01000201000000FC010300000000C341434DC452535231C25331C0C0C10000F5",
-        "AreaOutside Chassis",
+        &[Text("plug 1 80 01000201000000FC010300000000C341434DC452535231C25331C0C0C10000F5")],
+        Refused,
+        "line 1 refused AreaOutside Chassis\n",
     ),
     (
-        "01000001040000FA010300000000C341434DC452535231C25331C0C0C10000F5010100C10000003E",
-        "AreaChecksum Product",
+        &[Text(
+            "plug 1 80 01000001040000FA010300000000C341434DC452535231C25331C0C0C10000F5010100C10000003E",
+        )],
+        Refused,
+        "line 1 refused AreaChecksum Product\n",
     ),
     (
-        "01000001040000FA010300000000C341434DC452535231C25331C0C0C10000F6010100C10000003E",
-        "AreaChecksum Board",
+        &[Text(
+            "plug 1 80 01000001040000FA010300000000C341434DC452535231C25331C0C0C10000F6010100C10000003E",
+        )],
+        Refused,
+        "line 1 refused AreaChecksum Board\n",
     ),
 ];
 
 #[test]
-fn broken_records(rt: HostRuntime) -> Result<(), Fail> {
-    for (record, rule) in BROKEN {
-        let script = format!(in rt.alloc(); "plug 1 80 {record}\n")?;
-        let text = format!(in rt.alloc(); "line 1 refused {rule}\n")?;
-        play(
-            &rt,
-            rt.alloc(),
-            script.as_bytes(),
-            Status::Refused,
-            text.as_str(),
-        )?;
-    }
-    Ok(())
+fn records(rt: HostRuntime) -> Result<(), Fail> {
+    play_rows(&rt, rt.alloc(), &LISTED)?;
+    play_parts(&rt, rt.alloc(), &BROKEN)
 }

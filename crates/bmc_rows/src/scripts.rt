@@ -1,8 +1,19 @@
-use crate::play::Part::{self, Config, Many, Text, Times};
+use crate::play::Part::{Config, Many, Text, Times};
 use crate::play::{ALWAYS, BOARD_FIELDS, BOARD_RECORD, Row, play, play_rows, script_of};
 use bmc_replay::Status::{self, Done, Refused};
 use std::fmt::Write;
 use std::test::Fail;
+
+// A FRU with the product name `RSR9` comes, goes and comes again.
+const RETURNING: &str = "plug 1 80 01000001000000FE010300000000C341434DC452535239C25331C0C0C10000ED
+unplug 1 80
+plug 1 80 01000001000000FE010300000000C341434DC452535239C25331C0C0C10000ED
+";
+
+// Its row.
+const RETURNED: &str =
+    "fru 1 80 BOARD_MANUFACTURER=\"ACM\" BOARD_PRODUCT_NAME=\"RSR9\" BOARD_SERIAL_NUMBER=\"S1\" \
+    BOARD_PART_NUMBER=\"\" BOARD_FRU_VERSION_ID=\"\"\n";
 
 const SCRIPTS: [Row; 12] = [
     (&[], Done, ""),
@@ -66,113 +77,108 @@ const SCRIPTS: [Row; 12] = [
     ),
 ];
 
+// Each reason why an item is refused, in the order of the items behind 256 configurations.
+const REFUSALS: [Row; 1] = [(
+    &[
+        Many(256),
+        Text("jump\n"),
+        Text("config 262145\n"),
+        Times(262_145, "x"),
+        Text("\n"),
+        Config("{"),
+        Config("0.5"),
+        Config("[]"),
+        Config("{}"),
+        Config(r#"{"Name":""}"#),
+        Config(r#"{"Name":"A","Probe":"FALSE"}"#),
+        Config(r#"{"Name":"1","Probe":"TRUE"}"#),
+        Config(ALWAYS),
+        Text("unplug 1 80\n"),
+        Text("plug 1 80 01000000000000\n"),
+        Text("plug 1 80 $"),
+        Times(4065, "00"),
+        Text("\n"),
+        Text("plug 1 80 02000000000000FE\n"),
+        Text("plug 1 80 01000000000000FE\n"),
+        Text("plug 1 80 01000100000000FE\n"),
+        Text("plug 1 80 01000001000000FE020100000000C13C\n"),
+        Text("plug 1 80 01000000010000FE010000C10000003E\n"),
+        Text("plug 1 80 01000100000000FE010117C100000027\n"),
+        Text("plug 1 80 01000001000000FE010100000000C33B\n"),
+        Text("plug 1 80 01000000010000FE010100C0C0C0C0FE\n"),
+        Text("plug 1 80 $\n"),
+        Text("plug 1 80 $\n"),
+        Config(ALWAYS),
+        Text("config 1\n"),
+    ],
+    Refused,
+    r#"line 257 refused UnknownCommand
+line 258 refused ConfigTooLong
+line 259 refused NotJson
+line 260 refused Fraction
+line 261 refused WrongKind
+line 262 refused MissingKey
+line 263 refused OutOfRange
+line 264 refused ProbeForm
+line 265 refused DuplicateName
+line 266 refused ConfigLimit
+line 267 refused NotPresent
+line 268 refused FruShort
+line 269 refused FruTooLong
+line 270 refused HeaderVersion
+line 271 refused HeaderChecksum
+line 272 refused AreaOutside Chassis
+line 273 refused AreaVersion Board
+line 274 refused AreaLength Product
+line 275 refused AreaChecksum Chassis
+line 276 refused FieldOutside Board
+line 277 refused NoEnd Product
+line 279 refused Occupied
+line 280 refused ConfigAfterPlug
+line 281 refused ConfigShort
+fru 1 80$
+"#,
+)];
+
 #[test]
 fn whole_scripts(rt: HostRuntime) -> Result<(), Fail> {
-    play_rows(&rt, rt.alloc(), &SCRIPTS)
+    play_rows(&rt, rt.alloc(), &SCRIPTS)?;
+    play_rows(&rt, rt.alloc(), &REFUSALS)
 }
 
-// Each reason why an item is refused: the items of one script, which 256 configurations begin. One item is accepted.
-const REFUSALS: [(&[Part], &str); 25] = [
-    (&[Text("jump\n")], "UnknownCommand"),
-    (
-        &[Text("config 262145\n"), Times(262_145, "x"), Text("\n")],
-        "ConfigTooLong",
-    ),
-    (&[Config("{"), Text("\n")], "NotJson"),
-    (&[Config("0.5"), Text("\n")], "Fraction"),
-    (&[Config("[]"), Text("\n")], "WrongKind"),
-    (&[Config("{}"), Text("\n")], "MissingKey"),
-    (&[Config(r#"{"Name":""}"#), Text("\n")], "OutOfRange"),
-    (
-        &[Config(r#"{"Name":"A","Probe":"FALSE"}"#), Text("\n")],
-        "ProbeForm",
-    ),
-    (
-        &[Config(r#"{"Name":"1","Probe":"TRUE"}"#), Text("\n")],
-        "DuplicateName",
-    ),
-    (&[Config(ALWAYS), Text("\n")], "ConfigLimit"),
-    (&[Text("unplug 1 80\n")], "NotPresent"),
-    (&[Text("plug 1 80 01000000000000\n")], "FruShort"),
-    (
-        &[Text("plug 1 80 $"), Times(4065, "00"), Text("\n")],
-        "FruTooLong",
-    ),
-    (&[Text("plug 1 80 02000000000000FE\n")], "HeaderVersion"),
-    (&[Text("plug 1 80 01000000000000FE\n")], "HeaderChecksum"),
-    (
-        &[Text("plug 1 80 01000100000000FE\n")],
-        "AreaOutside Chassis",
-    ),
-    (
-        &[Text("plug 1 80 01000001000000FE020100000000C13C\n")],
-        "AreaVersion Board",
-    ),
-    (
-        &[Text("plug 1 80 01000000010000FE010000C10000003E\n")],
-        "AreaLength Product",
-    ),
-    (
-        &[Text("plug 1 80 01000100000000FE010117C100000027\n")],
-        "AreaChecksum Chassis",
-    ),
-    (
-        &[Text("plug 1 80 01000001000000FE010100000000C33B\n")],
-        "FieldOutside Board",
-    ),
-    (
-        &[Text("plug 1 80 01000000010000FE010100C0C0C0C0FE\n")],
-        "NoEnd Product",
-    ),
-    (&[Text("plug 1 80 $\n")], ""),
-    (&[Text("plug 1 80 $\n")], "Occupied"),
-    (&[Config(ALWAYS), Text("\n")], "ConfigAfterPlug"),
-    (&[Text("config 1\n")], "ConfigShort"),
-];
-
+// A script whose texts are longer than what is gathered: many refused lines, many boards that come, go and come again
+// with their FRU, and many FRUs, of which the last one in the list comes first.
 #[test]
-fn each_refusal(rt: HostRuntime) -> Result<(), Fail> {
-    let mut script = script_of(rt.alloc(), &[Many(256)])?;
+fn long_texts(rt: HostRuntime) -> Result<(), Fail> {
+    let mut script = script_of(
+        rt.alloc(),
+        &[Many(256), Times(3000, "x\n"), Text(RETURNING)],
+    )?;
     let mut text = String::new(rt.alloc());
-    for (at, (parts, refusal)) in REFUSALS.into_iter().enumerate() {
-        let number = at.saturating_add(257);
-        script.extend_from_slice(script_of(rt.alloc(), parts)?.as_slice())?;
-        if !refusal.is_empty() {
-            write!(text, "line {number} refused {refusal}\n")?;
+    for number in 257..3257 {
+        write!(text, "line {number} refused UnknownCommand\n")?;
+    }
+    for change in ["new", "gone", "new"] {
+        for number in 1..=256 {
+            write!(text, "0 {change} board \"{number}\" 1 at 1 80\n")?;
         }
     }
-    write!(text, "fru 1 80{BOARD_FIELDS}\n")?;
+    text.push_str(RETURNED)?;
+    for bus in 20..26 {
+        for address in 0..100 {
+            write!(text, "fru {bus} {address}{BOARD_FIELDS}\n")?;
+            let line = format!(in rt.alloc();
+                "plug {} {} {BOARD_RECORD}\n",
+                45 - bus,
+                99 - address
+            )?;
+            script.extend_from_slice(line.as_bytes())?;
+        }
+    }
     play(
         &rt,
         rt.alloc(),
         script.as_slice(),
-        Status::Refused,
-        text.as_str(),
-    )
-}
-
-#[test]
-fn long_texts(rt: HostRuntime) -> Result<(), Fail> {
-    let mut script = String::new(rt.alloc());
-    let mut text = String::new(rt.alloc());
-    for number in 1..=3000 {
-        script.push_str("x\n")?;
-        write!(text, "line {number} refused UnknownCommand\n")?;
-    }
-    for bus in 0..6 {
-        for address in 0..100 {
-            write!(text, "fru {bus} {address}{BOARD_FIELDS}\n")?;
-        }
-    }
-    for bus in (0..6).rev() {
-        for address in (0..100).rev() {
-            write!(script, "plug {bus} {address} {BOARD_RECORD}\n")?;
-        }
-    }
-    play(
-        &rt,
-        rt.alloc(),
-        script.as_bytes(),
         Status::Refused,
         text.as_str(),
     )
