@@ -72,8 +72,8 @@ fn reads_files_of_the_system(rt: HostRuntime) -> Result<(), Fail> {
     fs::write(&rt, "long.txt", text.as_slice())?;
     let text = text.as_slice();
     let mut files = StdFiles::new(&rt, alloc);
-    // the name, the limit, the answer, and how many calls failed
-    let rows: [(&str, usize, Answer<'_>, u64); 9] = [
+    // The name, the limit, the answer, and how many calls failed. The last file can be opened and not be read.
+    let rows: [(&str, usize, Answer<'_>, u64); 10] = [
         ("empty.txt", 0, Ok(Some(b"")), 0),
         ("long.txt", 9000, Ok(Some(text)), 0),
         ("long.txt", 9001, Ok(Some(text)), 0),
@@ -83,6 +83,7 @@ fn reads_files_of_the_system(rt: HostRuntime) -> Result<(), Fail> {
         ("missing.txt", 9000, Err(FileFault::Failed), 1),
         (".", 9000, Err(FileFault::Failed), 2),
         ("long.txt/below", 9000, Err(FileFault::Failed), 3),
+        ("/proc/self/mem", 9000, Err(FileFault::Failed), 4),
     ];
     for (name, limit, wanted, faults) in rows {
         assert!(rt;
@@ -94,7 +95,7 @@ fn reads_files_of_the_system(rt: HostRuntime) -> Result<(), Fail> {
     assert!(rt;
         are_names(
             files.failed_names(),
-            &["missing.txt", ".", "long.txt/below"]
+            &["missing.txt", ".", "long.txt/below", "/proc/self/mem"]
         )
     );
     fs::remove_file(&rt, "empty.txt")?;
