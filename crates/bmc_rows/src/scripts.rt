@@ -164,8 +164,8 @@ fn long_texts(rt: HostRuntime) -> Result<(), Fail> {
         }
     }
     text.push_str(RETURNED)?;
-    for bus in 20..26 {
-        for address in 0..100 {
+    for bus in 20..26u32 {
+        for address in 0..100u32 {
             write!(text, "fru {bus} {address}{BOARD_FIELDS}\n")?;
             let line = format!(in rt.alloc();
                 "plug {} {} {BOARD_RECORD}\n",
