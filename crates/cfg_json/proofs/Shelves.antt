@@ -1,12 +1,12 @@
 -- Look-ups by name over the map's entries and over the configurations.
-use Rattle.std.proofs.Common.{◌≡◌, ℕ, ◌+◌, List, [], ◌∷◌, ◌++◌, map, refl, sym, ◌∙◌, ap, true, false, cond, Some, None}
+use Rattle.std.proofs.Common.{◌≡◌, ℕ, ◌+◌, ◌<◌, ◌≤◌, arith, length, List, [], ◌∷◌, ◌++◌, map, refl, sym, ◌∙◌, ap, true, false, cond, Some, None}
 use Rattle.std.specs.Prelude.{bytes_eq, position, if◌then◌else◌}
 use Rattle.std.specs.List.{position_from}
-use Rattle.std.proofs.lemmas.List.{map-append}
+use Rattle.std.proofs.lemmas.List.{map-append, length-map, length-append}
 use Rattle.std.proofs.lemmas.Iterator.Adapters.{position_from-zero}
 use Rattle.indexmap.specs.IndexMap.{insert_entry}
 use Rattle.cfg_json.specs.Configs.{Config}
-use Rattle.cfg_json.specs.Shelves.{AreNamed, configs_of, number_of, has_name}
+use Rattle.cfg_json.specs.Shelves.{AreNamed, configs_of, number_of, has_name, most_configs}
 
 abbrev Entries : Type 0
 Entries = List (List ℕ × Config)
@@ -51,3 +51,7 @@ configs_of_more config entries = map-append (λ entry. entry.1) entries ((config
 
 pub AreNamed_more : (config : Config) (entries : Entries) → AreNamed entries → AreNamed (entries ++ (config.name, config) ∷ [])
 AreNamed_more config entries named = rw (map-append, map-append, named) refl
+
+pub few_more : (config : Config) (entries : Entries) → length (configs_of entries) < most_configs → length (entries ++ (config.name, config) ∷ []) ≤ most_configs
+few_more config entries few =
+    omega (arith, few, length-map entries (λ (entry : List ℕ × Config). entry.1), length-append entries ((config.name, config) ∷ []))

@@ -1,6 +1,8 @@
-pub mod Probes
-pub mod BoardNames
 pub mod Configs
+pub mod Values
+pub mod Probes
+pub mod Exposes
 pub mod Documents
 pub mod Readings
+pub mod Verdicts
 pub mod Shelves

@@ -1,16 +1,45 @@
--- What the calls answer that read parts of a document.
-use Rattle.std.specs.Prelude.{◌≡◌, Option, Some, Result, Ok, Err}
+-- What the calls answer that read a document.
+use Rattle.std.specs.Prelude.{ℕ, ◌≡◌, ⊤, List, Option, Some, Result, Ok, Err, IsOkAnd}
+use Rattle.std.specs.List.{All, Contains}
 use Rattle.std.specs.Borrow.{Bor}
 use Rattle.serde_json.specs.Data.{Data}
 use Rattle.serde_json.specs.View.{view}
 use Rattle.serde_json.specs.declared.value.Value.{Value}
-use Rattle.cfg_json.specs.Documents.{GivesConfigFault, config_of}
-use Rattle.cfg_json.specs.declared.config.ConfigFault.{ConfigFault}
+use Rattle.pat_gate.specs.Grammar.{IsPattern, IsBad}
+use Rattle.pat_gate.specs.Makers.{Maker, with_refused}
+use Rattle.cfg_json.specs.Configs.{Config, pattern_texts}
+use Rattle.cfg_json.specs.Documents.{config_of}
+use Rattle.cfg_json.specs.declared.config_fault.ConfigFault.{ConfigFault}
+use Rattle.cfg_json.specs.declared.config_fault.ConfigFault.TheVariants.{PatternSyntax, PatternTooLarge, OutOfMemory}
+
+-- the configuration is read, and this is one of the texts of its patterns
+abbrev pub HasText : Result Config ConfigFault → List ℕ → Type 0
+HasText read text = IsOkAnd read (λ config. Contains (pattern_texts config) text)
+
+-- what is answered of a document, of which this is the reading: the configuration, of which the grammar reads each pattern; or a text of its
+-- patterns that is bad, or that the maker refused as too large and lists; or the rule that the document breaks. Want of memory says nothing
+-- of it.
+abbrev pub GivesConfig : Maker → Maker → Result Config ConfigFault → Result Config ConfigFault → Type 0
+GivesConfig old new (Ok config) read = (read ≡ Ok config) × All IsPattern (pattern_texts config) × (new ≡ old)
+GivesConfig old new (Err (PatternSyntax text)) read = HasText read text × IsBad text × (new ≡ old)
+GivesConfig old new (Err (PatternTooLarge text)) read = HasText read text × (new ≡ with_refused old text)
+GivesConfig old new (Err OutOfMemory) read = new ≡ old
+GivesConfig old new (Err fault) read = (read ≡ Err fault) × (new ≡ old)
+
+-- want of memory says nothing of a document; another fault is the one that reading gives
+abbrev pub GivesFault : {A : Type 0} → ConfigFault → Result A ConfigFault → Type 0
+GivesFault OutOfMemory read = ⊤
+GivesFault fault read = read ≡ Err fault
+
+-- what is read of a part of a document, or the fault that reading gives
+abbrev pub Gives : {A : Type 0} → Result A ConfigFault → Result A ConfigFault → Type 0
+Gives (Ok part) read = read ≡ Ok part
+Gives (Err fault) read = GivesFault fault read
 
 -- the document that was read, or the fault that it gives
 abbrev pub GivesDocument : Result Value ConfigFault → Option Data → Type 0
 GivesDocument (Ok document) read = read ≡ Some (view document)
-GivesDocument (Err fault) read = GivesConfigFault fault (config_of read)
+GivesDocument (Err fault) read = GivesFault fault (config_of read)
 
 -- the member, or why it is none
 abbrev pub GivesMember : Result (Bor Value) ConfigFault → Result Data ConfigFault → Type 0

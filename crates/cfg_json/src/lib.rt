@@ -1,16 +1,14 @@
-//! Reads configurations in JSON, tells which records match their patterns, and lists them in their
-//! order.
+//! Reads configurations in JSON, with the probes by which they are found and what they expose, and lists
+//! them in their order.
 #![tactic(auto)]
 
 mod config;
+mod config_fault;
+mod expose;
 mod fraction;
-mod law;
-mod probe;
 mod shelf;
-#[cfg(test)]
-mod tests;
 
-pub use config::{Config, ConfigFault};
-pub use law::plain_probes_read_as_written;
-pub use probe::PlainProbe;
+pub use config::Config;
+pub use config_fault::ConfigFault;
+pub use expose::{Body, Expose, Exposes, MuxPart};
 pub use shelf::{MOST_CONFIGS, Shelf};

@@ -1,8 +1,8 @@
-ghost use Rattle.std.specs.Prelude.{◌≡◌, ◌<◌, ◌∷◌, ◌++◌, [], None, length, slice_get, option_map, IfOk, OnOk, OnErr};
-ghost use Rattle.cfg_json.specs.Shelves.{number_of};
+ghost use Rattle.std.specs.Prelude.{◌≡◌, ◌<◌, ◌≤◌, ◌∷◌, ◌++◌, [], None, length, slice_get, option_map, IfOk, OnOk, OnErr};
+ghost use Rattle.cfg_json.specs.Shelves.{number_of, most_configs};
 
 use crate::config::Config;
-use bmc_base::{Name, OutOfMemory};
+use bmc_base::{Ledger, Name, OutOfMemory};
 use indexmap::IndexMap;
 use std::alloc::Global;
 use std::marker::Model;
@@ -13,37 +13,39 @@ pub const MOST_CONFIGS: usize = 256;
 /// The configurations, in the order in which they were accepted, each under a name of its own. They are numbered
 /// from 0.
 #[derive(Drop)]
-pub struct Shelf {
-    configs: IndexMap<Name, Config>,
+pub struct Shelf<L: Ledger> {
+    configs: IndexMap<Name, Config<L>>,
 }
 
-impl Model for Shelf {
-    ghost use Rattle.std.specs.Prelude.{List, map};
+impl<L: Ledger> Model for Shelf<L> {
+    ghost use Rattle.std.specs.Prelude.{List, ◌≤◌, length, map};
     ghost use Rattle.cfg_json.specs.Configs.{Config};
-    ghost use Rattle.cfg_json.specs.Shelves.{configs_of, AreNamed};
+    ghost use Rattle.cfg_json.specs.Shelves.{configs_of, AreNamed, most_configs};
 
     ghost Value = { List Config };
 
     ghost view = { λ s. configs_of s.configs.entries };
 
-    ghost invariant = { λ s. AreNamed s.configs.entries };
+    ghost invariant = { λ s. AreNamed s.configs.entries × (length s.configs.entries ≤ most_configs) };
 }
 
 // How many configurations a new shelf has room for.
 const ROOM: usize = 8;
 
-impl Shelf {
+impl<L: Ledger> Shelf<L> {
     /// Returns a shelf without configurations, and with room for a few.
-    pub fn new(alloc: Global) -> Result<Shelf, OutOfMemory>
+    pub fn new(alloc: Global) -> Result<Shelf<L>, OutOfMemory>
         ensures { IfOk result (λ shelf. shelf ≡ []) }
     {
         let configs = IndexMap::with_capacity(alloc, ROOM)?;
         Ok(Shelf { configs })
     }
 
-    /// Puts a configuration behind the others. Its name is new. For want of memory nothing changes.
-    pub fn add(&mut self, alloc: Global, config: Config) -> Result<(), OutOfMemory>
-        requires { number_of self.old config.name ≡ None }
+    /// Puts a configuration behind the others, of which there are fewer than 256, and none has its name. For want
+    /// of memory nothing changes.
+    pub fn add(&mut self, alloc: Global, config: Config<L>) -> Result<(), OutOfMemory>
+        requires new { number_of self.old config.name ≡ None }
+        requires few { length self.old < most_configs }
         ensures ok { OnOk result (self.new ≡ self.old ++ config ∷ []) }
         ensures err { OnErr result (self.new ≡ self.old) }
     {
@@ -53,13 +55,14 @@ impl Shelf {
 
     /// Returns how many configurations there are.
     pub fn len(&self) -> usize
-        ensures { result ≡ length self.now }
+        ensures value { result ≡ length self.now }
+        ensures limit { length self.now ≤ most_configs }
     {
         self.configs.len()
     }
 
     /// Borrows the configuration of this number, if there is one.
-    pub fn at(&self, number: usize) -> Option<&Config>
+    pub fn at(&self, number: usize) -> Option<&Config<L>>
         ensures { option_map (λ config. config.now) result ≡ slice_get self.now number }
     {
         match self.configs.get_index(number) {

@@ -4,4 +4,4 @@ use Rattle.cfg_json.proofs.Shelves.{number_of_key}
 use Rattle.cfg_json.proofs.shelf.Shelf.position.Goals as goal
 
 pub returns : goal.returns
-returns c = rw (← c.self.view_is) (c.get_index_of.ensures.index ∙ number_of_key c.args.name.now c.self.inside.configs.entries c.self.invariant)
+returns g c = rw (← c.self.view_is) (c.get_index_of.ensures.index ∙ number_of_key c.args.name.now c.self.inside.configs.entries c.self.invariant.0)

@@ -1,0 +1,39 @@
+use bmc_base::Text;
+use thiserror::Error;
+
+/// Why a document is no configuration: the first rule that it breaks, or want of memory.
+#[derive(Debug, Drop, Error)]
+pub enum ConfigFault {
+    /// The bytes are no JSON text in UTF-8, or nest deeper than 127.
+    #[error("not JSON")]
+    NotJson,
+    /// A number is neither an i64 nor a u64.
+    #[error("a number is no whole number of 64 bits")]
+    Fraction,
+    /// A member that has to be there is missing.
+    #[error("a member is missing")]
+    MissingKey,
+    /// A value is of another kind.
+    #[error("a value is of the wrong kind")]
+    WrongKind,
+    /// A length or a number is out of its range.
+    #[error("a value is out of range")]
+    OutOfRange,
+    /// The text of the probe at this position, from 0, is no word or stands in a wrong place; or this is the
+    /// number of its texts, and one operand more was wanted.
+    #[error("the text at {0} of the probe is no word, or stands in a wrong place")]
+    ProbeSyntax(u32),
+    /// An expose is of a form that is not read: its type is not `Mux`, its name has a `$`, or a channel is a
+    /// text.
+    #[error("an expose is of a form that is not read")]
+    ExposeForm,
+    /// This text of a pattern is no regular expression, or nests too deep.
+    #[error("a pattern is no regular expression")]
+    PatternSyntax(Text),
+    /// This text of a pattern is too large to be compiled.
+    #[error("a pattern is too large")]
+    PatternTooLarge(Text),
+    /// There was no memory. It says nothing of the document.
+    #[error("out of memory")]
+    OutOfMemory,
+}
