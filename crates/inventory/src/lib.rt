@@ -1,0 +1,13 @@
+//! Tells the boards of a moment, what changes from one moment to the next, and the index that each board
+//! has for good.
+#![tactic(auto)]
+
+mod board;
+mod difference;
+mod index_keep;
+mod moment;
+
+pub use board::{Board, BoardKey, BoardKeys};
+pub use difference::{Difference, difference};
+pub use index_keep::IndexKeep;
+pub use moment::Moment;
