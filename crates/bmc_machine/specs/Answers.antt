@@ -10,10 +10,11 @@ use Rattle.bmc_report.specs.Refusals.{refused_line}
 use Rattle.bmc_report.specs.Rows.{fru_row}
 use Rattle.bmc_report.specs.Changes.{change_line}
 use Rattle.bmc_report.specs.declared.refusal.Refusal.{Refusal}
-use Rattle.bmc_report.specs.declared.refusal.Refusal.TheVariants.{UnknownCommand, ConfigTooLong, ConfigShort}
+use Rattle.bmc_report.specs.declared.refusal.Refusal.TheVariants.{UnknownCommand, ConfigTooLong, ConfigShort, PatternSyntax, PatternTooLarge}
 use Rattle.cfg_json.specs.Configs.{Config}
 use Rattle.cfg_json.specs.Documents.{config_read}
-use Rattle.cfg_json.specs.declared.config.ConfigFault.{ConfigFault}
+use Rattle.cfg_json.specs.Verdicts.{Verdict, Accepted, BadPattern, LargePattern}
+use Rattle.cfg_json.specs.declared.config_fault.ConfigFault.{ConfigFault}
 use Rattle.bmc_machine.specs.Standings.{Fru, fields_of}
 use Rattle.bmc_machine.specs.Histories.{Step, Configure, Plug, RefusedPlug, Unplug, standing, tick_of}
 use Rattle.bmc_machine.specs.Refusals.{config_refusal, refusal_of}
@@ -62,36 +63,47 @@ abbrev pub answer_broken : Option Refusal → (Refusal → List ℕ) → List St
 answer_broken None line past = silent past
 answer_broken (Some refusal) line past = refusing line past refusal
 
--- what comes of a configuration that was read of its block
-abbrev pub answer_config : (Refusal → List ℕ) → List Step → Result Config ConfigFault → Answer
-answer_config line past (Ok config) = answer_step line past (Configure config)
-answer_config line past (Err rule) = answer_broken (config_refusal rule) line past
+-- what comes of a configuration that was read of its block, with this verdict on its patterns
+abbrev pub answer_config : (Refusal → List ℕ) → List Step → Verdict → Result Config ConfigFault → Answer
+answer_config line past Accepted (Ok config) = answer_step line past (Configure config)
+answer_config line past (BadPattern text) (Ok config) = refusing line past PatternSyntax
+answer_config line past (LargePattern text) (Ok config) = refusing line past PatternTooLarge
+answer_config line past verdict (Err rule) = answer_broken (config_refusal rule) line past
 
--- what comes of an item, of which this is the line of a refusal
-abbrev pub answer : (Refusal → List ℕ) → List Step → Item → Answer
-answer line past (Line bytes) = answer_command line past (command_of bytes)
-answer line past LineTooLong = refusing line past UnknownCommand
-answer line past (Block bytes) = answer_config line past (config_read bytes)
-answer line past BlockTooLong = refusing line past ConfigTooLong
-answer line past BlockShort = refusing line past ConfigShort
+-- what comes of an item, of which this is the line of a refusal; where it is a configuration, with this verdict on its patterns
+abbrev pub answer : (Refusal → List ℕ) → List Step → Verdict → Item → Answer
+answer line past verdict (Line bytes) = answer_command line past (command_of bytes)
+answer line past verdict LineTooLong = refusing line past UnknownCommand
+answer line past verdict (Block bytes) = answer_config line past verdict (config_read bytes)
+answer line past verdict BlockTooLong = refusing line past ConfigTooLong
+answer line past verdict BlockShort = refusing line past ConfigShort
+
+-- verdicts stand beside items, one each; where they end, the patterns of the rest are accepted
+abbrev pub first_verdict : List Verdict → Verdict
+first_verdict [] = Accepted
+first_verdict (verdict ∷ verdicts) = verdict
+
+abbrev pub later_verdicts : List Verdict → List Verdict
+later_verdicts [] = []
+later_verdicts (verdict ∷ verdicts) = verdicts
 
 -- one answer, and then that of the items that follow
 abbrev pub and_then : Answer → Answer → Answer
 and_then first later = record { past = later.past; text = first.text ++ later.text; refused = first.refused || later.refused }
 
 -- what comes of items from this number and this history on, one after another
-unfoldable pub answers : ℕ → List Step → List Item → Answer
-answers number past [] = silent past
-answers number past (item ∷ items) =
-    let first = answer (refused_line number) past item in
-    and_then first (answers (number + 1) first.past items)
+unfoldable pub answers : ℕ → List Step → List Verdict → List Item → Answer
+answers number past verdicts [] = silent past
+answers number past verdicts (item ∷ items) =
+    let first = answer (refused_line number) past (first_verdict verdicts) item in
+    and_then first (answers (number + 1) first.past (later_verdicts verdicts) items)
 
 -- what comes of a script, and of the items that are whole in the bytes that were taken of one; items are numbered from 1
-abbrev pub answer_of : List ℕ → Answer
-answer_of script = answers 1 [] (items_of script)
+abbrev pub answer_of : List Verdict → List ℕ → Answer
+answer_of verdicts script = answers 1 [] verdicts (items_of script)
 
-abbrev pub whole_answer_of : List ℕ → Answer
-whole_answer_of bytes = answers 1 [] (whole_items bytes)
+abbrev pub whole_answer_of : List Verdict → List ℕ → Answer
+whole_answer_of verdicts bytes = answers 1 [] verdicts (whole_items bytes)
 
 -- the row of a FRU that is present, read from its bytes
 abbrev pub row_of : Fru → List ℕ
@@ -106,5 +118,5 @@ abbrev pub with_list : Answer → List ℕ
 with_list answer = answer.text ++ final_list (standing answer.past).frus
 
 -- what is printed for a script
-abbrev pub out : List ℕ → List ℕ
-out script = with_list (answer_of script)
+abbrev pub out : List Verdict → List ℕ → List ℕ
+out verdicts script = with_list (answer_of verdicts script)

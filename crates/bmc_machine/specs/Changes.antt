@@ -1,28 +1,38 @@
 -- What a step changes: the boards that go and those that come.
 use Rattle.std.specs.Prelude.{ℕ, Bool, true, false, List, ◌∷◌, ◌++◌, length, map, Option}
-use Rattle.std.specs.List.{flat_map, range_with_len}
 use Rattle.bmc_base.specs.Places.{Place}
+use Rattle.cfg_json.specs.Configs.{Config}
+use Rattle.inventory.specs.Indexes.{index_in}
+use Rattle.inventory.specs.Differences.{keys_left}
+use Rattle.inventory.specs.declared.board.BoardKey.{BoardKey}
 use Rattle.bmc_report.specs.declared.change.Change.{Change}
 use Rattle.bmc_report.specs.declared.change.Change.TheVariants.{Board}
-use Rattle.bmc_machine.specs.Standings.{Standing}
-use Rattle.bmc_machine.specs.Boards.{boards, has_board, name_of}
+use Rattle.bmc_machine.specs.Boards.{boards, name_of}
 use Rattle.bmc_machine.specs.Histories.{Step, standing}
-use Rattle.bmc_machine.specs.Indexes.{except, kept, index_in}
+use Rattle.bmc_machine.specs.Indexes.{kept}
 
--- the boards of the configuration with this number that are here and not there, as changes, under the indexes of these lists of boards
-abbrev pub boards_left : Bool → Standing → (ℕ → List (Option Place)) → Standing → ℕ → List Change
-boards_left gone here kept there number =
-    map (λ place. Board gone (name_of here.configs number) (index_in (kept number) place) place) (except (has_board (boards there number)) (boards here number))
+-- the configurations of one moment; and by number the boards of each, and all that it ever had
+pub record Inventory : Type 0 where
+  pub configs : List Config
+  pub boards : ℕ → List (Option Place)
+  pub kept : ℕ → List (Option Place)
 
--- the numbers of the configurations
-abbrev pub numbers : Standing → List ℕ
-numbers now = range_with_len 0 (length now.configs)
+-- that of the moment after a history
+abbrev pub inventory : List Step → Inventory
+inventory past = record { configs = (standing past).configs; boards = boards (standing past); kept = kept past }
+
+-- a board is gone or new, under the name and the index that it has here
+abbrev pub board_change : Bool → Inventory → BoardKey → Change
+board_change gone here key = Board gone (name_of here.configs key.config) (index_in (here.kept key.config) key.place) key.place
+
+-- the changes of the boards that are here and not there
+abbrev pub boards_left : Bool → Inventory → Inventory → List Change
+boards_left gone here there = map (board_change gone here) (keys_left (length here.configs) here.boards there.boards)
 
 -- the changes from one moment to the next: the boards that are gone, and then those that are new, each by configuration and place
-unfoldable pub changes_between : Standing → (ℕ → List (Option Place)) → Standing → (ℕ → List (Option Place)) → List Change
-changes_between before kept_before after kept_after =
-    flat_map (boards_left true before kept_before after) (numbers before) ++ flat_map (boards_left false after kept_after before) (numbers after)
+unfoldable pub changes_between : Inventory → Inventory → List Change
+changes_between before after = boards_left true before after ++ boards_left false after before
 
 -- the changes of a step
 abbrev pub changes : List Step → Step → List Change
-changes past step = changes_between (standing past) (kept past) (standing (step ∷ past)) (kept (step ∷ past))
+changes past step = changes_between (inventory past) (inventory (step ∷ past))

@@ -6,4 +6,5 @@ pub mod Meetings
 pub mod Refusals
 pub mod Changes
 pub mod Answers
+pub mod Ties
 pub mod Examples

@@ -5,10 +5,11 @@ use Rattle.fru_area.specs.declared.fault.FruFault.{FruFault}
 use Rattle.fru_area.specs.declared.fault.FruFault.TheVariants as rules
 use Rattle.fru_record.specs.Records.{record_of}
 use Rattle.cfg_json.specs.Shelves.{most_configs, number_of}
-use Rattle.cfg_json.specs.declared.config.ConfigFault.{ConfigFault}
-use Rattle.cfg_json.specs.declared.config.ConfigFault.TheVariants as faults
+use Rattle.cfg_json.specs.declared.config_fault.ConfigFault.{ConfigFault}
+use Rattle.cfg_json.specs.declared.config_fault.ConfigFault.TheVariants as faults
 use Rattle.bmc_report.specs.declared.refusal.Refusal.{Refusal}
-use Rattle.bmc_report.specs.declared.refusal.Refusal.TheVariants.{NotJson, Fraction, MissingKey, WrongKind, OutOfRange, ProbeForm, ConfigAfterPlug}
+use Rattle.bmc_report.specs.declared.refusal.Refusal.TheVariants.{NotJson, Fraction, MissingKey, WrongKind, OutOfRange, ProbeSyntax, ExposeForm}
+use Rattle.bmc_report.specs.declared.refusal.Refusal.TheVariants.{PatternSyntax, PatternTooLarge, ConfigAfterPlug}
 use Rattle.bmc_report.specs.declared.refusal.Refusal.TheVariants.{DuplicateName, ConfigLimit, Occupied}
 use Rattle.bmc_report.specs.declared.refusal.Refusal.TheVariants.{FruShort, FruTooLong, HeaderVersion, HeaderChecksum, AreaOutside, AreaVersion}
 use Rattle.bmc_report.specs.declared.refusal.Refusal.TheVariants.{AreaLength, AreaChecksum, FieldOutside, NoEnd, NotPresent}
@@ -36,7 +37,10 @@ config_refusal faults.Fraction = Some Fraction
 config_refusal faults.MissingKey = Some MissingKey
 config_refusal faults.WrongKind = Some WrongKind
 config_refusal faults.OutOfRange = Some OutOfRange
-config_refusal faults.ProbeForm = Some ProbeForm
+config_refusal (faults.ProbeSyntax at) = Some ProbeSyntax
+config_refusal faults.ExposeForm = Some ExposeForm
+config_refusal (faults.PatternSyntax text) = Some PatternSyntax
+config_refusal (faults.PatternTooLarge text) = Some PatternTooLarge
 config_refusal faults.OutOfMemory = None
 
 -- the refusal of bytes, by the first rule that they break

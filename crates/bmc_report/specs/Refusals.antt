@@ -4,7 +4,8 @@ use Rattle.fru_area.specs.declared.fault.Area.{Area}
 use Rattle.fru_area.specs.declared.fault.Area.TheVariants.{Chassis, Board, Product}
 use Rattle.bmc_report.specs.declared.refusal.Refusal.{Refusal}
 use Rattle.bmc_report.specs.declared.refusal.Refusal.TheVariants.{UnknownCommand, ConfigTooLong, ConfigShort}
-use Rattle.bmc_report.specs.declared.refusal.Refusal.TheVariants.{NotJson, Fraction, MissingKey, WrongKind, OutOfRange, ProbeForm}
+use Rattle.bmc_report.specs.declared.refusal.Refusal.TheVariants.{NotJson, Fraction, MissingKey, WrongKind, OutOfRange, ProbeSyntax, ExposeForm}
+use Rattle.bmc_report.specs.declared.refusal.Refusal.TheVariants.{PatternSyntax, PatternTooLarge}
 use Rattle.bmc_report.specs.declared.refusal.Refusal.TheVariants.{ConfigAfterPlug, DuplicateName, ConfigLimit, Occupied}
 use Rattle.bmc_report.specs.declared.refusal.Refusal.TheVariants.{FruShort, FruTooLong, HeaderVersion, HeaderChecksum}
 use Rattle.bmc_report.specs.declared.refusal.Refusal.TheVariants.{AreaOutside, AreaVersion, AreaLength, AreaChecksum, FieldOutside, NoEnd, NotPresent}
@@ -25,7 +26,10 @@ refusal_name Fraction = codes "Fraction"
 refusal_name MissingKey = codes "MissingKey"
 refusal_name WrongKind = codes "WrongKind"
 refusal_name OutOfRange = codes "OutOfRange"
-refusal_name ProbeForm = codes "ProbeForm"
+refusal_name ProbeSyntax = codes "ProbeSyntax"
+refusal_name ExposeForm = codes "ExposeForm"
+refusal_name PatternSyntax = codes "PatternSyntax"
+refusal_name PatternTooLarge = codes "PatternTooLarge"
 refusal_name ConfigAfterPlug = codes "ConfigAfterPlug"
 refusal_name DuplicateName = codes "DuplicateName"
 refusal_name ConfigLimit = codes "ConfigLimit"

@@ -23,10 +23,16 @@ pub enum Refusal {
     MissingKey,
     /// The document or a member of it has another JSON kind than it has to have.
     WrongKind,
-    /// A length in the document is out of its range.
+    /// A length or a number in the document is out of its range.
     OutOfRange,
-    /// The probe of the document is not plain, or the document has exposes.
-    ProbeForm,
+    /// A text of the probe is no word, or stands in a wrong place.
+    ProbeSyntax,
+    /// An expose is of a form that is not read.
+    ExposeForm,
+    /// A text of a pattern is no regular expression, or nests too deep.
+    PatternSyntax,
+    /// A text of a pattern is too large to be compiled.
+    PatternTooLarge,
     /// A FRU was plugged before the configuration.
     ConfigAfterPlug,
     /// An earlier configuration has the name.
@@ -74,7 +80,10 @@ impl Refusal {
             Refusal::MissingKey => "MissingKey",
             Refusal::WrongKind => "WrongKind",
             Refusal::OutOfRange => "OutOfRange",
-            Refusal::ProbeForm => "ProbeForm",
+            Refusal::ProbeSyntax => "ProbeSyntax",
+            Refusal::ExposeForm => "ExposeForm",
+            Refusal::PatternSyntax => "PatternSyntax",
+            Refusal::PatternTooLarge => "PatternTooLarge",
             Refusal::ConfigAfterPlug => "ConfigAfterPlug",
             Refusal::DuplicateName => "DuplicateName",
             Refusal::ConfigLimit => "ConfigLimit",
