@@ -1,4 +1,5 @@
-pub mod Kept
+pub mod States
+pub mod Steps
 pub mod Runs
 pub mod Gathering
 pub mod Outside

@@ -1,0 +1,47 @@
+-- What a run knows of what has happened, and when it stands for a history.
+use Rattle.std.specs.Prelude.{ℕ, ◌≡◌, Bool, false, List, [], map, Option}
+use Rattle.bmc_base.specs.Places.{Place}
+use Rattle.probe_lang.specs.declared.rows.Entry.{Entry}
+use Rattle.probe_lang.specs.Sights.{entry_sight}
+use Rattle.cfg_json.specs.Configs.{Config}
+use Rattle.match_rows.specs.Matching.{entry_of}
+use Rattle.inventory.specs.Boards.{boards_in}
+use Rattle.inventory.specs.Indexes.{kept_of}
+use Rattle.bmc_report.specs.declared.change.Change.{Change}
+use Rattle.bmc_machine.specs.Standings.{Fru, fields_of}
+use Rattle.bmc_machine.specs.Histories.{Step, standing}
+use Rattle.bmc_machine.specs.Indexes.{kept}
+use Rattle.bmc_machine.specs.Refusals.{IsLegal}
+use Rattle.bmc_machine.specs.Changes.{Inventory}
+
+-- The configurations, the FRUs that are present with what matches them, whether any FRU was ever plugged, the boards that each
+-- configuration ever had, and the changes of the last step.
+pub record View : Type 0 where
+  pub configs : List Config
+  pub entries : List Entry
+  pub plugged : Bool
+  pub kept : List (List (Option Place))
+  pub changes : List Change
+
+-- nothing has happened
+abbrev pub no_view : View
+no_view = record { configs = []; entries = []; plugged = false; kept = []; changes = [] }
+
+-- what is known of a FRU that is present
+abbrev pub fru_entry : List Config → Fru → Entry
+fru_entry configs fru = entry_of configs fru.place (fields_of fru)
+
+-- the boards of each configuration, by what is known of the FRUs
+abbrev pub view_boards : View → ℕ → List (Option Place)
+view_boards view number = boards_in view.configs (map entry_sight view.entries) number
+
+abbrev pub view_inventory : View → Inventory
+view_inventory view = record { configs = view.configs; boards = view_boards view; kept = kept_of view.kept }
+
+-- what is known is what a history leaves, and all boards that each configuration ever had in it
+pub record Stands (view : View) (past : List Step) : Type 0 where
+  pub legal : IsLegal past
+  pub configs : view.configs ≡ (standing past).configs
+  pub entries : view.entries ≡ map (fru_entry (standing past).configs) (standing past).frus
+  pub plugged : view.plugged ≡ (standing past).plugged
+  pub kept : (number : ℕ) → kept_of view.kept number ≡ kept past number

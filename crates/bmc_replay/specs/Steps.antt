@@ -1,0 +1,33 @@
+-- What a step leaves that is tried.
+use Rattle.std.specs.Prelude.{◌≡◌, ⊤, List, [], ◌∷◌, Option, Some, None}
+use Rattle.bmc_report.specs.declared.refusal.Refusal.{Refusal}
+use Rattle.bmc_machine.specs.Histories.{Step, standing}
+use Rattle.bmc_machine.specs.Refusals.{refusal_of}
+use Rattle.bmc_machine.specs.Changes.{changes}
+use Rattle.bmc_machine.specs.Answers.{past_refused}
+use Rattle.bmc_replay.specs.States.{View, Stands}
+
+-- after a history a step was accepted, and these are its changes
+pub record Accepts (past : List Step) (step : Step) (new : View) : Type 0 where
+  pub reason : refusal_of (standing past) step ≡ None
+  pub stands : Stands new (step ∷ past)
+  pub told : new.changes ≡ changes past step
+
+-- or it was refused for this reason
+pub record Refuses (refusal : Refusal) (past : List Step) (step : Step) (new : View) : Type 0 where
+  pub reason : refusal_of (standing past) step ≡ Some refusal
+  pub stands : Stands new (past_refused past step refusal)
+
+abbrev pub IsTried : Option Refusal → List Step → Step → View → Type 0
+IsTried None past step new = Accepts past step new
+IsTried (Some refusal) past step new = Refuses refusal past step new
+
+-- a refusal leaves all but the last changes, which are forgotten
+abbrev pub IsLeft : Option Refusal → View → View → Type 0
+IsLeft None old new = ⊤
+IsLeft (Some refusal) old new = new ≡ record old { changes = [] }
+
+-- A step is tried: whatever history is known, it is refused after it for this reason, or accepted.
+pub record Tries (old : View) (step : Step) (refusal : Option Refusal) (new : View) : Type 0 where
+  pub tried : (past : List Step) → Stands old past → IsTried refusal past step new
+  pub left : IsLeft refusal old new
