@@ -33,8 +33,8 @@ front_after old mid new done bytes all rest taken next parts = record {
 
 -- the first `done` bytes are taken, and no more follow
 pub front_stopped : (old mid new : Told) (bytes : List ℕ) (done : ℕ) → mid ≡ added old (take done bytes) → new ≡ mid → AppendsFront old new bytes
-front_stopped old mid new bytes done taken kept =
-    front_so_far old new (take done bytes) (drop done bytes) bytes (kept ∙ taken) (sym (take-append-drop done bytes))
+front_stopped old mid new bytes done taken last =
+    front_so_far old new (take done bytes) (drop done bytes) bytes (last ∙ taken) (sym (take-append-drop done bytes))
 
 -- after the first `done` bytes, the next `n`
 pub take_further : (old mid new : Told) (bytes : List ℕ) (done n : ℕ)

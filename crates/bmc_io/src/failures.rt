@@ -57,7 +57,7 @@ impl Failures {
     // Copies the name and makes room for it, so that a call that fails takes no memory.
     pub(crate) fn room_for(&mut self, alloc: Global, name: &str) -> Result<Text, OutOfMemory>
         ensures copied { IfOk result (λ t. t ≡ name.now) }
-        ensures kept { self.new ≡ self.old }
+        ensures same { self.new ≡ self.old }
     {
         self.names.reserve(1)?;
         Text::copy(alloc, name)

@@ -22,11 +22,11 @@ all_there n bytes all =
     (sym ((choose items.BlockShort (items.Block bytes) (length bytes) n).1 (omega arith)))
 
 -- of a block that is too long no byte matters
-same_last : (n : ℕ) (bytes kept : List ℕ) → (n ≤ longest_block → kept ≡ bytes) → last_block n bytes ≡ last_block n kept
-same_last n bytes kept same =
+same_last : (n : ℕ) (bytes held : List ℕ) → (n ≤ longest_block → held ≡ bytes) → last_block n bytes ≡ last_block n held
+same_last n bytes held same =
     elim (cases_lt longest_block n) [
       | inl above ↦ (choose items.BlockTooLong (cond (nat_lt (length bytes) n) items.BlockShort (items.Block bytes)) longest_block n).0 above
-          ∙ sym ((choose items.BlockTooLong (cond (nat_lt (length kept) n) items.BlockShort (items.Block kept)) longest_block n).0 above)
+          ∙ sym ((choose items.BlockTooLong (cond (nat_lt (length held) n) items.BlockShort (items.Block held)) longest_block n).0 above)
       | inr within ↦ sym (ap (last_block n) (same (omega arith)))
     ]
 
@@ -53,18 +53,18 @@ HoldsFront-push old new front piece few part bytes holds =
     }
 
 -- the rest of a block waits, and the byte behind it
-pub takes_rest : (part : Part) (front waiting kept rest : List ℕ) (item : Item) → HoldsFront part front → part.wanted < length waiting
-    → (part.size ≤ longest_block → kept ≡ part.bytes ++ take part.wanted waiting) → item ≡ last_block part.size kept
+pub takes_rest : (part : Part) (front waiting held rest : List ℕ) (item : Item) → HoldsFront part front → part.wanted < length waiting
+    → (part.size ≤ longest_block → held ≡ part.bytes ++ take part.wanted waiting) → item ≡ last_block part.size held
     → rest ≡ behind_block (drop part.wanted waiting) → whole_block part.size (front ++ waiting) ≡ Some (item, rest)
-takes_rest part front waiting kept rest item holds more bytes is behind =
+takes_rest part front waiting held rest item holds more bytes is behind =
     let all = front ++ take part.wanted waiting in
     let size : length all ≡ part.size = omega (arith, holds.size, length-append front (take part.wanted waiting), length-take part.wanted waiting) in
     let before : take part.size (front ++ waiting) ≡ all =
     ap (λ (n : ℕ). take n (front ++ waiting)) (sym holds.size) ∙ take-append-add front waiting part.wanted in
     let after : drop part.size (front ++ waiting) ≡ drop part.wanted waiting =
     ap (λ (n : ℕ). drop n (front ++ waiting)) (sym holds.size) ∙ drop-append-add front waiting part.wanted in
-    let same : last_block part.size all ≡ last_block part.size kept =
-    same_last part.size all kept (λ within. bytes within ∙ ap (λ (xs : List ℕ). xs ++ take part.wanted waiting) (holds.bytes within)) in
+    let same : last_block part.size all ≡ last_block part.size held =
+    same_last part.size all held (λ within. bytes within ∙ ap (λ (xs : List ℕ). xs ++ take part.wanted waiting) (holds.bytes within)) in
     whole_block-some part.size (front ++ waiting) (omega (arith, holds.size, length-append front waiting))
     ∙ ap (λ (found : Item). Some (found, behind_block (drop part.size (front ++ waiting))))
     (ap (block_item part.size) before ∙ all_there part.size all size ∙ same ∙ sym is)
@@ -83,9 +83,9 @@ AreOfBlock-none part bytes holds = record { front = []; holds = holds; parts = r
 pub AreOfBlock-push : (old new : Part) (waiting piece bytes more : List ℕ) → piece ≡ waiting → length piece ≤ old.wanted
     → new ≡ record old { wanted = old.wanted - length piece; bytes = new.bytes } → (old.size ≤ longest_block → new.bytes ≡ old.bytes ++ piece)
     → AreOfBlock old waiting bytes → AreOfBlock new more (bytes ++ more)
-AreOfBlock-push old new waiting piece bytes more all few part kept are = record {
+AreOfBlock-push old new waiting piece bytes more all few part held are = record {
   front = are.front ++ piece;
-  holds = HoldsFront-push old new are.front piece few part kept are.holds;
+  holds = HoldsFront-push old new are.front piece few part held are.holds;
   parts = ap (λ (xs : List ℕ). xs ++ more) (are.parts ∙ ap (λ (xs : List ℕ). are.front ++ xs) (sym all));
 }
 

@@ -130,7 +130,7 @@ asked_of item true bytes rest more line no_more =
     ap asked_first (ap (λ (xs : List ℕ). bytes ++ xs) (no_more refl) ∙ append-nil bytes) ∙ asked_last bytes line.none ∙ ap asks (sym line.item_is)
 
 wants_memory : (bytes : List ℕ) (n : ℕ) → asked_first bytes ≡ Some n → n ≤ longest_block → WantsMemory bytes
-wants_memory bytes n asked kept = subst (λ (size : Option ℕ). IsSomeAnd size (λ size. size ≤ longest_block)) (sym asked) kept
+wants_memory bytes n asked short = subst (λ (size : Option ℕ). IsSomeAnd size (λ size. size ≤ longest_block)) (sym asked) short
 
 -- where no line is whole, no item is
 pub lacks_line : (fault : LineFault) (bytes : List ℕ) → fault ≢ OutOfMemory → HasNoNewline bytes → LacksItem fault bytes
@@ -145,8 +145,8 @@ lacks_after ReadFault item n false bytes rest more asked line last few = lacks_b
 lacks_after ReadFault item n true bytes rest more asked line last few = let other = (last refl).0 in absurd cc
 lacks_after Spent item n false bytes rest more asked line last few = lacks_block item n bytes rest more line asked few
 lacks_after Spent item n true bytes rest more asked line last few = let other = (last refl).0 in absurd cc
-lacks_after OutOfMemory item n ended bytes rest more asked line last kept =
-    wants_memory (bytes ++ more) n (asked_of item ended bytes rest more line (λ at_end. (last at_end).1) ∙ asked) kept
+lacks_after OutOfMemory item n ended bytes rest more asked line last short =
+    wants_memory (bytes ++ more) n (asked_of item ended bytes rest more line (λ at_end. (last at_end).1) ∙ asked) short
 
 pub lacks_its_block : (fault : LineFault) (got : Got) (line : List ℕ) (n : ℕ) (ended : Bool) (bytes rest more : List ℕ)
     → option_and_then asks (line_got got line) ≡ Some n
@@ -225,10 +225,10 @@ whole_with waiting at n newline some =
 
 pub wants_memory_at : (waiting : List ℕ) (at n : ℕ) → IsNewline waiting at → asks (line_item (take at waiting)) ≡ Some n → n ≤ longest_block
     → WantsMemory waiting
-wants_memory_at waiting at n newline some kept =
+wants_memory_at waiting at n newline some short =
     wants_memory waiting n
     (ap asked_first (newline_parts waiting at newline) ∙ asked_line (take at waiting) (drop (at + 1) waiting) (HasNoNewline-take waiting at newline)
-    ∙ some) kept
+    ∙ some) short
 
 -- an item that is whole in what waits
 pub item_here : (next : NextItem) (old new : ItemFeed) (item : Item) (input : Input) → whole_item old.waiting ≡ Some (item, new.waiting)
@@ -251,11 +251,11 @@ pub taken_line : (got : Got) (old between new : Feed) (shown line : List ℕ) (a
     → new ≡ record between { line = take (length line) between.waiting; waiting = drop (at + 1) between.waiting } → TakenLine got old new at
 taken_line got old between new shown line at same is item front within new_is =
     let waiting : shown ≡ old.waiting = is ∙ waiting_of same in
-    let kept : line ≡ take (length line) between.waiting =
+    let front_is : line ≡ take (length line) between.waiting =
     front ∙ take-take (length line) at shown (omega (arith, within, length-take at shown)) ∙ ap (take (length line)) is in
     record {
       item =
-          ap (line_got got) (ap (λ (feed : Feed). feed.line) new_is ∙ sym kept) ∙ item
+          ap (line_got got) (ap (λ (feed : Feed). feed.line) new_is ∙ sym front_is) ∙ item
           ∙ ap (λ (bytes : List ℕ). Some (line_item (take at bytes))) waiting;
       waiting = waiting_of new_is ∙ ap (drop (at + 1)) (waiting_of same);
       read = read_of new_is ∙ read_of same;

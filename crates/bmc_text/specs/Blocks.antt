@@ -25,8 +25,8 @@ abbrev pub TakesBlock : ℕ → Block → Feed → Feed → Input → Input → 
 TakesBlock n block old new before now =
     Reads old.waiting old.read new.read before now (λ bytes. TakesBlockOf n (item_of_block block) new.ended bytes new.waiting)
 
--- why a block of n bytes is not taken of the bytes: they are not all there, or no memory is there for a block that is
--- kept
+-- why a block of n bytes is not taken of the bytes: they are not all there, or there is no memory for a block that is
+-- not too long
 abbrev pub LacksBlock : LineFault → ℕ → List ℕ → Type 0
 LacksBlock ReadFault n bytes = length bytes ≤ n
 LacksBlock Spent n bytes = length bytes ≤ n

@@ -8,7 +8,7 @@ use Rattle.bmc_text.specs.Words.{block_size}
 abbrev pub longest_line : ℕ
 longest_line = 9000
 
--- the most bytes of a block that is kept
+-- the most bytes of a block
 abbrev pub longest_block : ℕ
 longest_block = 262144
 

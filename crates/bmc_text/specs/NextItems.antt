@@ -41,11 +41,11 @@ abbrev pub TakesNextItem : NextItem → ItemFeed → ItemFeed → Input → Inpu
 TakesNextItem next old new before now =
     Reads old.waiting old.read new.read before now (λ bytes. TakesItem (item_next next new) new.ended bytes new.waiting)
 
--- memory is wanted for the block that the first line asks for, which is one that is kept
+-- memory is wanted for the block that the first line asks for, which is not too long
 abbrev pub WantsMemory : List ℕ → Type 0
 WantsMemory bytes = IsSomeAnd (asked_first bytes) (λ size. size ≤ longest_block)
 
--- why no item comes of the bytes: none is whole in them, or there is no memory for a block that is kept
+-- why no item comes of the bytes: none is whole in them, or there is no memory for a block that is not too long
 abbrev pub LacksItem : LineFault → List ℕ → Type 0
 LacksItem ReadFault bytes = whole_items bytes ≡ []
 LacksItem Spent bytes = whole_items bytes ≡ []

@@ -6,7 +6,7 @@ use bmc_base::{Bytes, OutOfMemory};
 use std::alloc::Global;
 use std::marker::Model;
 
-/// The most bytes of a block that is kept.
+/// The most bytes of a block.
 const LONGEST_BLOCK: usize = 262_144;
 
 /// A block of a script.
@@ -21,7 +21,7 @@ pub enum Block {
 }
 
 // A block that is read: its size, how many of its bytes are still wanted, and those that came. Of one that
-// is too long none is kept.
+// is too long it holds none.
 #[derive(Drop)]
 pub(crate) struct BlockPart {
     size: usize,

@@ -65,7 +65,7 @@ fn read_at<S: Source>(
     ensures front { take at buffer.new ≡ take at buffer.old }
     ensures bytes { IfOk result (λ count. Consumes (S.seen source.old).left (S.seen source.new).left (slice_range buffer.new at (at + count))) }
     ensures at_end { IfOk result (λ count. count ≡ 0 → IsAtEnd (S.seen source.new).left) }
-    ensures kept { OnErr result (Keeps (S.seen source.old).left (S.seen source.new).left) }
+    ensures left { OnErr result (Keeps (S.seen source.old).left (S.seen source.new).left) }
     ensures cause { HasCause (S.seen source.old).calls (S.seen source.new).calls result }
 {
     source.read(&mut buffer[at..stop])
@@ -90,7 +90,7 @@ pub(crate) fn refill<S: Source>(
         Reads (slice_range buffer.old start end) 0 count (S.seen source.old) (S.seen source.new)
         (λ bytes. bytes ≡ slice_range buffer.new 0 (end - start + count))) }
     ensures at_end { IfOk result (λ count. count ≡ 0 → IsAtEnd (S.seen source.new).left) }
-    ensures kept { OnErr result (Keeps (S.seen source.old).left (S.seen source.new).left) }
+    ensures left { OnErr result (Keeps (S.seen source.old).left (S.seen source.new).left) }
     ensures cause { HasCause (S.seen source.old).calls (S.seen source.new).calls result }
 {
     to_front(buffer, start, end);

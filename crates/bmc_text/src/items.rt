@@ -120,9 +120,9 @@ impl Items {
             return Ok(None);
         };
         let (got, line) = line_of(&self.lines.waiting()[..at]);
-        let kept = line.len();
+        let len = line.len();
         let Some(size) = asked(got, line) else {
-            self.lines.take(kept, at + 1);
+            self.lines.take(len, at + 1);
             return Ok(Some(next_of(got)));
         };
         let size = size as usize;
@@ -130,7 +130,7 @@ impl Items {
             return Ok(None);
         }
         let part = BlockPart::new(alloc, size)?;
-        self.lines.take(kept, at + 1);
+        self.lines.take(len, at + 1);
         let block = self.lines.take_block(part);
         Ok(Some(self.keep(block)))
     }

@@ -167,8 +167,8 @@ impl Lines {
 
     /// Takes the block of `n` bytes that a line asked for, and a newline directly behind it. It reads only while
     /// the block and the byte behind it do not all wait, and not again once the source has given its end. It
-    /// takes memory for the block before it reads, and is not called again after a fault. Behind a block no
-    /// line is kept.
+    /// takes memory for the block before it reads, and is not called again after a fault. Behind a block
+    /// there is no line.
     pub fn block<S: Source>(
         &mut self,
         alloc: Global,
@@ -371,8 +371,8 @@ impl Lines {
         ensures frame { self.new ≡ record self.old { line = self.new.line; waiting = drop next self.old.waiting } }
     {
         let (got, line) = line_of(&self.waiting()[..at]);
-        let kept = line.len();
-        self.take(kept, next);
+        let len = line.len();
+        self.take(len, next);
         got
     }
 

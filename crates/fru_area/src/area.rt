@@ -10,8 +10,8 @@ use crate::header::{FORMAT_VERSION, UNIT};
 use crate::{Area, Field, FieldList, FieldName, FruFault, area_sum, field_text};
 use std::alloc::Global;
 
-// Stands in place of a type/length byte and ends the fields.
-const END_MARK: u8 = 0xC1;
+/// Stands in place of a type/length byte and ends the fields of an area (FRU definition 1.0, section 13).
+pub const END_MARK: u8 = 0xC1;
 
 /// Returns the area that begins at byte `start` of a record, whole with its checksum (FRU definition 1.0,
 /// sections 10 to 12), or the first of its rules that is broken: `AreaOutside`, `AreaVersion`,

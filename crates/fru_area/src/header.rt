@@ -9,11 +9,11 @@ pub(crate) const FORMAT_VERSION: u8 = 1;
 // The bytes of a common header, and so of the shortest record.
 const HEADER_LEN: usize = 8;
 
-// The most bytes of a record.
-const LONGEST_RECORD: usize = 4096;
+/// The most bytes of a record.
+pub const LONGEST_RECORD: usize = 4096;
 
-/// Offsets and lengths of areas count multiples of so many bytes.
-pub(crate) const UNIT: usize = 8;
+/// Offsets and lengths of areas count units of so many bytes (FRU definition 1.0, section 8).
+pub const UNIT: usize = 8;
 
 /// Where the areas begin, in multiples of 8 bytes from the front of the record; 0 where an area is absent
 /// (FRU definition 1.0, section 8).

@@ -8,8 +8,8 @@ ghost use Rattle.fru_area.specs.Units.{IsFirstChar, IsFirstUnit, unit_char_of};
 
 use crate::FieldText;
 
-// The most bytes of a field.
-const LONGEST_FIELD: usize = 63;
+/// The most bytes of a field: its length has six bits, of which the value 63 is the last.
+pub const LONGEST_FIELD: usize = 63;
 
 // Stands for an odd byte at the end of 2-byte Unicode.
 const REPLACEMENT: u16 = 0xFFFD;

@@ -52,18 +52,18 @@ record NoFault (date latin length single area whole : Bool) : Type 0 where
   no_area : area ≡ false
   no_whole : whole ≡ false
 
-kept : (broken : Bool) (fault : BuildFault) (rest : Option BuildFault) → cond broken (Some fault) rest ≡ None → (broken ≡ false) × (rest ≡ None)
-kept true fault rest h = absurd (cc)
-kept false fault rest h = (refl, h)
+unbroken : (broken : Bool) (fault : BuildFault) (rest : Option BuildFault) → cond broken (Some fault) rest ≡ None → (broken ≡ false) × (rest ≡ None)
+unbroken true fault rest h = absurd (cc)
+unbroken false fault rest h = (refl, h)
 
 no_fault : (date latin length single area whole : Bool) → fault_by date latin length single area whole ≡ None → NoFault date latin length single area whole
 no_fault date latin length single area whole h =
-    let d = kept date _ _ h in
-    let l = kept latin _ _ d.1 in
-    let n = kept length _ _ l.1 in
-    let s = kept single _ _ n.1 in
-    let a = kept area _ _ s.1 in
-    let w = kept whole _ _ a.1 in
+    let d = unbroken date _ _ h in
+    let l = unbroken latin _ _ d.1 in
+    let n = unbroken length _ _ l.1 in
+    let s = unbroken single _ _ n.1 in
+    let a = unbroken area _ _ s.1 in
+    let w = unbroken whole _ _ a.1 in
     record { no_date = d.0; no_latin = l.0; no_length = n.0; no_single = s.0; no_area = a.0; no_whole = w.0 }
 
 -- sizes up to 256 are enough to see that one is above 255

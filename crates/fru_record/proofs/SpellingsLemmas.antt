@@ -22,11 +22,11 @@ then_parts : {X Y : Type 0} (r : Result X FruFault) (f : X → Result Y FruFault
 then_parts (Ok x) f y h = (x, refl, h)
 then_parts (Err fault) f y h = absurd (cc)
 
--- a rule that is kept
-kept : {X : Type 0} (broken : Bool) (fault : FruFault) (rest : Result X FruFault) (x : X) → cond broken (Err fault) rest ≡ Ok x
+-- a rule that is not broken
+unbroken : {X : Type 0} (broken : Bool) (fault : FruFault) (rest : Result X FruFault) (x : X) → cond broken (Err fault) rest ≡ Ok x
     → (broken ≡ false) × (rest ≡ Ok x)
-kept true fault rest x h = absurd (cc)
-kept false fault rest x h = (refl, h)
+unbroken true fault rest x h = absurd (cc)
+unbroken false fault rest x h = (refl, h)
 
 true-not : (b : Bool) → not b ≡ false → b ≡ true
 true-not true h = refl
@@ -39,10 +39,10 @@ header_of bytes = record { chassis = slice_index bytes 2; board = slice_index by
 pub HasHeader-read : (bytes : List ℕ) (at : Header) → header bytes ≡ Ok at → HasHeader bytes × (at ≡ header_of bytes)
 unfolding header
 HasHeader-read bytes at h =
-    let short = kept (nat_lt (length bytes) 8) _ _ _ h in
-    let long = kept (nat_lt 4096 (length bytes)) _ _ _ short.1 in
-    let version = kept (not (nat_eq (slice_index bytes 0) 1)) _ _ _ long.1 in
-    let sum = kept (not (nat_eq (checksum (take 8 bytes)) 0)) _ _ _ version.1 in (
+    let short = unbroken (nat_lt (length bytes) 8) _ _ _ h in
+    let long = unbroken (nat_lt 4096 (length bytes)) _ _ _ short.1 in
+    let version = unbroken (not (nat_eq (slice_index bytes 0) 1)) _ _ _ long.1 in
+    let sum = unbroken (not (nat_eq (checksum (take 8 bytes)) 0)) _ _ _ version.1 in (
       record {
         least = ltb-false (length bytes) 8 short.0;
         limit = ltb-false 4096 (length bytes) long.0;
@@ -66,11 +66,11 @@ pub HasArea-read : (area : Area) (bytes found : List ℕ) (s : ℕ) → area_at 
     → HasArea bytes s × (found ≡ slice_range bytes s (area_end bytes s))
 unfolding area_at
 HasArea-read area bytes found s h =
-    let outside = kept (nat_lt (length bytes) (s + 8) || nat_lt (length bytes) (area_end bytes s)) _ _ _ h in
+    let outside = unbroken (nat_lt (length bytes) (s + 8) || nat_lt (length bytes) (area_end bytes s)) _ _ _ h in
     let ends = both_false _ _ outside.0 in
-    let version = kept (not (nat_eq (slice_index bytes s) 1)) _ _ _ outside.1 in
-    let size = kept (nat_eq (slice_index bytes (s + 1)) 0) _ _ _ version.1 in
-    let sum = kept (not (nat_eq (checksum (slice_range bytes s (area_end bytes s))) 0)) _ _ _ size.1 in (
+    let version = unbroken (not (nat_eq (slice_index bytes s) 1)) _ _ _ outside.1 in
+    let size = unbroken (nat_eq (slice_index bytes (s + 1)) 0) _ _ _ version.1 in
+    let sum = unbroken (not (nat_eq (checksum (slice_range bytes s (area_end bytes s))) 0)) _ _ _ size.1 in (
       record {
         head = ltb-false (length bytes) (s + 8) ends.0;
         inside = ltb-false (length bytes) (area_end bytes s) ends.1;

@@ -11,16 +11,13 @@ ghost use Rattle.fru_record.specs.TextRules.{IsWritable, AreWritable, field_head
 ghost use Rattle.fru_record.specs.declared.builder.BuildFault.TheVariants.{OutOfMemory};
 
 use crate::date::MINUTES_LIMIT;
-use crate::layout::{Layout, UNIT};
+use crate::layout::Layout;
 use crate::parts::{BoardPart, ChassisPart, FieldTexts, Parts, ProductPart};
 use crate::text_rule::{FIRST_SIX_BIT, TextRule, char_count, parts_break};
 use bmc_base::{Bytes, Text};
-use fru_area::area_sum;
+use fru_area::{END_MARK, UNIT, area_sum};
 use std::alloc::{AllocError, Global};
 use thiserror::Error;
-
-// Ends the fields of an area.
-const END_MARK: u8 = 0xC1;
 
 /// Why a record can't be built: the first of these, rule by rule.
 #[derive(Clone, Copy, Debug, PartialEq, Eq, Error)]

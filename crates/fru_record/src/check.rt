@@ -3,8 +3,7 @@ ghost use Rattle.fru_area.specs.Readings.{checked};
 ghost use Rattle.fru_area.specs.Headers.{unit};
 ghost use Rattle.fru_record.specs.Records.{record_of, fields_start, fields_at};
 
-use crate::layout::UNIT;
-use fru_area::{Area, FruFault, area_bytes, check_fields, read_header};
+use fru_area::{Area, FruFault, UNIT, area_bytes, check_fields, read_header};
 
 /// Tells whether the bytes spell a record, or the first rule that they break: what `FruRecord::decode` answers,
 /// without the fields and without memory, so it never answers `OutOfMemory`.

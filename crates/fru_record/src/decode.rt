@@ -8,10 +8,9 @@ ghost use Rattle.fru_record.specs.Records.{record_of, names_of, fields_start, is
 ghost use Rattle.fru_record.specs.Lookups.{text_named};
 
 use crate::date::date_field;
-use crate::layout::UNIT;
 use bmc_base::OutOfMemory;
 use fru_area::{
-    Area, Field, FieldList, FieldName, FieldText, FruFault, append_area, area_bytes,
+    Area, Field, FieldList, FieldName, FieldText, FruFault, UNIT, append_area, area_bytes,
     is_english_language, read_header,
 };
 use std::alloc::Global;

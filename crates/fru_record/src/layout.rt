@@ -7,15 +7,10 @@ ghost use Rattle.fru_record.specs.Layouts.{IsLayout, is_long_layout, offset_at};
 use crate::parts::{BoardPart, ChassisPart, FieldTexts, Parts, ProductPart};
 use crate::text_rule::char_count;
 use bmc_base::Text;
-
-// Offsets and lengths of areas count units of so many bytes.
-pub(crate) const UNIT: usize = 8;
+use fru_area::{LONGEST_RECORD, UNIT};
 
 // The most units that the length of an area, or an offset, counts.
 const MOST_UNITS: usize = 255;
-
-// The most bytes of a record.
-const LONGEST_RECORD: usize = 4096;
 
 // How many units the areas of a record take: 0 where an area is absent, and one more than an area can
 // have where it is too long.

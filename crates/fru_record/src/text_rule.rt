@@ -6,6 +6,7 @@ ghost use Rattle.fru_record.specs.Building.{first_six_bit, last_six_bit, is_not_
 ghost use Rattle.fru_record.specs.TextRules.{breaks};
 
 use crate::parts::{BoardPart, ChassisPart, FieldTexts, Parts, ProductPart};
+use fru_area::LONGEST_FIELD;
 
 // The first and the last character of 6-bit ASCII.
 pub(crate) const FIRST_SIX_BIT: u32 = 0x20;
@@ -14,9 +15,6 @@ const LAST_SIX_BIT: u32 = 0x5F;
 
 // The last character of Latin 1.
 const LAST_LATIN: u32 = 0xFF;
-
-// The most characters of a text: the length of a field has six bits.
-const LONGEST_FIELD: usize = 63;
 
 // What each text of a record that is built keeps.
 #[derive(Clone, Copy)]
