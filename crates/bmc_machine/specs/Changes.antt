@@ -21,13 +21,13 @@ pub record Inventory : Type 0 where
 abbrev pub inventory : List Step → Inventory
 inventory past = record { configs = (standing past).configs; boards = boards (standing past); kept = kept past }
 
--- a board is gone or new, under the name and the index that it has here
-abbrev pub board_change : Bool → Inventory → BoardKey → Change
-board_change gone here key = Board gone (name_of here.configs key.config) (index_in (here.kept key.config) key.place) key.place
+-- a board is gone or new, under the name of its configuration and the index that it has among these
+abbrev pub board_change : Bool → List Config → (ℕ → List (Option Place)) → BoardKey → Change
+board_change gone configs kept key = Board gone (name_of configs key.config) (index_in (kept key.config) key.place) key.place
 
 -- the changes of the boards that are here and not there
 abbrev pub boards_left : Bool → Inventory → Inventory → List Change
-boards_left gone here there = map (board_change gone here) (keys_left (length here.configs) here.boards there.boards)
+boards_left gone here there = map (board_change gone here.configs here.kept) (keys_left (length here.configs) here.boards there.boards)
 
 -- the changes from one moment to the next: the boards that are gone, and then those that are new, each by configuration and place
 unfoldable pub changes_between : Inventory → Inventory → List Change

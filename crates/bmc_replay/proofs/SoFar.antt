@@ -1,21 +1,27 @@
 -- How far the machine has come in a script.
-use Rattle.std.proofs.Common.{◌≡◌, ℕ, ◌+◌, List, [], ◌∷◌, ◌++◌, Bool, true, false, ◌||◌, refl, ap, sym, ◌∙◌, append_assoc, append-nil, Option, Some, None}
+use Rattle.std.proofs.Common.{◌≡◌, ℕ, ◌+◌, List, [], ◌∷◌, ◌++◌, Bool, true, false, ◌||◌, suc, arith, length, refl, ap, ap₂, subst, subst₂, sym, ◌∙◌, append_assoc, append-nil, length-append}
 use Rattle.bmc_text.specs.Items.{Item, cut_most, cut, items_of, whole_items}
 use Rattle.bmc_text.specs.Lines.{AreNone}
 use Rattle.bmc_text.specs.NextItems.{BeginsWith, AreLast}
 use Rattle.bmc_report.specs.Refusals.{refused_line}
 use Rattle.bmc_machine.specs.Histories.{Step}
+use Rattle.cfg_json.specs.Verdicts.{Verdict}
+use Rattle.bmc_machine.specs.Ties.{IsTied, AreTied}
 use Rattle.bmc_machine.specs.Answers.{Answer, silent, answer, and_then, answers, answer_of, whole_answer_of}
 
--- Of these bytes of a script the machine has taken all but those that wait, with this answer so far, and goes on with what waits and
--- whatever follows.
-pub record SoFar (taken waiting : List ℕ) (number : ℕ) (so_far : Answer) : Type 0 where
-  pub all : (more : List ℕ) → answer_of (taken ++ more) ≡ and_then so_far (answers number so_far.past (items_of (waiting ++ more)))
-  pub whole : (more : List ℕ) → whole_answer_of (taken ++ more) ≡ and_then so_far (answers number so_far.past (whole_items (waiting ++ more)))
+-- Of these bytes of a script the machine has taken all but those that wait, with these verdicts and this answer so far, and goes on with
+-- what waits and whatever follows, and with whatever verdicts on it.
+pub record SoFar (taken waiting : List ℕ) (verdicts : List Verdict) (number : ℕ) (so_far : Answer) : Type 0 where
+  pub all : (more : List ℕ) (later : List Verdict)
+      → answer_of (verdicts ++ later) (taken ++ more) ≡ and_then so_far (answers number so_far.past later (items_of (waiting ++ more)))
+  pub whole : (more : List ℕ) (later : List Verdict)
+      → whole_answer_of (verdicts ++ later) (taken ++ more) ≡ and_then so_far (answers number so_far.past later (whole_items (waiting ++ more)))
+  pub tied : (more : List ℕ) (later : List Verdict) → AreTied (items_of (waiting ++ more)) later → AreTied (items_of (taken ++ more)) (verdicts ++ later)
+  pub each : (more : List ℕ) → length (items_of (taken ++ more)) ≡ length verdicts + length (items_of (waiting ++ more))
 
 -- it begins
-pub so_far_none : SoFar [] [] 1 (silent [])
-so_far_none = record { all = λ more. refl; whole = λ more. refl }
+pub so_far_none : SoFar [] [] [] 1 (silent [])
+so_far_none = record { all = λ more later. refl; whole = λ more later. refl; tied = λ more later tied. tied; each = λ more. refl }
 
 or_assoc : (first second third : Bool) → ((first || second) || third) ≡ (first || (second || third))
 or_assoc true second third = refl
@@ -36,83 +42,119 @@ and_then-assoc first second third =
 and_then-silent : (first : Answer) → and_then first (silent first.past) ≡ first
 and_then-silent first = same_answer first.past (append-nil first.text) (or_false first.refused)
 
-answers-cons : (number : ℕ) (past : List Step) (item : Item) (items : List Item)
-    → answers number past (item ∷ items) ≡ and_then (answer (refused_line number) past item)
-    (answers (number + 1) (answer (refused_line number) past item).past items)
+answers-cons : (number : ℕ) (past : List Step) (verdict : Verdict) (later : List Verdict) (item : Item) (items : List Item)
+    → answers number past (verdict ∷ later) (item ∷ items) ≡ and_then (answer (refused_line number) past verdict item)
+    (answers (number + 1) (answer (refused_line number) past verdict item).past later items)
 unfolding answers
-answers-cons number past item items = refl
+answers-cons number past verdict later item items = refl
 
-answers-nil : (number : ℕ) (past : List Step) → answers number past [] ≡ silent past
+answers-nil : (number : ℕ) (past : List Step) (verdicts : List Verdict) → answers number past verdicts [] ≡ silent past
 unfolding answers
-answers-nil number past = refl
+answers-nil number past verdicts = refl
 
 -- the answer with an item more
-abbrev pub with_item : Answer → ℕ → Item → Answer
-with_item so_far number item = and_then so_far (answer (refused_line number) so_far.past item)
+abbrev pub with_item : Answer → ℕ → Verdict → Item → Answer
+with_item so_far number verdict item = and_then so_far (answer (refused_line number) so_far.past verdict item)
 
 -- by one item, and then by those that follow
-step_on : (so_far : Answer) (number : ℕ) (item : Item) (items : List Item)
-    → and_then so_far (answers number so_far.past (item ∷ items)) ≡ and_then (with_item so_far number item)
-    (answers (number + 1) (with_item so_far number item).past items)
-step_on so_far number item items =
-    ap (and_then so_far) (answers-cons number so_far.past item items)
-    ∙ and_then-assoc so_far (answer (refused_line number) so_far.past item) (answers (number + 1) (with_item so_far number item).past items)
+step_on : (so_far : Answer) (number : ℕ) (verdict : Verdict) (later : List Verdict) (item : Item) (items : List Item)
+    → and_then so_far (answers number so_far.past (verdict ∷ later) (item ∷ items)) ≡ and_then (with_item so_far number verdict item)
+    (answers (number + 1) (with_item so_far number verdict item).past later items)
+step_on so_far number verdict later item items =
+    ap (and_then so_far) (answers-cons number so_far.past verdict later item items)
+    ∙ and_then-assoc so_far (answer (refused_line number) so_far.past verdict item)
+    (answers (number + 1) (with_item so_far number verdict item).past later items)
+
+-- one verdict more, and then those that follow
+with_verdict : (verdicts later : List Verdict) (verdict : Verdict) → (verdicts ++ verdict ∷ []) ++ later ≡ verdicts ++ verdict ∷ later
+with_verdict verdicts later verdict = append_assoc verdicts (verdict ∷ []) later
 
 -- an item more, whatever follows it
-pub so_far_more : (taken waiting piece rest : List ℕ) (number : ℕ) (so_far : Answer) (item : Item)
-    → SoFar taken waiting number so_far → BeginsWith (waiting ++ piece) item rest → SoFar (taken ++ piece) rest (number + 1) (with_item so_far number item)
-so_far_more taken waiting piece rest number so_far item machine begins = record {
-  all = λ more.
-      ap answer_of (append_assoc taken piece more) ∙ machine.all (piece ++ more)
-      ∙ ap (λ (bytes : List ℕ). and_then so_far (answers number so_far.past (items_of bytes))) (sym (append_assoc waiting piece more))
-      ∙ ap (λ (items : List Item). and_then so_far (answers number so_far.past items)) (begins.all more)
-      ∙ step_on so_far number item (items_of (rest ++ more));
-  whole = λ more.
-      ap whole_answer_of (append_assoc taken piece more) ∙ machine.whole (piece ++ more)
-      ∙ ap (λ (bytes : List ℕ). and_then so_far (answers number so_far.past (whole_items bytes))) (sym (append_assoc waiting piece more))
-      ∙ ap (λ (items : List Item). and_then so_far (answers number so_far.past items)) (begins.whole more)
-      ∙ step_on so_far number item (whole_items (rest ++ more));
+pub so_far_more : (taken waiting piece rest : List ℕ) (verdicts : List Verdict) (number : ℕ) (so_far : Answer) (verdict : Verdict) (item : Item)
+    → SoFar taken waiting verdicts number so_far → BeginsWith (waiting ++ piece) item rest → IsTied item verdict
+    → SoFar (taken ++ piece) rest (verdicts ++ verdict ∷ []) (number + 1) (with_item so_far number verdict item)
+so_far_more taken waiting piece rest verdicts number so_far verdict item machine begins tie = record {
+  all = λ more later.
+      ap₂ answer_of (with_verdict verdicts later verdict) (append_assoc taken piece more) ∙ machine.all (piece ++ more) (verdict ∷ later)
+      ∙ ap (λ (bytes : List ℕ). and_then so_far (answers number so_far.past (verdict ∷ later) (items_of bytes))) (sym (append_assoc waiting piece more))
+      ∙ ap (λ (items : List Item). and_then so_far (answers number so_far.past (verdict ∷ later) items)) (begins.all more)
+      ∙ step_on so_far number verdict later item (items_of (rest ++ more));
+  whole = λ more later.
+      ap₂ whole_answer_of (with_verdict verdicts later verdict) (append_assoc taken piece more) ∙ machine.whole (piece ++ more) (verdict ∷ later)
+      ∙ ap (λ (bytes : List ℕ). and_then so_far (answers number so_far.past (verdict ∷ later) (whole_items bytes))) (sym (append_assoc waiting piece more))
+      ∙ ap (λ (items : List Item). and_then so_far (answers number so_far.past (verdict ∷ later) items)) (begins.whole more)
+      ∙ step_on so_far number verdict later item (whole_items (rest ++ more));
+  tied = λ more later tied.
+      subst₂ (λ (bytes : List ℕ) (all : List Verdict). AreTied (items_of bytes) all) (sym (append_assoc taken piece more)) (sym (with_verdict verdicts later verdict))
+      (machine.tied (piece ++ more) (verdict ∷ later)
+      (subst (λ (items : List Item). AreTied items (verdict ∷ later)) (sym (items_begin more)) (tie, tied)));
+  each = λ more.
+      let items = items_begin more in
+      let before = machine.each (piece ++ more) in
+      ap (λ (bytes : List ℕ). length (items_of bytes)) (append_assoc taken piece more) ∙ before
+      ∙ counted (length verdicts) (length (items_of (waiting ++ (piece ++ more)))) (length (items_of (rest ++ more)))
+      (length (verdicts ++ verdict ∷ [])) (ap length items) (length-append verdicts (verdict ∷ []));
 }
+  where
+    items_begin : (more : List ℕ) → items_of (waiting ++ (piece ++ more)) ≡ item ∷ items_of (rest ++ more)
+    items_begin more = ap items_of (sym (append_assoc waiting piece more)) ∙ begins.all more
+
+    counted : (before all later one_more : ℕ) → all ≡ suc later → one_more ≡ before + 1 → before + all ≡ one_more + later
+    counted before all later one_more is more = omega (arith, is, more)
 
 -- no item follows
-stop_here : (so_far : Answer) (number : ℕ) → and_then so_far (answers number so_far.past []) ≡ so_far
-stop_here so_far number = ap (and_then so_far) (answers-nil number so_far.past) ∙ and_then-silent so_far
+stop_here : (so_far : Answer) (number : ℕ) (verdicts : List Verdict) → and_then so_far (answers number so_far.past verdicts []) ≡ so_far
+stop_here so_far number verdicts = ap (and_then so_far) (answers-nil number so_far.past verdicts) ∙ and_then-silent so_far
 
--- the bytes that wait and those that came are the last item
-pub so_far_last : (taken waiting piece rest : List ℕ) (number : ℕ) (so_far : Answer) (item : Item)
-    → SoFar taken waiting number so_far → AreLast (waiting ++ piece) item rest → answer_of (taken ++ piece) ≡ with_item so_far number item
-so_far_last taken waiting piece rest number so_far item machine last =
-    machine.all piece
-    ∙ ap (λ (items : List Item). and_then so_far (answers number so_far.past items)) last.all
-    ∙ step_on so_far number item []
-    ∙ stop_here (with_item so_far number item) (number + 1)
+-- The script has ended: the bytes that were taken are all of it, with these verdicts and this answer.
+pub record HasEnded (taken : List ℕ) (verdicts : List Verdict) (so_far : Answer) : Type 0 where
+  pub all : (later : List Verdict) → answer_of (verdicts ++ later) taken ≡ so_far
+  pub tied : AreTied (items_of taken) verdicts
+  pub each : length verdicts ≡ length (items_of taken)
+
+-- no item is left
+ended_after : (taken waiting piece : List ℕ) (verdicts : List Verdict) (number : ℕ) (so_far : Answer) → SoFar taken waiting verdicts number so_far
+    → items_of (waiting ++ piece) ≡ [] → HasEnded (taken ++ piece) verdicts so_far
+ended_after taken waiting piece verdicts number so_far machine none = record {
+  all = λ later.
+      machine.all piece later ∙ ap (λ (items : List Item). and_then so_far (answers number so_far.past later items)) none ∙ stop_here so_far number later;
+  tied = subst (AreTied (items_of (taken ++ piece))) (append-nil verdicts) (machine.tied piece [] tt);
+  each = sym (machine.each piece ∙ ap (λ (items : List Item). length verdicts + length items) none ∙ omega arith);
+}
 
 items_of-nil : items_of [] ≡ []
 unfolding cut_most cut
 items_of-nil = refl
 
+-- the bytes that wait and those that came are the last item
+pub so_far_last : (taken waiting piece rest : List ℕ) (verdicts : List Verdict) (number : ℕ) (so_far : Answer) (verdict : Verdict) (item : Item)
+    → SoFar taken waiting verdicts number so_far → AreLast (waiting ++ piece) item rest → IsTied item verdict
+    → HasEnded (taken ++ piece) (verdicts ++ verdict ∷ []) (with_item so_far number verdict item)
+so_far_last taken waiting piece rest verdicts number so_far verdict item machine last tie = record {
+  all = λ later.
+      ap (λ (all : List Verdict). answer_of all (taken ++ piece)) (with_verdict verdicts later verdict) ∙ machine.all piece (verdict ∷ later)
+      ∙ ap (λ (items : List Item). and_then so_far (answers number so_far.past (verdict ∷ later) items)) last.all
+      ∙ step_on so_far number verdict later item []
+      ∙ stop_here (with_item so_far number verdict item) (number + 1) later;
+  tied = machine.tied piece (verdict ∷ []) (subst (λ (items : List Item). AreTied items (verdict ∷ [])) (sym last.all) (tie, tt));
+  each =
+      counted (length verdicts) (length (items_of (taken ++ piece))) (length (items_of (waiting ++ piece))) (length (verdicts ++ verdict ∷ []))
+      (machine.each piece) (ap length last.all) (length-append verdicts (verdict ∷ []));
+}
+  where
+    counted : (before all left one_more : ℕ) → all ≡ before + left → left ≡ 1 → one_more ≡ before + 1 → one_more ≡ all
+    counted before all left one_more is one more = omega (arith, is, one, more)
+
 -- no byte waits and none came
-pub so_far_end : (taken waiting piece rest : List ℕ) (number : ℕ) (so_far : Answer) (ended : Bool)
-    → SoFar taken waiting number so_far → AreNone (waiting ++ piece) rest ended → answer_of (taken ++ piece) ≡ so_far
-so_far_end taken waiting piece rest number so_far ended machine none =
-    machine.all piece
-    ∙ ap (λ (bytes : List ℕ). and_then so_far (answers number so_far.past (items_of bytes))) none.all
-    ∙ ap (λ (items : List Item). and_then so_far (answers number so_far.past items)) items_of-nil
-    ∙ stop_here so_far number
+pub so_far_end : (taken waiting piece rest : List ℕ) (verdicts : List Verdict) (number : ℕ) (so_far : Answer) (ended : Bool)
+    → SoFar taken waiting verdicts number so_far → AreNone (waiting ++ piece) rest ended → HasEnded (taken ++ piece) verdicts so_far
+so_far_end taken waiting piece rest verdicts number so_far ended machine none =
+    ended_after taken waiting piece verdicts number so_far machine (ap items_of none.all ∙ items_of-nil)
 
 -- in what waits and what came no item is whole
-pub so_far_whole : (taken waiting piece : List ℕ) (number : ℕ) (so_far : Answer)
-    → SoFar taken waiting number so_far → whole_items (waiting ++ piece) ≡ [] → whole_answer_of (taken ++ piece) ≡ so_far
-so_far_whole taken waiting piece number so_far machine none =
-    machine.whole piece
-    ∙ ap (λ (items : List Item). and_then so_far (answers number so_far.past items)) none
-    ∙ stop_here so_far number
-
--- the number of the next item, and the answer, where an item came or none
-abbrev pub number_after : ℕ → Option Item → ℕ
-number_after number None = number
-number_after number (Some item) = number + 1
-
-abbrev pub answer_after : Answer → ℕ → Option Item → Answer
-answer_after so_far number None = so_far
-answer_after so_far number (Some item) = with_item so_far number item
+pub so_far_whole : (taken waiting piece : List ℕ) (verdicts : List Verdict) (number : ℕ) (so_far : Answer)
+    → SoFar taken waiting verdicts number so_far → whole_items (waiting ++ piece) ≡ [] → whole_answer_of verdicts (taken ++ piece) ≡ so_far
+so_far_whole taken waiting piece verdicts number so_far machine none =
+    ap (λ (all : List Verdict). whole_answer_of all (taken ++ piece)) (sym (append-nil verdicts)) ∙ machine.whole piece []
+    ∙ ap (λ (items : List Item). and_then so_far (answers number so_far.past [] items)) none
+    ∙ stop_here so_far number []

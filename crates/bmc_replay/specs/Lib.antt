@@ -1,5 +1,7 @@
+pub mod Changes
 pub mod States
 pub mod Steps
+pub mod Insides
 pub mod Runs
 pub mod Gathering
 pub mod Outside

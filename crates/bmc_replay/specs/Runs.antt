@@ -22,6 +22,11 @@ effect_text line Nothing changes = []
 effect_text line Changed changes = flat_map (change_line 0) changes
 effect_text line (Refused refusal) changes = line refusal
 
+-- what came of a step that was tried
+abbrev pub effect_of : Option Refusal → Effect
+effect_of None = Changed
+effect_of (Some refusal) = Refused refusal
+
 abbrev pub is_refused : Effect → Bool
 is_refused Nothing = false
 is_refused Changed = false
@@ -47,6 +52,14 @@ pub record AnswersItem (item : Item) (effect : Effect) (old new : View) (maker m
   pub verdict : Verdict
   pub is_verdict : IsVerdict item verdict maker maker_now
   pub answers : Answers (λ line past. answer line past verdict item) effect old new
+
+-- a run answers what came: an item, or nothing at the end
+abbrev pub AnswersNext : Option Item → Option Effect → Run → Run → Maker → Maker → Type 0
+AnswersNext (Some item) (Some effect) old new maker maker_now =
+    AnswersItem item effect old.state new.state maker maker_now × (new ≡ record old { state = new.state })
+AnswersNext None None old new maker maker_now = (new ≡ old) × (maker_now ≡ maker)
+AnswersNext (Some item) None old new maker maker_now = ⊥
+AnswersNext None (Some effect) old new maker maker_now = ⊥
 
 -- an item is not answered for want of memory: there is a verdict on it, or none yet
 pub record LeavesItem (item : Item) (maker maker_now : Maker) : Type 0 where

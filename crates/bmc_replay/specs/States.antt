@@ -5,14 +5,14 @@ use Rattle.probe_lang.specs.declared.rows.Entry.{Entry}
 use Rattle.probe_lang.specs.Sights.{entry_sight}
 use Rattle.cfg_json.specs.Configs.{Config}
 use Rattle.match_rows.specs.Matching.{entry_of}
-use Rattle.inventory.specs.Boards.{boards_in}
-use Rattle.inventory.specs.Indexes.{kept_of}
+use Rattle.inventory.specs.Boards.{boards_in, has_board}
+use Rattle.inventory.specs.Indexes.{kept_of, except, with_boards}
 use Rattle.bmc_report.specs.declared.change.Change.{Change}
 use Rattle.bmc_machine.specs.Standings.{Fru, fields_of}
 use Rattle.bmc_machine.specs.Histories.{Step, standing}
 use Rattle.bmc_machine.specs.Indexes.{kept}
 use Rattle.bmc_machine.specs.Refusals.{IsLegal}
-use Rattle.bmc_machine.specs.Changes.{Inventory}
+use Rattle.bmc_machine.specs.Changes.{Inventory, changes_between}
 
 -- The configurations, the FRUs that are present with what matches them, whether any FRU was ever plugged, the boards that each
 -- configuration ever had, and the changes of the last step.
@@ -26,6 +26,14 @@ pub record View : Type 0 where
 -- nothing has happened
 abbrev pub no_view : View
 no_view = record { configs = []; entries = []; plugged = false; kept = []; changes = [] }
+
+-- all is as it was; what is kept is so by number
+pub record IsSame (old new : View) : Type 0 where
+  pub configs : new.configs ≡ old.configs
+  pub entries : new.entries ≡ old.entries
+  pub plugged : new.plugged ≡ old.plugged
+  pub kept : (number : ℕ) → kept_of new.kept number ≡ kept_of old.kept number
+  pub changes : new.changes ≡ old.changes
 
 -- what is known of a FRU that is present
 abbrev pub fru_entry : List Config → Fru → Entry
@@ -45,3 +53,9 @@ pub record Stands (view : View) (past : List Step) : Type 0 where
   pub entries : view.entries ≡ map (fru_entry (standing past).configs) (standing past).frus
   pub plugged : view.plugged ≡ (standing past).plugged
   pub kept : (number : ℕ) → kept_of view.kept number ≡ kept past number
+
+-- From one state to the next: the boards that are new are kept behind the others, and the changes are those of the boards.
+pub record Moves (old new : View) : Type 0 where
+  pub kept : (number : ℕ)
+      → kept_of new.kept number ≡ with_boards (kept_of old.kept number) (except (has_board (view_boards old number)) (view_boards new number))
+  pub changes : new.changes ≡ changes_between (view_inventory old) (view_inventory new)

@@ -8,6 +8,7 @@ use Rattle.bmc_text.specs.Feeds.{longest_script}
 use Rattle.bmc_text.specs.declared.lines.LineFault.{LineFault}
 use Rattle.bmc_text.specs.declared.lines.LineFault.TheVariants as faults
 use Rattle.bmc_text.specs.Items.{items_of}
+use Rattle.pat_gate.specs.Makers.{Maker}
 use Rattle.cfg_json.specs.Verdicts.{Verdict}
 use Rattle.bmc_machine.specs.Ties.{AreTied, large_texts}
 use Rattle.bmc_machine.specs.Answers.{answer_of, whole_answer_of, out}
@@ -81,10 +82,10 @@ Reaches TooLong verdicts before now = WritesWhole verdicts before now (λ count.
 
 -- A script is replayed under verdicts on the patterns of its configurations: they are tied to its items, one after another, and the maker
 -- lists in order the texts that they call too large.
-pub record Replays (status : Status) (before now : Outside) : Type 0 where
+pub record Replays (status : Status) (before now : Outside) (maker maker_now : Maker) : Type 0 where
   pub verdicts : List Verdict
   pub tied : WhereTold before.input.left (λ script. AreTied (items_of script) verdicts)
-  pub large : now.maker.refused ≡ before.maker.refused ++ large_texts verdicts
+  pub large : maker_now.refused ≡ maker.refused ++ large_texts verdicts
   pub text : WhereTold before.input.left (λ script. Writes status script verdicts before.output.taken now.output.taken)
   pub reached : Reaches status verdicts before now
 

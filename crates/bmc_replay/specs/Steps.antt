@@ -1,11 +1,22 @@
 -- What a step leaves that is tried.
-use Rattle.std.specs.Prelude.{◌≡◌, ⊤, List, [], ◌∷◌, Option, Some, None}
+use Rattle.std.specs.Prelude.{◌≡◌, ⊤, true, List, [], ◌∷◌, Option, Some, None}
+use Rattle.bmc_base.specs.Places.{Place}
+use Rattle.fru_area.specs.declared.field.Field.{Field}
+use Rattle.probe_lang.specs.Presents.{with_entry}
+use Rattle.match_rows.specs.Matching.{entry_of}
 use Rattle.bmc_report.specs.declared.refusal.Refusal.{Refusal}
 use Rattle.bmc_machine.specs.Histories.{Step, standing}
 use Rattle.bmc_machine.specs.Refusals.{refusal_of}
 use Rattle.bmc_machine.specs.Changes.{changes}
 use Rattle.bmc_machine.specs.Answers.{past_refused}
-use Rattle.bmc_replay.specs.States.{View, Stands}
+use Rattle.bmc_replay.specs.States.{View, Stands, Moves}
+
+-- a FRU with these fields was added at a place
+pub record AddsFru (place : Place) (fields : List Field) (old new : View) : Type 0 where
+  pub configs : new.configs ≡ old.configs
+  pub entries : new.entries ≡ with_entry (entry_of old.configs place fields) old.entries
+  pub plugged : new.plugged ≡ true
+  pub moves : Moves old new
 
 -- after a history a step was accepted, and these are its changes
 pub record Accepts (past : List Step) (step : Step) (new : View) : Type 0 where

@@ -1,10 +1,8 @@
 //! Replays a script: `replay` takes its items in turn, and writes what the machine prints of them.
 #![tactic(auto)]
 
-mod boards;
-mod kept;
+mod changes;
 mod output;
-mod present;
 mod refusing;
 mod replaying;
 mod run;

@@ -2,20 +2,13 @@ ghost use Rattle.std.specs.Prelude.{◌≡◌, ◌<◌, ◌++◌, [], length, On
 ghost use Rattle.bmc_base.specs.Calls.{HasCause};
 ghost use Rattle.bmc_io.specs.Told.{added};
 ghost use Rattle.bmc_io.specs.Sinks.{AppendsFront};
-ghost use Rattle.bmc_machine.specs.Answers.{final_list, row_of};
-ghost use Rattle.bmc_replay.specs.Kept.{frus_of};
 ghost use Rattle.bmc_replay.specs.Statuses.{WriteCause};
-ghost use Rattle.bmc_replay.specs.Gathering.{Gathers, most_gathered};
+ghost use Rattle.bmc_replay.specs.Gathering.{Gathers, most_gathered, entry_rows};
 
-use crate::present::Entry;
 use crate::stop::Stop;
-use bmc_base::{OutOfMemory, Place};
 use bmc_io::{IoFault, Sink, put_all};
 use bmc_report::push_fru_row;
-use fru_area::FruFault;
-use fru_record::FruRecord;
-use std::alloc::Global;
-use std::collections::BTreeMap;
+use probe_lang::Entry;
 
 /// How many bytes of text are gathered before they are written.
 pub const GATHERED: usize = 64 * 1024;
@@ -48,33 +41,16 @@ pub fn flush_large<K: Sink>(text: &mut String, output: &mut K) -> Result<(), IoF
     flush(text, output)
 }
 
-// Gathers the row of a FRU.
-fn push_row(alloc: Global, text: &mut String, place: Place, bytes: &[u8]) -> Result<(), OutOfMemory>
-    ensures { OnOk result (string_bytes text.new ≡ string_bytes text.old ++ row_of (record { place = place; bytes = bytes.now })) }
-{
-    match FruRecord::decode(alloc, bytes) {
-        Ok(record) => push_fru_row(text, place, record.fields()),
-        Err(FruFault::OutOfMemory) => Err(OutOfMemory),
-        Err(_) => push_fru_row(text, place, &[]),
-    }
-}
-
 /// Gathers the row of each FRU, and writes what grows large on the way.
-pub fn push_list<K: Sink>(
-    alloc: Global,
-    frus: &BTreeMap<Place, Entry>,
-    text: &mut String,
-    output: &mut K,
-) -> Result<(), Stop>
+pub fn push_list<K: Sink>(entries: &[Entry], text: &mut String, output: &mut K) -> Result<(), Stop>
     ensures all { OnOk result (Gathers (K.seen output.old).taken (K.seen output.new).taken (string_bytes text.old) (string_bytes text.new)
-        (final_list (frus_of frus.now.entries))) }
-    ensures front { OnErr result (AppendsFront (K.seen output.old).taken (K.seen output.new).taken
-        (string_bytes text.old ++ final_list (frus_of frus.now.entries))) }
+        (entry_rows entries.now)) }
+    ensures front { OnErr result (AppendsFront (K.seen output.old).taken (K.seen output.new).taken (string_bytes text.old ++ entry_rows entries.now)) }
     ensures cause { MatchResult result (λ _. (K.seen output.new).calls.faults ≡ (K.seen output.old).calls.faults)
         (λ stop. WriteCause stop (K.seen output.old).calls (K.seen output.new).calls) }
 {
-    'rows: for (place, entry) in frus.iter() {
-        push_row(alloc, text, *place, entry.bytes.as_slice())?;
+    'rows: for entry in entries {
+        push_fru_row(text, entry.place, entry.fru.fields())?;
         flush_large(text, output)?;
     }
     Ok(())

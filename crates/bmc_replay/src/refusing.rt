@@ -38,7 +38,10 @@ pub fn config_refused(rule: ConfigFault) -> Result<Refusal, OutOfMemory>
         ConfigFault::MissingKey => Refusal::MissingKey,
         ConfigFault::WrongKind => Refusal::WrongKind,
         ConfigFault::OutOfRange => Refusal::OutOfRange,
-        ConfigFault::ProbeForm => Refusal::ProbeForm,
+        ConfigFault::ProbeSyntax(_) => Refusal::ProbeSyntax,
+        ConfigFault::ExposeForm => Refusal::ExposeForm,
+        ConfigFault::PatternSyntax(_) => Refusal::PatternSyntax,
+        ConfigFault::PatternTooLarge(_) => Refusal::PatternTooLarge,
         ConfigFault::OutOfMemory => return Err(OutOfMemory),
     };
     Ok(refusal)

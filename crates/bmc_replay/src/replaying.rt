@@ -4,18 +4,19 @@ ghost use Rattle.bmc_io.specs.Told.{added};
 ghost use Rattle.bmc_io.specs.Sinks.{AppendsFront};
 ghost use Rattle.bmc_text.specs.Feeds.{IsWithin};
 ghost use Rattle.bmc_text.specs.NextItems.{TakesNextItem};
-ghost use Rattle.bmc_machine.specs.Answers.{final_list};
-ghost use Rattle.bmc_replay.specs.Gathering.{Gathers};
+ghost use Rattle.bmc_replay.specs.Gathering.{Gathers, entry_rows};
 ghost use Rattle.bmc_replay.specs.Outside.{outside};
 ghost use Rattle.bmc_replay.specs.Stops.{StopsAt};
-ghost use Rattle.bmc_replay.specs.Statuses.{Replays, Reaches, HasReason, WriteCause, status_of};
+ghost use Rattle.bmc_replay.specs.Statuses.{Replays, HasReason, WriteCause, status_of};
 
-use crate::output::{flush, flush_large};
+use crate::output::{flush, flush_large, push_list};
 use crate::run::Run;
 use crate::status::Status;
 use crate::stop::Stop;
+use bmc_base::{Ledger, Steps};
 use bmc_io::{Sink, Source};
 use bmc_text::{Items, NextItem};
+use pat_gate::PatternMaker;
 use std::alloc::Global;
 
 // What comes next of the script. What is gathered is written before the source is asked again.
@@ -47,54 +48,64 @@ fn advance<S: Source, K: Sink>(
 }
 
 // Writes what is gathered, and then the final list.
-fn finish<K: Sink>(alloc: Global, run: &mut Run, output: &mut K) -> Result<(), Stop>
-    ensures all { OnOk result ((K.seen output.new).taken ≡ added (K.seen output.old).taken (string_bytes run.old.text ++ final_list run.old.state.now.frus)) }
+fn finish<K: Sink, L: Ledger>(run: &mut Run<L>, output: &mut K) -> Result<(), Stop>
+    ensures all { OnOk result ((K.seen output.new).taken ≡ added (K.seen output.old).taken (string_bytes run.old.text ++ entry_rows run.old.state.entries)) }
     ensures front { OnErr result (AppendsFront (K.seen output.old).taken (K.seen output.new).taken
-        (string_bytes run.old.text ++ final_list run.old.state.now.frus)) }
+        (string_bytes run.old.text ++ entry_rows run.old.state.entries)) }
     ensures cause { MatchResult result (λ _. (K.seen output.new).calls.faults ≡ (K.seen output.old).calls.faults)
         (λ stop. WriteCause stop (K.seen output.old).calls (K.seen output.new).calls) }
 {
-    run.state.push_list(alloc, &mut run.text, output)?;
+    push_list(run.state.entries(), &mut run.text, output)?;
     flush(&mut run.text, output)?;
     Ok(())
 }
 
 // Replays a script, and says whether an item was refused.
-fn replay_items<S: Source, K: Sink>(
+fn replay_items<S: Source, K: Sink, M: PatternMaker, L: Ledger>(
     alloc: Global,
     input: &mut S,
     output: &mut K,
+    maker: &mut M,
+    steps: &mut Steps<L>,
 ) -> Result<bool, Stop>
-    ensures text { Replays (status_of result) (outside (S.seen input.old) (K.seen output.old)) (outside (S.seen input.new) (K.seen output.new)) }
-    ensures reached { Reaches (status_of result) (outside (S.seen input.old) (K.seen output.old)) (outside (S.seen input.new) (K.seen output.new)) }
+    ensures run { Replays (status_of result) (outside (S.seen input.old) (K.seen output.old)) (outside (S.seen input.new) (K.seen output.new))
+        (M.seen maker.old) (M.seen maker.new) }
     ensures reason { HasReason (status_of result) (outside (S.seen input.old) (K.seen output.old)) (outside (S.seen input.new) (K.seen output.new)) }
 {
     let mut items = Items::new(alloc)?;
     let mut run = Run::new(alloc)?;
     'items: loop {
         let next = advance(alloc, &mut items, &mut run.text, input, output)?;
-        run.take(alloc, next, &items)?;
+        run.take(alloc, next, &items, maker, steps)?;
         flush_large(&mut run.text, output)?;
         if items.is_ended() {
             break;
         }
     }
     let refused = run.refused;
-    finish(alloc, &mut run, output)?;
+    finish(&mut run, output)?;
     Ok(refused)
 }
 
 /// Replays a script: takes the items of `input` in turn, writes to `output` what the machine prints of
-/// each, and at the end the list of the FRUs that are present.
-pub fn replay<S: Source, K: Sink>(alloc: Global, input: &mut S, output: &mut K) -> Status
-    // What is written is what the machine prints for the bytes that the source has left, or a front of it.
-    ensures text { Replays result (outside (S.seen input.old) (K.seen output.old)) (outside (S.seen input.new) (K.seen output.new)) }
-    // How much of the source was taken, and what is written where it failed or was too long.
-    ensures reached { Reaches result (outside (S.seen input.old) (K.seen output.old)) (outside (S.seen input.new) (K.seen output.new)) }
+/// each, and at the end the list of the FRUs that are present. `maker` compiles the patterns of probes, and
+/// `steps` counts how many patterns are matched and how many probes are evaluated.
+pub fn replay<S: Source, K: Sink, M: PatternMaker, L: Ledger>(
+    alloc: Global,
+    input: &mut S,
+    output: &mut K,
+    maker: &mut M,
+    steps: &mut Steps<L>,
+) -> Status
+    // What is written is what the machine prints for the bytes that the source has left, or a front of it; how
+    // much of the source was taken; and what is written where it failed or was too long. The patterns of each
+    // configuration are accepted as the maker says.
+    ensures run { Replays result (outside (S.seen input.old) (K.seen output.old)) (outside (S.seen input.new) (K.seen output.new))
+        (M.seen maker.old) (M.seen maker.new) }
     // The first call of the outside that fails ends the run, and each fault is answered where one failed.
     ensures reason { HasReason result (outside (S.seen input.old) (K.seen output.old)) (outside (S.seen input.new) (K.seen output.new)) }
 {
-    match replay_items(alloc, input, output) {
+    match replay_items(alloc, input, output, maker, steps) {
         Ok(false) => Status::Done,
         Ok(true) => Status::Refused,
         Err(Stop::OutOfMemory) => Status::OutOfMemory,

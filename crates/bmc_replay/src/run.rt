@@ -1,24 +1,39 @@
-ghost use Rattle.std.specs.Prelude.{◌≡◌, ◌<◌, ◌^◌, Ok, IfOk, OnOk, string_bytes};
+ghost use Rattle.std.specs.Prelude.{◌≡◌, ◌<◌, ◌^◌, ◌++◌, Ok, IfOk, OnOk, OnErr, MatchResult, string_bytes};
+ghost use Rattle.std.specs.List.{flat_map};
 ghost use Rattle.bmc_text.specs.Items as items;
 ghost use Rattle.bmc_text.specs.NextItems.{item_next};
+ghost use Rattle.bmc_report.specs.Changes.{change_line};
 ghost use Rattle.bmc_machine.specs.Answers.{answer, answer_command};
-ghost use Rattle.bmc_replay.specs.Runs.{Answers, CountsItem, IsNew, TakesNext};
+ghost use Rattle.cfg_json.specs.Verdicts.{Accepted};
+ghost use Rattle.bmc_replay.specs.Runs.{Answers, AnswersItem, LeavesItem, AnswersNext, CountsItem, IsNew, TakesNext, LeavesNext, effect_of};
 
 use crate::output::{GATHERED, SPARE};
 use crate::refusing::config_refused;
 use crate::state::State;
-use bmc_base::OutOfMemory;
-use bmc_report::{Refusal, push_refused_line};
+use bmc_base::{Ledger, OutOfMemory, Steps};
+use bmc_report::{Change, Refusal, push_change, push_refused_line};
 use bmc_script::{Command, ScriptFault};
 use bmc_text::{Items, NextItem};
 use cfg_json::Config;
+use pat_gate::PatternMaker;
 use std::alloc::Global;
+
+// What came of an item.
+#[derive(Clone, Copy)]
+pub(crate) enum Effect {
+    // Nothing is printed of it.
+    Nothing,
+    // A step was accepted, and the state has its changes.
+    Changed,
+    // It is refused.
+    Refused(Refusal),
+}
 
 /// A run of a script so far.
 #[derive(Drop)]
-pub struct Run {
-    /// What is kept of the history.
-    pub state: State,
+pub struct Run<L: Ledger> {
+    /// What is known of what has happened.
+    pub state: State<L>,
     /// The text that is gathered and not yet written.
     pub text: String,
     /// The number of the next item, from 1.
@@ -27,78 +42,88 @@ pub struct Run {
     pub refused: bool,
 }
 
-// Does what a command asks for and gathers what changes, or returns why it is refused.
-#[tactic(auto, using(crate::proofs::StandsLemmas::silent_answers))]
-fn run_command(
-    alloc: Global,
-    state: &mut State,
-    command: Command,
-    text: &mut String,
-) -> Result<Option<Refusal>, OutOfMemory>
-    ensures { IfOk result (λ refusal. Answers (λ line past. answer_command line past (Ok command)) refusal state.old state.new (string_bytes text.old)
-        (string_bytes text.new)) }
+// What came of a step that was tried.
+fn effect_of(refusal: Option<Refusal>) -> Effect
+    ensures { result ≡ effect_of refusal }
 {
-    match command {
-        Command::Nothing => Ok(None),
-        Command::Plug(place, bytes) => state.plug(alloc, place, bytes, text),
-        Command::Unplug(place) => state.unplug(place, text),
+    match refusal {
+        Some(refusal) => Effect::Refused(refusal),
+        None => Effect::Changed,
     }
 }
 
-// Takes a line that asks for no block, and returns why it is refused, if it is.
-#[tactic(auto, using(crate::proofs::StandsLemmas::refused_answers))]
-fn take_line(
+// Does what a command asks for.
+#[tactic(auto, using(crate::proofs::RunsLemmas::silent_answers, crate::proofs::RunsLemmas::tried_answers))]
+fn run_command<L: Ledger>(
     alloc: Global,
-    state: &mut State,
+    state: &mut State<L>,
+    command: Command,
+    steps: &mut Steps<L>,
+) -> Result<Effect, OutOfMemory>
+    ensures { IfOk result (λ effect. Answers (λ line past. answer_command line past (Ok command)) effect state.old state.new) }
+{
+    let refusal = match command {
+        Command::Nothing => return Ok(Effect::Nothing),
+        Command::Plug(place, bytes) => state.plug(alloc, place, bytes.as_slice(), steps)?,
+        Command::Unplug(place) => state.unplug(alloc, place, steps)?,
+    };
+    Ok(effect_of(refusal))
+}
+
+// Takes a line that asks for no block.
+#[tactic(auto, using(crate::proofs::RunsLemmas::refused_answers))]
+fn take_line<L: Ledger>(
+    alloc: Global,
+    state: &mut State<L>,
     line: &[u8],
-    text: &mut String,
-) -> Result<Option<Refusal>, OutOfMemory>
-    ensures { IfOk result (λ refusal. Answers (λ label past. answer label past (items.Line line.now)) refusal state.old state.new (string_bytes text.old)
-        (string_bytes text.new)) }
+    steps: &mut Steps<L>,
+) -> Result<Effect, OutOfMemory>
+    ensures { IfOk result (λ effect. Answers (λ label past. answer label past Accepted (items.Line line.now)) effect state.old state.new) }
 {
     match Command::read(alloc, line) {
-        Ok(command) => run_command(alloc, state, command, text),
-        Err(ScriptFault::UnknownCommand) => Ok(Some(Refusal::UnknownCommand)),
+        Ok(command) => run_command(alloc, state, command, steps),
+        Err(ScriptFault::UnknownCommand) => Ok(Effect::Refused(Refusal::UnknownCommand)),
         Err(ScriptFault::OutOfMemory) => Err(OutOfMemory),
     }
 }
 
-// Takes the block of a configuration, and returns why it is refused, if it is.
+// Takes the block of a configuration.
 #[inline(never)]
-fn take_block(
+fn take_block<M: PatternMaker, L: Ledger>(
     alloc: Global,
-    state: &mut State,
+    state: &mut State<L>,
     block: &[u8],
-    text: &mut String,
-) -> Result<Option<Refusal>, OutOfMemory>
-    ensures { IfOk result (λ refusal. Answers (λ line past. answer line past (items.Block block.now)) refusal state.old state.new (string_bytes text.old)
-        (string_bytes text.new)) }
+    maker: &mut M,
+    steps: &mut Steps<L>,
+) -> Result<Effect, OutOfMemory>
+    ensures ok { IfOk result (λ effect. AnswersItem (items.Block block.now) effect state.old state.new (M.seen maker.old) (M.seen maker.new)) }
+    ensures err { OnErr result (LeavesItem (items.Block block.now) (M.seen maker.old) (M.seen maker.new)) }
 {
-    match Config::read(alloc, block) {
-        Ok(config) => state.configure(alloc, config, text),
+    match Config::read(alloc, block, maker) {
+        Ok(config) => {
+            let refusal = state.configure(alloc, config, steps)?;
+            Ok(effect_of(refusal))
+        }
         Err(rule) => {
             let refusal = config_refused(rule)?;
-            Ok(Some(refusal))
+            Ok(Effect::Refused(refusal))
         }
     }
 }
 
-// Gathers the line of a refusal and counts the item.
-fn count_item(run: &mut Run, refusal: Option<Refusal>) -> Result<(), OutOfMemory>
-    requires { run.old.number < 2 ^ 63 }
-    ensures { OnOk result (CountsItem refusal run.old run.new) }
+// Appends the lines of changes.
+fn push_changes(text: &mut String, changes: &[Change]) -> Result<(), OutOfMemory>
+    ensures { OnOk result (string_bytes text.new ≡ string_bytes text.old ++ flat_map (change_line 0) changes.now) }
 {
-    if let Some(refusal) = refusal {
-        push_refused_line(&mut run.text, run.number, refusal)?;
-        run.refused = true;
+    for change in changes {
+        push_change(text, 0, change)?;
     }
-    run.number += 1;
     Ok(())
 }
 
-impl Run {
-    /// A run that has taken nothing. Takes room for the text that is gathered, once.
-    pub fn new(alloc: Global) -> Result<Run, OutOfMemory>
+impl<L: Ledger> Run<L> {
+    /// Returns a run that has taken nothing. Takes room for the text that is gathered, once.
+    pub fn new(alloc: Global) -> Result<Run<L>, OutOfMemory>
         ensures { IfOk result IsNew }
     {
         let state = State::new(alloc)?;
@@ -110,19 +135,63 @@ impl Run {
         })
     }
 
-    /// Takes what came of the script: gathers its text, and counts it. At the end nothing changes.
-    pub fn take(&mut self, alloc: Global, next: NextItem, items: &Items) -> Result<(), OutOfMemory>
+    // Gathers what is printed of an item, and counts it.
+    fn count_item(&mut self, effect: Effect) -> Result<(), OutOfMemory>
         requires { self.old.number < 2 ^ 63 }
-        ensures { OnOk result (TakesNext (item_next next items.now) self.old self.new) }
+        ensures { OnOk result (CountsItem effect self.old self.new) }
     {
-        let refusal = match next {
-            NextItem::Line => take_line(alloc, &mut self.state, items.line(), &mut self.text)?,
-            NextItem::LineTooLong => Some(Refusal::UnknownCommand),
-            NextItem::Block => take_block(alloc, &mut self.state, items.block(), &mut self.text)?,
-            NextItem::BlockTooLong => Some(Refusal::ConfigTooLong),
-            NextItem::BlockShort => Some(Refusal::ConfigShort),
-            NextItem::End => return Ok(()),
+        match effect {
+            Effect::Nothing => {}
+            Effect::Changed => push_changes(&mut self.text, self.state.changes())?,
+            Effect::Refused(refusal) => {
+                push_refused_line(&mut self.text, self.number, refusal)?;
+                self.refused = true;
+            }
+        }
+        self.number += 1;
+        Ok(())
+    }
+
+    // Does what an item asks for; at the end there is none.
+    fn answer<M: PatternMaker>(
+        &mut self,
+        alloc: Global,
+        next: NextItem,
+        items: &Items,
+        maker: &mut M,
+        steps: &mut Steps<L>,
+    ) -> Result<Option<Effect>, OutOfMemory>
+        ensures { MatchResult result (λ effect. AnswersNext (item_next next items.now) effect self.old self.new (M.seen maker.old) (M.seen maker.new))
+            (λ _. LeavesNext (item_next next items.now) (M.seen maker.old) (M.seen maker.new)) }
+    {
+        let effect = match next {
+            NextItem::Line => take_line(alloc, &mut self.state, items.line(), steps)?,
+            NextItem::LineTooLong => Effect::Refused(Refusal::UnknownCommand),
+            NextItem::Block => take_block(alloc, &mut self.state, items.block(), maker, steps)?,
+            NextItem::BlockTooLong => Effect::Refused(Refusal::ConfigTooLong),
+            NextItem::BlockShort => Effect::Refused(Refusal::ConfigShort),
+            NextItem::End => return Ok(None),
         };
-        count_item(self, refusal)
+        Ok(Some(effect))
+    }
+
+    /// Takes what came of the script: gathers what is printed of it, and counts it. At the end nothing
+    /// changes.
+    pub fn take<M: PatternMaker>(
+        &mut self,
+        alloc: Global,
+        next: NextItem,
+        items: &Items,
+        maker: &mut M,
+        steps: &mut Steps<L>,
+    ) -> Result<(), OutOfMemory>
+        requires { self.old.number < 2 ^ 63 }
+        ensures ok { OnOk result (TakesNext (item_next next items.now) self.old self.new (M.seen maker.old) (M.seen maker.new)) }
+        ensures err { OnErr result (LeavesNext (item_next next items.now) (M.seen maker.old) (M.seen maker.new)) }
+    {
+        match self.answer(alloc, next, items, maker, steps)? {
+            Some(effect) => self.count_item(effect),
+            None => Ok(()),
+        }
     }
 }

@@ -1,136 +1,221 @@
-ghost use Rattle.std.specs.Prelude.{◌≡◌, ◌++◌, false, IfOk, OnOk, OnErr, MatchResult, string_bytes};
-ghost use Rattle.bmc_io.specs.Sinks.{AppendsFront};
+ghost use Rattle.std.specs.Prelude.{◌≡◌, [], false, IfOk, OnOk, OnErr, Some};
 ghost use Rattle.bmc_machine.specs.Histories as histories;
-ghost use Rattle.bmc_machine.specs.Answers.{final_list};
-ghost use Rattle.bmc_replay.specs.Gathering.{Gathers};
-ghost use Rattle.bmc_replay.specs.Statuses.{WriteCause};
-ghost use Rattle.bmc_replay.specs.Runs.{Tries, none_kept};
+ghost use Rattle.bmc_replay.specs.States.{no_view, IsSame};
+ghost use Rattle.probe_lang.specs.Presents.{holds_place};
+ghost use Rattle.bmc_replay.specs.Steps.{AddsFru, Tries};
 
-use crate::boards::{accept, find_hits, keep_boards, push_boards};
-use crate::kept::Kept;
-use crate::output::push_list;
-use crate::present::{Entry, has, put_in, take_out};
+use crate::changes::{fixed_channels, stage_changes, tell_changes};
 use crate::refusing::record_refused;
-use crate::stop::Stop;
-use bmc_base::{Bytes, OutOfMemory, Place};
-use bmc_io::Sink;
-use bmc_report::Refusal;
+use bmc_base::{Ledger, OutOfMemory, Place, Steps};
+use bmc_report::{Change, Refusal};
 use cfg_json::{Config, MOST_CONFIGS, Shelf};
-use fru_record::check_record;
+use found_set::FoundSet;
+use fru_record::FruRecord;
+use inventory::{IndexKeep, Moment};
+use match_rows::{Rows, make};
+use probe_lang::Entry;
 use std::alloc::Global;
-use std::collections::BTreeMap;
 use std::marker::Model;
 
-/// What stands: the configurations, the boards that each of them ever had, the FRUs that are present by
-/// place, and whether any FRU was ever plugged.
+/// What is known of what has happened: the configurations, the FRUs that are present with what matches them,
+/// what is found and reachable, the boards that each configuration ever had, whether any FRU was ever
+/// plugged, and the changes of the last step.
 #[derive(Drop)]
-pub struct State {
-    configs: Shelf,
-    kept: Kept,
-    frus: BTreeMap<Place, Entry>,
+pub struct State<L: Ledger> {
+    shelf: Shelf<L>,
+    rows: Rows,
+    set: FoundSet<L>,
+    keep: IndexKeep,
     plugged: bool,
+    changes: Vec<Change>,
 }
 
-impl Model for State {
-    ghost use Rattle.bmc_replay.specs.Kept.{View, frus_of, AreKept};
+impl<L: Ledger> Model for State<L> {
+    ghost use Rattle.bmc_replay.specs.States.{View};
+    ghost use Rattle.bmc_replay.specs.Insides.{view_of, IsSound};
 
     ghost Value = { View };
 
-    ghost view = { λ s. record { now = record { configs = s.configs; frus = frus_of s.frus.entries; plugged = s.plugged }; kept = s.kept } };
+    ghost view = { view_of };
 
-    ghost invariant = { λ s. AreKept s.configs s.frus.entries s.plugged s.kept };
+    ghost invariant = { IsSound };
 }
 
-impl State {
-    /// Nothing has happened.
-    pub fn new(alloc: Global) -> Result<State, OutOfMemory>
-        ensures { IfOk result (λ state. state ≡ none_kept) }
+impl<L: Ledger> State<L> {
+    /// Returns the state in which nothing has happened.
+    pub fn new(alloc: Global) -> Result<State<L>, OutOfMemory>
+        ensures { IfOk result (λ state. state ≡ no_view) }
     {
-        let configs = Shelf::new(alloc)?;
+        let shelf = Shelf::new(alloc)?;
+        let rows = Rows::new(alloc)?;
+        let set = FoundSet::new(alloc)?;
+        let keep = IndexKeep::new(alloc)?;
         Ok(State {
-            configs,
-            kept: Kept::new(alloc),
-            frus: BTreeMap::new(alloc),
+            shelf,
+            rows,
+            set,
+            keep,
             plugged: false,
+            changes: Vec::new(alloc),
         })
     }
 
-    /// Takes a configuration and gathers what changes, or answers why it is refused.
+    /// Borrows the entries of the FRUs that are present, by place.
+    pub fn entries(&self) -> &[Entry]
+        ensures { result.now ≡ self.now.entries }
+    {
+        self.rows.entries()
+    }
+
+    /// Borrows the changes of the last step, if it was accepted.
+    pub fn changes(&self) -> &[Change]
+        ensures { result.now ≡ self.now.changes }
+    {
+        &self.changes
+    }
+
+    // Forgets the last changes, as a step is refused.
+    fn refuse(&mut self, refusal: Refusal) -> Option<Refusal>
+        ensures reason { result ≡ Some refusal }
+        ensures left { self.new ≡ record self.old { changes = [] } }
+    {
+        self.changes.clear();
+        Some(refusal)
+    }
+
+    /// Takes a configuration, or returns why it is refused. For want of memory nothing changes.
     pub fn configure(
         &mut self,
         alloc: Global,
-        config: Config,
-        text: &mut String,
+        config: Config<L>,
+        steps: &mut Steps<L>,
     ) -> Result<Option<Refusal>, OutOfMemory>
-        ensures { IfOk result (λ refusal. Tries self.old (histories.Configure config) refusal self.new (string_bytes text.old) (string_bytes text.new)) }
+        ensures tried { IfOk result (λ refusal. Tries self.old (histories.Configure config) refusal self.new) }
+        ensures same { OnErr result (IsSame self.old self.new) }
     {
         if self.plugged {
-            return Ok(Some(Refusal::ConfigAfterPlug));
+            return Ok(self.refuse(Refusal::ConfigAfterPlug));
         }
-        if self.configs.position(&config.name()).is_some() {
-            return Ok(Some(Refusal::DuplicateName));
+        if self.shelf.position(&config.name()).is_some() {
+            return Ok(self.refuse(Refusal::DuplicateName));
         }
-        if self.configs.len() >= MOST_CONFIGS {
-            return Ok(Some(Refusal::ConfigLimit));
+        if self.shelf.len() >= MOST_CONFIGS {
+            return Ok(self.refuse(Refusal::ConfigLimit));
         }
-        accept(alloc, &mut self.configs, &mut self.kept, config, text)?;
+        let fixed = fixed_channels(alloc, &config)?;
+        let next = self.set.prepare_config(
+            alloc,
+            config.name(),
+            config.probe(),
+            fixed.as_slice(),
+            steps,
+        )?;
+        let before = Moment::of(self.set.facts(), self.rows.entries());
+        let after = Moment::of(next.facts(), self.rows.entries());
+        let gone = stage_changes(
+            alloc,
+            &self.shelf,
+            Some(&config),
+            &before,
+            &after,
+            &mut self.keep,
+            &mut self.changes,
+        )?;
+        self.shelf.add(alloc, config)?;
+        self.set.commit(next);
+        tell_changes(&self.shelf, &mut self.keep, &gone, &mut self.changes);
         Ok(None)
     }
 
-    /// Takes a FRU that appeared and gathers what changes, or answers why it is refused.
+    /// Takes a FRU that appeared, or returns why it is refused. Each pattern is matched once. For want of
+    /// memory nothing changes.
     pub fn plug(
         &mut self,
         alloc: Global,
         place: Place,
-        bytes: Bytes,
-        text: &mut String,
+        bytes: &[u8],
+        steps: &mut Steps<L>,
     ) -> Result<Option<Refusal>, OutOfMemory>
-        ensures { IfOk result (λ refusal. Tries self.old (histories.Plug place bytes) refusal self.new (string_bytes text.old) (string_bytes text.new)) }
+        ensures tried { IfOk result (λ refusal. Tries self.old (histories.Plug place bytes.now) refusal self.new) }
+        ensures same { OnErr result (IsSame self.old self.new) }
     {
-        if has(&self.frus, place) {
-            return Ok(Some(Refusal::Occupied));
+        if self.rows.entry(place).is_some() {
+            return Ok(self.refuse(Refusal::Occupied));
         }
-        if let Err(rule) = check_record(bytes.as_slice()) {
-            let refusal = record_refused(rule)?;
-            return Ok(Some(refusal));
+        match FruRecord::decode(alloc, bytes) {
+            Ok(fru) => {
+                self.add_fru(alloc, place, fru, steps)?;
+                Ok(None)
+            }
+            Err(rule) => {
+                let refusal = record_refused(rule)?;
+                Ok(self.refuse(refusal))
+            }
         }
-        let hits = find_hits(alloc, &self.configs, place, bytes.as_slice())?;
-        push_boards(&self.configs, &self.kept, &hits, place, false, text)?;
-        keep_boards(&mut self.kept, &hits, place)?;
-        put_in(&mut self.frus, place, Entry { bytes, hits })?;
-        self.plugged = true;
-        Ok(None)
     }
 
-    /// Takes away the FRU at a place and gathers what changes, or answers why that is refused.
+    // Adds a FRU at a place that is free.
+    fn add_fru(
+        &mut self,
+        alloc: Global,
+        place: Place,
+        fru: FruRecord,
+        steps: &mut Steps<L>,
+    ) -> Result<(), OutOfMemory>
+        requires { holds_place self.old.entries place ≡ false }
+        ensures ok { OnOk result (AddsFru place fru self.old self.new) }
+        ensures same { OnErr result (IsSame self.old self.new) }
+    {
+        let entry = make(alloc, place, fru, &self.shelf, steps)?;
+        let next = self.set.prepare_plug(alloc, &entry, steps)?;
+        self.rows.reserve(alloc)?;
+        let before = Moment::of(self.set.facts(), self.rows.entries());
+        let after = Moment::with(next.facts(), self.rows.entries(), &entry);
+        let gone = stage_changes(
+            alloc,
+            &self.shelf,
+            None,
+            &before,
+            &after,
+            &mut self.keep,
+            &mut self.changes,
+        )?;
+        self.set.commit(next);
+        self.rows.plug(entry);
+        self.plugged = true;
+        tell_changes(&self.shelf, &mut self.keep, &gone, &mut self.changes);
+        Ok(())
+    }
+
+    /// Takes away the FRU at a place, or returns why that is refused. No pattern is matched. For want of memory
+    /// nothing changes.
     pub fn unplug(
         &mut self,
-        place: Place,
-        text: &mut String,
-    ) -> Result<Option<Refusal>, OutOfMemory>
-        ensures { IfOk result (λ refusal. Tries self.old (histories.Unplug place) refusal self.new (string_bytes text.old) (string_bytes text.new)) }
-    {
-        let Some(entry) = take_out(&mut self.frus, place) else {
-            return Ok(Some(Refusal::NotPresent));
-        };
-        push_boards(&self.configs, &self.kept, &entry.hits, place, true, text)?;
-        Ok(None)
-    }
-
-    /// Gathers the row of each FRU, by place, and writes what grows large on the way.
-    pub fn push_list<K: Sink>(
-        &self,
         alloc: Global,
-        text: &mut String,
-        output: &mut K,
-    ) -> Result<(), Stop>
-        ensures all { OnOk result (Gathers (K.seen output.old).taken (K.seen output.new).taken (string_bytes text.old) (string_bytes text.new)
-            (final_list self.now.now.frus)) }
-        ensures front { OnErr result (AppendsFront (K.seen output.old).taken (K.seen output.new).taken
-            (string_bytes text.old ++ final_list self.now.now.frus)) }
-        ensures cause { MatchResult result (λ _. (K.seen output.new).calls.faults ≡ (K.seen output.old).calls.faults)
-            (λ stop. WriteCause stop (K.seen output.old).calls (K.seen output.new).calls) }
+        place: Place,
+        steps: &mut Steps<L>,
+    ) -> Result<Option<Refusal>, OutOfMemory>
+        ensures tried { IfOk result (λ refusal. Tries self.old (histories.Unplug place) refusal self.new) }
+        ensures same { OnErr result (IsSame self.old self.new) }
     {
-        push_list(alloc, &self.frus, text, output)
+        if self.rows.entry(place).is_none() {
+            return Ok(self.refuse(Refusal::NotPresent));
+        }
+        let next = self.set.prepare_unplug(alloc, place, steps)?;
+        let before = Moment::of(self.set.facts(), self.rows.entries());
+        let after = Moment::without(next.facts(), self.rows.entries(), place);
+        let gone = stage_changes(
+            alloc,
+            &self.shelf,
+            None,
+            &before,
+            &after,
+            &mut self.keep,
+            &mut self.changes,
+        )?;
+        self.set.commit(next);
+        self.rows.unplug(place);
+        tell_changes(&self.shelf, &mut self.keep, &gone, &mut self.changes);
+        Ok(None)
     }
 }
