@@ -1,3 +1,2 @@
-pub mod PlacesLemmas
 pub mod RowsLemmas
 pub mod MatchingLemmas

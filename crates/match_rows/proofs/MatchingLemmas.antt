@@ -1,10 +1,16 @@
 -- What is kept of a FRU shows what its record does.
-use Rattle.std.proofs.Common.{◌≡◌, ◌∙◌, ℕ, zero, suc, ◌+◌, ◌<◌, List, [], ◌∷◌, ◌++◌, Bool, true, false, ◌&&◌, ◌||◌, ◌==◌, refl, sym, ap, ap₂, arith, slice_get, option_map}
+use Rattle.std.proofs.Common.{◌≡◌, ◌∙◌, ℕ, zero, suc, ◌+◌, ◌<◌, ◌≤◌, List, [], ◌∷◌, ◌++◌, length, take, drop, get_or, Bool, true, false, ◌&&◌, ◌||◌, ◌==◌}
+use Rattle.std.proofs.Common.{Option, Some, Result, Ok, Err, refl, sym, ap, ap₂, subst, arith, slice_get, option_map, append_assoc, add-one, drop-cons}
+use Rattle.std.specs.Prelude.{OnErr}
 use Rattle.std.specs.Option.{unwrap_or}
 use Rattle.std.specs.List.{list_any}
 use Rattle.std.proofs.lemmas.Bool.Decides.{nat_tests}
 use Rattle.std.proofs.lemmas.Bool.{eq-eqb}
 use Rattle.std.proofs.lemmas.List.Folds.{list_any-append}
+use Rattle.std.proofs.lemmas.List.Sums.{sum_by_more, sum_by_more_le}
+use Rattle.std.proofs.lemmas.Option.{get_or_from_slice_get, slice_get_within}
+use Rattle.bmc_base.specs.Counts.{raised}
+use Rattle.bmc_base.specs.Steps.{Counts, with_matches}
 use Rattle.bmc_base.specs.Places.{Place}
 use Rattle.fru_area.specs.declared.field.Field.{Field}
 use Rattle.probe_lang.specs.declared.pattern_text.Member.{Member}
@@ -12,7 +18,7 @@ use Rattle.probe_lang.specs.declared.rows.Hit.{Hit}
 use Rattle.probe_lang.specs.Matches.{matches}
 use Rattle.probe_lang.specs.Sights.{has_hit, has_config, entry_sight}
 use Rattle.cfg_json.specs.Configs.{Config}
-use Rattle.match_rows.specs.Matching.{hit_if, pattern_hits, config_hits, hits_of, entry_of, of_config, pattern_matches, any_matches, sight_of}
+use Rattle.match_rows.specs.Matching.{hit_if, pattern_hits, config_hits, hits_of, entry_of, of_config, pattern_matches, any_matches, sight_of, pattern_count, IsMatchedWithin}
 
 and_false : (b : Bool) → (b && false) ≡ false
 and_false true = refl
@@ -134,3 +140,62 @@ entry_sight_is configs place fields = λ i. record {
   hit = λ config. config_is place fields configs config i;
   opened = λ config bus. false;
 }
+
+raised_more : (count m n : ℕ) → raised (raised count m) n ≡ raised count (m + n)
+raised_more count m n = omega arith
+
+matches_more : (old so_far new : Counts) (m n : ℕ) → so_far ≡ with_matches old m → new ≡ with_matches so_far n → new ≡ with_matches old (m + n)
+matches_more old so_far new m n first second =
+    second ∙ ap (λ (counts : Counts). with_matches counts n) first
+    ∙ ap (λ (count : ℕ). record { matches = count; evals = old.evals }) (raised_more old.matches m n)
+
+-- some matches, and then some more, within a limit
+within_more : (old so_far new : Counts) (m limit all : ℕ) → so_far ≡ with_matches old m → IsMatchedWithin so_far new limit → m + limit ≤ all → IsMatchedWithin old new all
+within_more old so_far new m limit all first within sum = record {
+  more = m + within.more;
+  within = omega (arith, within.within, sum);
+  counted = matches_more old so_far new m within.more first within.counted;
+}
+
+on_err : {T E P : Type 0} (r : Result T E) → P → OnErr r P
+on_err (Ok x) h = tt
+on_err (Err e) h = h
+
+-- one match more of fewer than a limit
+pub on_err_one : {T E : Type 0} (r : Result T E) (old so_far new : Counts) (n limit : ℕ)
+    → so_far ≡ with_matches old n → new ≡ with_matches so_far 1 → n < limit → OnErr r (IsMatchedWithin old new limit)
+on_err_one r old so_far new n limit first second below =
+    on_err r (record { more = n + 1; within = omega (arith, below); counted = matches_more old so_far new n 1 first second })
+
+-- some of the matches of a configuration more than those of the configurations before it
+pub on_err_config : {T E : Type 0} (r : Result T E) (old so_far new : Counts) (configs : List Config) (number : ℕ) (config : Config)
+    → slice_get configs number ≡ Some config → so_far ≡ with_matches old (pattern_count (take number configs)) → IsMatchedWithin so_far new (length config.patterns)
+    → OnErr r (IsMatchedWithin old new (pattern_count configs))
+on_err_config r old so_far new configs number config at first within =
+    let below = slice_get_within configs number config at in
+    let sum = sum_by_more_le (λ (config : Config). length config.patterns) configs number config below in
+    let fits : pattern_count (take number configs) + length config.patterns ≤ pattern_count configs =
+      subst (λ (c : Config). pattern_count (take number configs) + length c.patterns ≤ pattern_count configs) (get_or_from_slice_get configs number config config at) sum in
+    on_err r (within_more old so_far new (pattern_count (take number configs)) (length config.patterns) (pattern_count configs) first within fits)
+
+drop_at : (configs : List Config) (number : ℕ) (config : Config) → slice_get configs number ≡ Some config → drop number configs ≡ config ∷ drop (number + 1) configs
+drop_at configs number config at =
+    drop-cons configs number config (slice_get_within configs number config at)
+    ∙ ap₂ (λ (c : Config) (n : ℕ). c ∷ drop n configs) (get_or_from_slice_get configs number config config at) (sym (add-one number))
+
+-- the hits so far, and those of one configuration more
+pub found_more : (place : Place) (fields : List Field) (configs : List Config) (number : ℕ) (config : Config) (hits new all : List Hit) → slice_get configs number ≡ Some config
+    → hits ++ config_hits place fields number (drop number configs) ≡ all → new ≡ hits ++ pattern_hits place fields number 0 config.patterns
+    → new ++ config_hits place fields (number + 1) (drop (number + 1) configs) ≡ all
+found_more place fields configs number config hits new all at so_far one =
+    ap (λ (l : List Hit). l ++ config_hits place fields (number + 1) (drop (number + 1) configs)) one
+    ∙ append_assoc hits (pattern_hits place fields number 0 config.patterns) _
+    ∙ ap (λ (l : List Config). hits ++ config_hits place fields number l) (sym (drop_at configs number config at)) ∙ so_far
+
+pub counted_more : (old so_far new : Counts) (configs : List Config) (number : ℕ) (config : Config) → slice_get configs number ≡ Some config
+    → so_far ≡ with_matches old (pattern_count (take number configs)) → new ≡ with_matches so_far (length config.patterns) → new ≡ with_matches old (pattern_count (take (number + 1) configs))
+counted_more old so_far new configs number config at first one =
+    matches_more old so_far new (pattern_count (take number configs)) (length config.patterns) first one
+    ∙ ap (with_matches old)
+      (ap (λ (c : Config). pattern_count (take number configs) + length c.patterns) (sym (get_or_from_slice_get configs number config config at))
+      ∙ sym (sum_by_more (λ (config : Config). length config.patterns) configs number config (slice_get_within configs number config at)))

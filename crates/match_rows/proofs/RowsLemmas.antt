@@ -1,13 +1,16 @@
 -- Entries by place.
-use Rattle.std.proofs.Common.{◌≡◌, ◌∙◌, ℕ, zero, suc, ◌+◌, ◌<◌, ◌≤◌, Bool, true, false, not, cond, ◌&&◌, ◌||◌, List, [], ◌∷◌, length, filter, refl, sym, ap, ap₂, arith, get_or, slice_get, Some, None}
+use Rattle.std.proofs.Common.{◌≡◌, ◌∙◌, ℕ, zero, suc, ◌+◌, ◌<◌, ◌≤◌, Bool, true, false, not, cond, ◌&&◌, ◌||◌, ◌==◌, nat_lt, List, [], ◌∷◌, length, filter, refl, sym, ap, ap₂, arith, get_or, slice_get, Option, Some, None}
+use Rattle.std.proofs.lemmas.Map.Entries.{option_filter}
 use Rattle.std.specs.List.{list_all, list_any, insert, remove, find}
-use Rattle.std.specs.List.Sorted.{IsPartitionedBy}
-use Rattle.std.specs.Ordering.{is_lt, is_eq, ordering_reverse}
+use Rattle.std.specs.List.Sorted.{IsPartitionedBy, IsPartitionPoint}
+use Rattle.std.proofs.lemmas.List.Sums.{prefix_len_is}
+use Rattle.std.specs.Ordering.{is_lt, is_eq, nat_cmp, ordering_then, ordering_reverse}
 use Rattle.std.specs.declared.cmp.Ordering.{Ordering}
 use Rattle.std.specs.declared.cmp.Ordering.TheVariants.{Less, Equal, Greater}
 use Rattle.std.specs.Cmp.{IsTotalOrder}
 use Rattle.std.proofs.lemmas.Cmp.{then_total, on_total, nat_cmp_total}
-use Rattle.bmc_base.specs.Places.{Place, place_cmp}
+use Rattle.std.proofs.lemmas.Bool.Decides.{nat_tests}
+use Rattle.bmc_base.specs.Places.{Place, place_cmp, place_eq}
 use Rattle.probe_lang.specs.declared.rows.Entry.{Entry}
 use Rattle.probe_lang.specs.Presents.{is_entry_at, holds_place, with_entry, without_entry, are_by_place}
 use Rattle.match_rows.specs.Rows.{count_before}
@@ -104,8 +107,7 @@ with_entry_by_place entry (other ∷ entries) order free =
 pub with_entry_at : (entry : Entry) (entries : List Entry) → holds_place entries entry.place ≡ false → insert entries (count_before entry.place entries) entry ≡ with_entry entry entries
 with_entry_at entry [] free = refl
 with_entry_at entry (other ∷ entries) free =
-    ap (λ (b : Bool). insert (other ∷ entries) (cond (is_before other.place entry.place) (1 + count_before entry.place entries) 0) entry) refl
-    ∙ by (is_before other.place entry.place) (with_entry_at entry entries (neither _ _ free).1)
+    by (is_before other.place entry.place) (with_entry_at entry entries (neither _ _ free).1)
     ∙ ap (λ (b : Bool). cond b (entry ∷ other ∷ entries) (other ∷ with_entry entry entries)) (sym (other_way entry.place other.place (neither _ _ free).0))
   where
     by : (b : Bool) → insert entries (count_before entry.place entries) entry ≡ with_entry entry entries
@@ -146,3 +148,115 @@ find_none place [] free = refl
 find_none place (entry ∷ entries) free =
     let parts = neither _ _ free in
     ap₂ (λ (b : Bool) (rest : Option Entry). cond b (Some entry) rest) parts.0 (find_none place entries parts.1)
+
+before_other : (p q : Place) → is_before p q ≡ true → is_same q p ≡ false
+before_other p q h = ap is_eq (place_total.antisymm q p ∙ ap ordering_reverse (less _ h))
+
+-- the entry at a place, if there is one, stands behind those that come before it
+find_at : (place : Place) (entries : List Entry) → are_by_place entries ≡ true
+    → find (is_entry_at place) entries ≡ option_filter (is_entry_at place) (slice_get entries (count_before place entries))
+find_at place [] order = refl
+find_at place (entry ∷ entries) order = by (is_before entry.place place) refl (find_at place entries (both _ _ order).1)
+  where
+    by : (b : Bool) → is_before entry.place place ≡ b → find (is_entry_at place) entries ≡ option_filter (is_entry_at place) (slice_get entries (count_before place entries))
+        → find (is_entry_at place) (entry ∷ entries) ≡ option_filter (is_entry_at place) (slice_get (entry ∷ entries) (cond b (1 + count_before place entries) 0))
+    by true e rest =
+        ap (λ (b : Bool). cond b (Some entry) (find (is_entry_at place) entries)) (before_other entry.place place e) ∙ rest
+        ∙ ap (λ (n : ℕ). option_filter (is_entry_at place) (slice_get (entry ∷ entries) n)) (let same : suc (count_before place entries) ≡ 1 + count_before place entries = omega arith in same)
+    by false e rest =
+        ap (λ (o : Option Entry). cond (is_entry_at place entry) (Some entry) o) (find_none place entries (none_behind entry.place place entries e (both _ _ order).0))
+
+eq_nat : (m n : ℕ) → is_eq (nat_cmp n m) ≡ (m == n)
+eq_nat m n = grind (arith, nat_tests)
+
+-- two places are the same where neither comes before the other
+same_place : (place other : Place) → place_eq other place ≡ is_same place other
+same_place place other = ap₂ (λ a b. a && b) (sym (eq_nat other.bus place.bus)) (sym (eq_nat other.address place.address)) ∙ by (nat_cmp place.bus other.bus) (nat_cmp place.address other.address)
+  where
+    by : (o p : Ordering) → (is_eq o && is_eq p) ≡ is_eq (ordering_then o p)
+    by Less p = refl
+    by Equal p = refl
+    by Greater p = refl
+
+pub find_behind : (place : Place) (entries : List Entry) → are_by_place entries ≡ true → slice_get entries (count_before place entries) ≡ None → find (is_entry_at place) entries ≡ None
+find_behind place entries order at = find_at place entries order ∙ ap (option_filter (is_entry_at place)) at
+
+pub find_here : (place : Place) (entries : List Entry) (entry : Entry) → are_by_place entries ≡ true → slice_get entries (count_before place entries) ≡ Some entry → place_eq entry.place place ≡ true
+    → find (is_entry_at place) entries ≡ Some entry
+find_here place entries entry order at same =
+    find_at place entries order ∙ ap (option_filter (is_entry_at place)) at ∙ ap (λ (b : Bool). cond b (Some entry) None) (sym (same_place place entry.place) ∙ same)
+
+pub find_other : (place : Place) (entries : List Entry) (entry : Entry) → are_by_place entries ≡ true → slice_get entries (count_before place entries) ≡ Some entry → place_eq entry.place place ≡ false
+    → find (is_entry_at place) entries ≡ None
+find_other place entries entry order at other =
+    find_at place entries order ∙ ap (option_filter (is_entry_at place)) at ∙ ap (λ (b : Bool). cond b (Some entry) None) (sym (same_place place entry.place) ∙ other)
+
+held_later : (place : Place) (entry : Entry) (entries : List Entry) → is_before entry.place place ≡ true → holds_place (entry ∷ entries) place ≡ true → holds_place entries place ≡ true
+held_later place entry entries e held = ap (λ (b : Bool). b || holds_place entries place) (sym (before_other entry.place place e)) ∙ held
+
+-- where an entry does not come before a place that is held, it stands there
+held_here : (place : Place) (entry : Entry) (entries : List Entry) → all_behind entry.place entries ≡ true → is_before entry.place place ≡ false → holds_place (entry ∷ entries) place ≡ true
+    → is_entry_at place entry ≡ true
+held_here place entry entries behind e held =
+    sym (or_false _) ∙ ap (λ (b : Bool). is_entry_at place entry || b) (sym (none_behind entry.place place entries e behind)) ∙ held
+  where
+    or_false : (b : Bool) → (b || false) ≡ b
+    or_false true = refl
+    or_false false = refl
+
+pub count_below : (place : Place) (entries : List Entry) → holds_place entries place ≡ true → count_before place entries < length entries
+count_below place [] held = absurd (cc)
+count_below place (entry ∷ entries) held = by (is_before entry.place place) refl (count_below place entries)
+  where
+    by : (b : Bool) → is_before entry.place place ≡ b → (holds_place entries place ≡ true → count_before place entries < length entries) → cond b (1 + count_before place entries) 0 < suc (length entries)
+    by true e later = let below = later (held_later place entry entries e held) in omega (arith, below)
+    by false e later = omega arith
+
+pub find_held : (place : Place) (entries : List Entry) → are_by_place entries ≡ true → holds_place entries place ≡ true
+    → find (is_entry_at place) entries ≡ slice_get entries (count_before place entries)
+find_held place [] order held = absurd (cc)
+find_held place (entry ∷ entries) order held = by (is_before entry.place place) refl (find_held place entries (both _ _ order).1)
+  where
+    by : (b : Bool) → is_before entry.place place ≡ b → (holds_place entries place ≡ true → find (is_entry_at place) entries ≡ slice_get entries (count_before place entries))
+        → find (is_entry_at place) (entry ∷ entries) ≡ slice_get (entry ∷ entries) (cond b (1 + count_before place entries) 0)
+    by true e later =
+        ap (λ (b : Bool). cond b (Some entry) (find (is_entry_at place) entries)) (before_other entry.place place e)
+        ∙ later (held_later place entry entries e held)
+        ∙ ap (λ (n : ℕ). slice_get (entry ∷ entries) n) (let same : suc (count_before place entries) ≡ 1 + count_before place entries = omega arith in same)
+    by false e later = ap (λ (b : Bool). cond b (Some entry) (find (is_entry_at place) entries)) (held_here place entry entries (both _ _ order).0 e held)
+
+pub without_entry_at : (place : Place) (entries : List Entry) → are_by_place entries ≡ true → holds_place entries place ≡ true
+    → remove entries (count_before place entries) ≡ without_entry place entries
+without_entry_at place [] order held = absurd (cc)
+without_entry_at place (entry ∷ entries) order held = by (is_before entry.place place) refl (without_entry_at place entries (both _ _ order).1)
+  where
+    by : (b : Bool) → is_before entry.place place ≡ b → (holds_place entries place ≡ true → remove entries (count_before place entries) ≡ without_entry place entries)
+        → remove (entry ∷ entries) (cond b (1 + count_before place entries) 0) ≡ without_entry place (entry ∷ entries)
+    by true e later =
+        ap (λ (n : ℕ). remove (entry ∷ entries) n) (let same : 1 + count_before place entries ≡ suc (count_before place entries) = omega arith in same)
+        ∙ ap (λ (rest : List Entry). entry ∷ rest) (later (held_later place entry entries e held))
+        ∙ ap (λ (b : Bool). cond (not b) (entry ∷ without_entry place entries) (without_entry place entries)) (sym (before_other entry.place place e))
+    by false e later =
+        sym (without_none place entries (none_behind entry.place place entries e (both _ _ order).0))
+        ∙ ap (λ (b : Bool). cond (not b) (entry ∷ without_entry place entries) (without_entry place entries)) (sym (held_here place entry entries (both _ _ order).0 e held))
+
+behind_at : (p : Place) (entries : List Entry) (j : ℕ) (d : Entry) → all_behind p entries ≡ true → j < length entries → is_before p (get_or entries j d).place ≡ true
+behind_at p [] j d behind below = absurd (omega (arith, below))
+behind_at p (entry ∷ entries) zero d behind below = (both _ _ behind).0
+behind_at p (entry ∷ entries) (suc j) d behind below = behind_at p entries j d (both _ _ behind).1 (omega (arith, below))
+
+-- those that come before a place stand before the others
+pub partitioned : (place : Place) (entries : List Entry) → are_by_place entries ≡ true → IsPartitionedBy (λ (entry : Entry). is_lt (place_cmp entry.place place)) entries
+partitioned place [] order i j d le below h = absurd (omega (arith, below))
+partitioned place (entry ∷ entries) order zero zero d le below h = h
+partitioned place (entry ∷ entries) order zero (suc j) d le below h =
+    before_trans entry.place (get_or entries j d).place place (behind_at entry.place entries j d (both _ _ order).0 (omega (arith, below))) h
+partitioned place (entry ∷ entries) order (suc i) zero d le below h = absurd (omega (arith, le))
+partitioned place (entry ∷ entries) order (suc i) (suc j) d le below h = partitioned place entries (both _ _ order).1 i j d (omega (arith, le)) (omega (arith, below)) h
+
+pub count_is : (place : Place) (entries : List Entry) (count : ℕ) → count ≤ length entries
+    → IsPartitionPoint (λ (entry : Entry). is_lt (place_cmp entry.place place) ≡ true) (λ (entry : Entry). is_lt (place_cmp entry.place place) ≡ false) entries count
+    → count ≡ count_before place entries
+count_is place [] count range point = omega (arith, range)
+count_is place (entry ∷ entries) count range point =
+    sym (prefix_len_is (λ (entry : Entry). is_lt (place_cmp entry.place place)) (entry ∷ entries) count entry range (λ k below. point.0 k entry (omega arith) below) (λ below. point.1 count entry (omega arith) below))

@@ -1,6 +1,4 @@
 ghost use Rattle.std.specs.Prelude.{◌≡◌, ◌<◌, ◌≤◌, [], false, true, length, find, option_map, Some, IfOk, OnOk, IsTrue};
-ghost use Rattle.std.specs.Ordering.{is_lt};
-ghost use Rattle.bmc_base.specs.Places.{place_cmp};
 ghost use Rattle.probe_lang.specs.Presents.{is_entry_at, holds_place, with_entry, without_entry, are_by_place};
 ghost use Rattle.match_rows.specs.Rows.{count_before};
 
@@ -98,10 +96,6 @@ impl Rows {
         ensures value { result ≡ count_before place self.now.entries }
         ensures range { result ≤ length self.now.entries }
     {
-        self.entries.partition_point(
-            |entry: &Entry| -> bool
-                ensures { result ≡ is_lt (place_cmp entry.now.place place) }
-            { entry.place < place },
-        )
+        self.entries.partition_point(|entry| entry.place < place)
     }
 }
