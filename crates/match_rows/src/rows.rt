@@ -1,0 +1,101 @@
+ghost use Rattle.std.specs.Prelude.{◌≡◌, ◌<◌, ◌≤◌, [], false, true, length, find, option_map, Some, IfOk, OnOk, IsTrue};
+ghost use Rattle.probe_lang.specs.Presents.{is_entry_at, holds_place, with_entry, without_entry, are_by_place};
+ghost use Rattle.match_rows.specs.Rows.{count_before};
+
+use bmc_base::{OutOfMemory, Place};
+use probe_lang::Entry;
+use std::alloc::Global;
+use std::marker::Model;
+
+/// The entries of the FRUs that are present, by place, and room for more of them.
+#[derive(Drop)]
+pub struct Rows {
+    entries: Vec<Entry>,
+}
+
+impl Model for Rows {
+    ghost use Rattle.std.specs.Prelude.{◌-◌, IsTrue, vec_len, vec_capacity};
+    ghost use Rattle.probe_lang.specs.Presents.{are_by_place};
+    ghost use Rattle.match_rows.specs.Rows.{RowsView};
+
+    ghost Value = { RowsView };
+
+    ghost view = { λ r. record { entries = r.entries.items; spare = vec_capacity r.entries - vec_len r.entries } };
+
+    ghost invariant = { λ r. IsTrue (are_by_place r.entries.items) };
+}
+
+// How many entries new rows have room for.
+const ROOM: usize = 8;
+
+impl Rows {
+    /// Returns rows without entries, and with room for a few.
+    pub fn new(alloc: Global) -> Result<Rows, OutOfMemory>
+        ensures { IfOk result (λ rows. rows.entries ≡ []) }
+    {
+        let entries = Vec::with_capacity(alloc, ROOM)?;
+        Ok(Rows { entries })
+    }
+
+    /// Makes room for one entry more. The entries stay, also for want of memory.
+    pub fn reserve(&mut self, alloc: Global) -> Result<(), OutOfMemory>
+        ensures entries { self.new.entries ≡ self.old.entries }
+        ensures room { OnOk result (0 < self.new.spare) }
+    {
+        let _ = alloc;
+        self.entries.reserve(1)?;
+        Ok(())
+    }
+
+    /// Borrows the entries, by place.
+    pub fn entries(&self) -> &[Entry]
+        ensures value { result.now ≡ self.now.entries }
+        ensures order { IsTrue (are_by_place self.now.entries) }
+    {
+        &self.entries
+    }
+
+    /// Borrows the entry at a place, if there is one.
+    pub fn entry(&self, place: Place) -> Option<&Entry>
+        ensures { option_map (λ entry. entry.now) result ≡ find (is_entry_at place) self.now.entries }
+    {
+        let position = self.count_before(place);
+        let entry = self.entries.get(position)?;
+        if entry.place == place {
+            Some(entry)
+        } else {
+            None
+        }
+    }
+
+    /// Puts an entry among the others, where there is room and its place is free. It takes no memory.
+    pub fn plug(&mut self, entry: Entry)
+        requires room { 0 < self.old.spare }
+        requires free { holds_place self.old.entries entry.place ≡ false }
+        ensures { self.new.entries ≡ with_entry entry self.old.entries }
+    {
+        let position = self.count_before(entry.place);
+        match self.entries.insert(position, entry) {
+            Ok(()) => {}
+            Err(_) => unreachable!(),
+        }
+    }
+
+    /// Takes out the entry at a place that is held, and returns it. It takes no memory.
+    pub fn unplug(&mut self, place: Place) -> Entry
+        requires held { holds_place self.old.entries place ≡ true }
+        ensures entries { self.new.entries ≡ without_entry place self.old.entries }
+        ensures entry { find (is_entry_at place) self.old.entries ≡ Some result }
+    {
+        let position = self.count_before(place);
+        self.entries.remove(position)
+    }
+
+    // Counts the entries that come before a place.
+    fn count_before(&self, place: Place) -> usize
+        ensures value { result ≡ count_before place self.now.entries }
+        ensures range { result ≤ length self.now.entries }
+    {
+        self.entries.partition_point(|entry| entry.place < place)
+    }
+}
