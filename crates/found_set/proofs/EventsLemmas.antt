@@ -17,13 +17,13 @@ pub none_within : (steps : Counts) (limit : ℕ) → IsWithin steps steps limit
 none_within steps limit = record { more = 0; within = omega arith; counted = no_evals steps }
 
 -- one that passes the one test and fails the other
-fails : (p q : Row → Bool) (rows : List Row) (at : ℕ) (default : Row) → at < length rows → p (get_or rows at default) ≡ true → q (get_or rows at default) ≡ false → list_all q (filter p rows) ≡ false
-fails p q [] at default h is not_so = absurd (omega (arith, h))
-fails p q (row ∷ rows) zero default h is not_so = ap (λ (b : Bool). list_all q (cond b (row ∷ filter p rows) (filter p rows))) is ∙ ap (λ (t : Bool). t && list_all q (filter p rows)) not_so
-fails p q (row ∷ rows) (suc at) default h is not_so = by (p row) (fails p q rows at default (omega (arith, h)) is not_so)
+fails : (test other : Row → Bool) (rows : List Row) (at : ℕ) (default : Row) → at < length rows → test (get_or rows at default) ≡ true → other (get_or rows at default) ≡ false → list_all other (filter test rows) ≡ false
+fails test other [] at default below is not_so = absurd (omega (arith, below))
+fails test other (row ∷ rows) zero default below is not_so = ap (λ (passes : Bool). list_all other (cond passes (row ∷ filter test rows) (filter test rows))) is ∙ ap (λ (t : Bool). t && list_all other (filter test rows)) not_so
+fails test other (row ∷ rows) (suc at) default below is not_so = by (test row) (fails test other rows at default (omega (arith, below)) is not_so)
   where
-    by : (b : Bool) → list_all q (filter p rows) ≡ false → list_all q (cond b (row ∷ filter p rows) (filter p rows)) ≡ false
-    by true rest = ap (λ (t : Bool). q row && t) rest ∙ and-false (q row)
+    by : (passes : Bool) → list_all other (filter test rows) ≡ false → list_all other (cond passes (row ∷ filter test rows) (filter test rows)) ≡ false
+    by true rest = ap (λ (t : Bool). other row && t) rest ∙ and-false (other row)
     by false rest = rest
 
 pub plug_evals : (row : Row) (rules : List Rule) (rows : List Row) (steps now : Counts) → is_idle row ≡ false → IsWithin steps now (2 * length rules) → IsWithin steps now (most_evals (PlugEvent row) rules rows)

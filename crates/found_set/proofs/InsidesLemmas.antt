@@ -14,74 +14,74 @@ use Rattle.found_set.specs.Events.{Staged, Event, ConfigEvent, PlugEvent, Unplug
 use Rattle.found_set.specs.Insides.{IsSound}
 use Rattle.found_set.proofs.RowsLemmas.{by_place_with, by_place_without}
 
-none_is_not_some : (s : Staged) → None ≡ Some s → ⊥
-none_is_not_some s e = cc
+none_is_not_some : (staged : Staged) → None ≡ Some staged → ⊥
+none_is_not_some staged same = cc
 
-some_is : (s t : Staged) → Some s ≡ Some t → s ≡ t
-some_is s t e = cc
+some_is : (staged other : Staged) → Some staged ≡ Some other → staged ≡ other
+some_is staged other same = cc
 
 -- nothing is staged
 pub bare : (P : Staged → Type 0) → ForSome None P
-bare P = λ s e. absurd (none_is_not_some s e)
+bare P = λ other same. absurd (none_is_not_some other same)
 
 pub bare_as : (P : Staged → Type 0) (staged : Option Staged) → staged ≡ None → ForSome staged P
-bare_as P staged e = λ s f. absurd (none_is_not_some s (sym e ∙ f))
+bare_as P staged same = λ other is. absurd (none_is_not_some other (sym same ∙ is))
 
 -- this is staged
-pub only : (P : Staged → Type 0) (s t : Staged) → s ≡ t → P t → ForSome (Some s) P
-only P s t e h = λ u f. subst P (sym e ∙ some_is s u f) h
+pub only : (P : Staged → Type 0) (staged other : Staged) → staged ≡ other → P other → ForSome (Some staged) P
+only P staged other same holds = λ third is. subst P (sym same ∙ some_is staged third is) holds
 
 -- the same rules, rows and facts, in other room and with something else staged
-pub sound_with : {L : Type 0} (a : Inside L) (names : NamesView) (rules : Vec Rule Global) (rows : Vec Row Global) (staged : Option Staged) → IsSound a → names.names ≡ a.names.names → rules.items ≡ a.rules.items → rows.items ≡ a.rows.items
-    → ForSome staged (λ (s : Staged). s.facts ≡ facts_after s.event a.rules.items a.rows.items) → ForSome staged (λ (s : Staged). HasRoom s.event names rules rows)
-    → (let b : Inside L = record { names = names; rules = rules; rows = rows; facts = a.facts; staged = staged } in IsSound b)
-sound_with a names rules rows staged h en er eo next room = record {
-  named = en ∙ h.named ∙ ap names_of (sym er);
-  few = subst (λ (rs : List Rule). length rs ≤ 256) (sym er) h.few;
-  by_place = ap are_by_place eo ∙ h.by_place;
-  facts = h.facts ∙ ap₂ (λ (rs : List Rule) (ws : List Row). facts rs (sights_of ws)) (sym er) (sym eo);
-  next = λ s e. next s e ∙ ap₂ (λ (rs : List Rule) (ws : List Row). facts_after s.event rs ws) (sym er) (sym eo);
+pub sound_with : {L : Type 0} (inside : Inside L) (names : NamesView) (rules : Vec Rule Global) (rows : Vec Row Global) (staged : Option Staged) → IsSound inside → names.names ≡ inside.names.names → rules.items ≡ inside.rules.items → rows.items ≡ inside.rows.items
+    → ForSome staged (λ (event_staged : Staged). event_staged.facts ≡ facts_after event_staged.event inside.rules.items inside.rows.items) → ForSome staged (λ (event_staged : Staged). HasRoom event_staged.event names rules rows)
+    → (let after : Inside L = record { names = names; rules = rules; rows = rows; facts = inside.facts; staged = staged } in IsSound after)
+sound_with inside names rules rows staged sound names_same rules_same rows_same next room = record {
+  named = names_same ∙ sound.named ∙ ap names_of (sym rules_same);
+  few = subst (λ (rs : List Rule). length rs ≤ 256) (sym rules_same) sound.few;
+  by_place = ap are_by_place rows_same ∙ sound.by_place;
+  facts = sound.facts ∙ ap₂ (λ (rs : List Rule) (ws : List Row). facts rs (sights_of ws)) (sym rules_same) (sym rows_same);
+  next = λ event_staged is. next event_staged is ∙ ap₂ (λ (rs : List Rule) (ws : List Row). facts_after event_staged.event rs ws) (sym rules_same) (sym rows_same);
   room = room;
 }
 
 -- what is seen with this staged
-pub seen_with : (v : SetView) (rules : List Rule) (rows : List Row) (fs : Facts) (s t : Staged) → rules ≡ v.rules → rows ≡ v.rows → fs ≡ v.facts → s ≡ t
-    → (let w : SetView = record { rules = rules; rows = rows; facts = fs; staged = Some s } in w) ≡ as_staged v (Some t)
-seen_with v rules rows fs s t er eo ef es = cc
+pub seen_with : (view : SetView) (rules : List Rule) (rows : List Row) (facts_now : Facts) (now other : Staged) → rules ≡ view.rules → rows ≡ view.rows → facts_now ≡ view.facts → now ≡ other
+    → (let seen : SetView = record { rules = rules; rows = rows; facts = facts_now; staged = Some now } in seen) ≡ as_staged view (Some other)
+seen_with view rules rows facts_now now other rules_same rows_same facts_same staged_same = cc
 
 -- what is seen with nothing staged
-pub seen_bare : (rules others : List Rule) (rows rest : List Row) (fs gs : Facts) → rules ≡ others → rows ≡ rest → fs ≡ gs
-    → (let v : SetView = record { rules = rules; rows = rows; facts = fs; staged = None } in v) ≡ record { rules = others; rows = rest; facts = gs; staged = None }
-seen_bare rules others rows rest fs gs er eo ef = cc
+pub seen_bare : (rules others : List Rule) (rows rest : List Row) (facts_now other_facts : Facts) → rules ≡ others → rows ≡ rest → facts_now ≡ other_facts
+    → (let seen : SetView = record { rules = rules; rows = rows; facts = facts_now; staged = None } in seen) ≡ record { rules = others; rows = rest; facts = other_facts; staged = None }
+seen_bare rules others rows rest facts_now other_facts rules_same rows_same facts_same = cc
 
-few_after : (e : Event) (names : NamesView) (rules : Vec Rule Global) (rows : Vec Row Global) → HasRoom e names rules rows → length rules.items ≤ 256 → length (rules_after e rules.items) ≤ 256
-few_after (ConfigEvent rule) names rules rows room h = omega (arith, room.3, length-append rules.items (rule ∷ []))
-few_after (PlugEvent row) names rules rows room h = h
-few_after (UnplugEvent place) names rules rows room h = h
+few_after : (event : Event) (names : NamesView) (rules : Vec Rule Global) (rows : Vec Row Global) → HasRoom event names rules rows → length rules.items ≤ 256 → length (rules_after event rules.items) ≤ 256
+few_after (ConfigEvent rule) names rules rows room few = omega (arith, room.3, length-append rules.items (rule ∷ []))
+few_after (PlugEvent row) names rules rows room few = few
+few_after (UnplugEvent place) names rules rows room few = few
 
-by_place_after : (e : Event) (names : NamesView) (rules : Vec Rule Global) (rows : Vec Row Global) → HasRoom e names rules rows → are_by_place rows.items ≡ true → are_by_place (rows_after e rows.items) ≡ true
-by_place_after (ConfigEvent rule) names rules rows room h = h
-by_place_after (PlugEvent row) names rules rows room h = by_place_with row rows.items h room.1
-by_place_after (UnplugEvent place) names rules rows room h = by_place_without place rows.items h
+by_place_after : (event : Event) (names : NamesView) (rules : Vec Rule Global) (rows : Vec Row Global) → HasRoom event names rules rows → are_by_place rows.items ≡ true → are_by_place (rows_after event rows.items) ≡ true
+by_place_after (ConfigEvent rule) names rules rows room ordered = ordered
+by_place_after (PlugEvent row) names rules rows room ordered = by_place_with row rows.items ordered room.1
+by_place_after (UnplugEvent place) names rules rows room ordered = by_place_without place rows.items ordered
 
-names_are_after : (e : Event) (rules : List Rule) (names : List (List ℕ)) → names ≡ names_of rules → names_after e names ≡ names_of (rules_after e rules)
-names_are_after (ConfigEvent rule) rules names h = ap (λ (ns : List (List ℕ)). ns ++ rule.name ∷ []) h ∙ sym (map-append (λ (r : Rule). r.name) rules (rule ∷ []))
-names_are_after (PlugEvent row) rules names h = h
-names_are_after (UnplugEvent place) rules names h = h
+names_are_after : (event : Event) (rules : List Rule) (names : List (List ℕ)) → names ≡ names_of rules → names_after event names ≡ names_of (rules_after event rules)
+names_are_after (ConfigEvent rule) rules names named = ap (λ (ns : List (List ℕ)). ns ++ rule.name ∷ []) named ∙ sym (map-append (λ (r : Rule). r.name) rules (rule ∷ []))
+names_are_after (PlugEvent row) rules names named = named
+names_are_after (UnplugEvent place) rules names named = named
 
 -- what was staged is taken over
-pub sound_after : {L : Type 0} (a : Inside L) (s : Staged) (names : NamesView) (rules : Vec Rule Global) (rows : Vec Row Global) (fs : Facts) (staged : Option Staged) → IsSound a → a.staged ≡ Some s
-    → names.names ≡ names_after s.event a.names.names → rules.items ≡ rules_after s.event a.rules.items → rows.items ≡ rows_after s.event a.rows.items → fs ≡ s.facts → staged ≡ None
-    → (let b : Inside L = record { names = names; rules = rules; rows = rows; facts = fs; staged = staged } in IsSound b)
-sound_after a s names rules rows fs staged h e en er eo ef none = record {
-  named = en ∙ names_are_after s.event a.rules.items a.names.names h.named ∙ ap names_of (sym er);
-  by_place = ap are_by_place eo ∙ by_place_after s.event a.names a.rules a.rows (h.room s e) h.by_place;
-  few = subst (λ (rs : List Rule). length rs ≤ 256) (sym er) (few_after s.event a.names a.rules a.rows (h.room s e) h.few);
-  facts = ef ∙ h.next s e ∙ ap₂ (λ (rs : List Rule) (ws : List Row). facts rs (sights_of ws)) (sym er) (sym eo);
+pub sound_after : {L : Type 0} (inside : Inside L) (event_staged : Staged) (names : NamesView) (rules : Vec Rule Global) (rows : Vec Row Global) (facts_now : Facts) (staged : Option Staged) → IsSound inside → inside.staged ≡ Some event_staged
+    → names.names ≡ names_after event_staged.event inside.names.names → rules.items ≡ rules_after event_staged.event inside.rules.items → rows.items ≡ rows_after event_staged.event inside.rows.items → facts_now ≡ event_staged.facts → staged ≡ None
+    → (let after : Inside L = record { names = names; rules = rules; rows = rows; facts = facts_now; staged = staged } in IsSound after)
+sound_after inside event_staged names rules rows facts_now staged sound is names_same rules_same rows_same facts_same none = record {
+  named = names_same ∙ names_are_after event_staged.event inside.rules.items inside.names.names sound.named ∙ ap names_of (sym rules_same);
+  by_place = ap are_by_place rows_same ∙ by_place_after event_staged.event inside.names inside.rules inside.rows (sound.room event_staged is) sound.by_place;
+  few = subst (λ (rs : List Rule). length rs ≤ 256) (sym rules_same) (few_after event_staged.event inside.names inside.rules inside.rows (sound.room event_staged is) sound.few);
+  facts = facts_same ∙ sound.next event_staged is ∙ ap₂ (λ (rs : List Rule) (ws : List Row). facts rs (sights_of ws)) (sym rules_same) (sym rows_same);
   next = bare_as _ _ none;
   room = bare_as _ _ none;
 }
 
 -- what is pushed and popped comes back
-pub back : {X : Type 0} (old mid new : List X) (e x : X) → mid ≡ old ++ e ∷ [] → mid ≡ new ++ x ∷ [] → (new ≡ old) × (x ≡ e)
-back old mid new e x p q = same_from_push new old x e (sym q ∙ p)
+pub back : {X : Type 0} (old mid new : List X) (item last : X) → mid ≡ old ++ item ∷ [] → mid ≡ new ++ last ∷ [] → (new ≡ old) × (last ≡ item)
+back old mid new item last pushed popped = same_from_push new old last item (sym popped ∙ pushed)

@@ -9,25 +9,25 @@ use Rattle.found_set.specs.Rows.{row_sight, sights_of}
 use Rattle.found_set.specs.Laws.{AreKept, IsKept}
 use Rattle.found_set.proofs.IdleLemmas.{facts_same}
 
-any_cond : (f : Sight → Bool) (b : Bool) (sight : Sight) (sights : List Sight) → list_any f (cond b (sight ∷ sights) sights) ≡ ((b && f sight) || list_any f sights)
-any_cond f true sight sights = refl
-any_cond f false sight sights = refl
+any_cond : (test : Sight → Bool) (stays : Bool) (sight : Sight) (sights : List Sight) → list_any test (cond stays (sight ∷ sights) sights) ≡ ((stays && test sight) || list_any test sights)
+any_cond test true sight sights = refl
+any_cond test false sight sights = refl
 
 -- what the two have in common on each choice of buses
-module _ (f : Sight → Bool) (test : ℕ → Bool) where
-  any_kept : (rows : List Row) (sights : List Sight) → AreKept rows sights → ((row : Row) (sight : Sight) → IsKept row sight → f (row_sight row) ≡ f sight)
-      → list_any f (on_buses test (sights_of rows)) ≡ list_any f (on_buses test sights)
-  any_kept [] [] k h = refl
-  any_kept [] (sight ∷ sights) k h = absurd k
-  any_kept (row ∷ rows) [] k h = absurd k
-  any_kept (row ∷ rows) (sight ∷ sights) k h =
-      any_cond f (test row.place.bus) (row_sight row) (on_buses test (sights_of rows))
-      ∙ ap₂ (λ (x y : Bool). x || y) (ap₂ (λ (p : Place) (x : Bool). test p.bus && x) k.0.place (h row sight k.0)) (any_kept rows sights k.1 h)
-      ∙ sym (any_cond f (test sight.place.bus) sight (on_buses test sights))
+module _ (sees : Sight → Bool) (test : ℕ → Bool) where
+  any_kept : (rows : List Row) (sights : List Sight) → AreKept rows sights → ((row : Row) (sight : Sight) → IsKept row sight → sees (row_sight row) ≡ sees sight)
+      → list_any sees (on_buses test (sights_of rows)) ≡ list_any sees (on_buses test sights)
+  any_kept [] [] kept alike = refl
+  any_kept [] (sight ∷ sights) kept alike = absurd kept
+  any_kept (row ∷ rows) [] kept alike = absurd kept
+  any_kept (row ∷ rows) (sight ∷ sights) kept alike =
+      any_cond sees (test row.place.bus) (row_sight row) (on_buses test (sights_of rows))
+      ∙ ap₂ (λ (x y : Bool). x || y) (ap₂ (λ (p : Place) (x : Bool). test p.bus && x) kept.0.place (alike row sight kept.0)) (any_kept rows sights kept.1 alike)
+      ∙ sym (any_cond sees (test sight.place.bus) sight (on_buses test sights))
 
 pub kept_scan : (rules : List Rule) (rows : List Row) (sights : List Sight) → AreKept rows sights → facts rules (sights_of rows) ≡ facts rules sights
-kept_scan rules rows sights k =
+kept_scan rules rows sights kept =
     facts_same (sights_of rows) sights
-    (λ test c p. any_kept (λ (s : Sight). s.matched c p) test rows sights k (λ row sight is. is.matched c p))
-    (λ c bus. any_kept (λ (s : Sight). s.opened c bus) is_root rows sights k (λ row sight is. is.opened c bus))
+    (λ test c p. any_kept (λ (s : Sight). s.matched c p) test rows sights kept (λ row sight is. is.matched c p))
+    (λ c bus. any_kept (λ (s : Sight). s.opened c bus) is_root rows sights kept (λ row sight is. is.opened c bus))
     rules

@@ -1,6 +1,8 @@
 -- The two passes: what is marked after each.
 use Rattle.std.proofs.Common.{◌≡◌, ◌∙◌, ℕ, ◌+◌, ◌*◌, Bool, true, false, not, ◌&&◌, ◌||◌, List, [], ◌∷◌, replicate, refl, ap, ap₂, sym}
 use Rattle.std.specs.List.{list_any}
+use Rattle.std.proofs.Math.Bool.{or-false}
+use Rattle.std.proofs.lemmas.Bool.{or_parts}
 use Rattle.probe_lang.specs.Sights.{Sight, has_hit}
 use Rattle.found_set.specs.declared.row.Row.{Row}
 use Rattle.found_set.specs.Marks.{is_true, AreTrue}
@@ -15,15 +17,15 @@ matched_on test rows c p = sym (any_on (λ (sight : Sight). sight.matched c p) t
 
 -- what matches on root buses
 pub first_marked : (rows : List Row) (marks : List Bool) → AreTrue marks (λ c p. is_true (replicate 4352 false) c p || list_any (has_on is_root c p) rows) → AreTrue marks (matched_by (on_buses is_root (sights_of rows)))
-first_marked rows marks h = λ c p hc hp. h c p hc hp ∙ ap (λ (b : Bool). b || list_any (has_on is_root c p) rows) (none_marked 4352 (17 * c + p)) ∙ matched_on is_root rows c p
+first_marked rows marks told = λ c p hc hp. told c p hc hp ∙ ap (λ (b : Bool). b || list_any (has_on is_root c p) rows) (none_marked 4352 (17 * c + p)) ∙ matched_on is_root rows c p
 
-either_way : (root more hit : Bool) (a b : Bool) → (((root && hit) || a) || ((not root && (root || more) && hit) || b)) ≡ (((root || more) && hit) || (a || b))
-either_way true more true a b = refl
-either_way true more false a b = refl
-either_way false true true true b = refl
-either_way false true true false b = refl
-either_way false true false a b = refl
-either_way false false hit a b = refl
+either_way : (root more hit : Bool) (left right : Bool) → (((root && hit) || left) || ((not root && (root || more) && hit) || right)) ≡ (((root || more) && hit) || (left || right))
+either_way true more true left right = refl
+either_way true more false left right = refl
+either_way false true true true right = refl
+either_way false true true false right = refl
+either_way false true false left right = refl
+either_way false false hit left right = refl
 
 module _ (rules : List Rule) (sights : List Sight) (c p : ℕ) where
   -- what is on root buses and what is beyond them is what is visible
@@ -33,33 +35,25 @@ module _ (rules : List Rule) (sights : List Sight) (c p : ℕ) where
       either_way (is_root row.place.bus) _ (has_hit row.hits c p) (list_any (has_on is_root c p) rows) (list_any (has_on (is_beyond (is_reached rules sights)) c p) rows)
       ∙ ap (λ (b : Bool). (is_reached rules sights row.place.bus && has_hit row.hits c p) || b) (all_visible rows)
 
-or_none : (a b : Bool) → (a || b) ≡ false → (a ≡ false) × (b ≡ false)
-or_none true b h = (h, absurd (cc))
-or_none false b h = (refl, h)
-
 none_has : (test : ℕ → Bool) (c p : ℕ) (rows : List Row) → list_any (stands_on test) rows ≡ false → list_any (has_on test c p) rows ≡ false
-none_has test c p [] h = refl
-none_has test c p (row ∷ rows) h =
-    let both = or_none _ _ h in
+none_has test c p [] none = refl
+none_has test c p (row ∷ rows) none =
+    let both = or_parts _ _ none in
     ap₂ (λ (x y : Bool). (x && has_hit row.hits c p) || y) both.0 (none_has test c p rows both.1)
 
 -- what matches where it is visible
 pub then_marked : (rules : List Rule) (rows : List Row) (marks more : List Bool) → AreTrue marks (matched_by (on_buses is_root (sights_of rows)))
     → AreTrue more (λ c p. is_true marks c p || list_any (has_on (is_beyond (is_reached rules (sights_of rows))) c p) rows)
     → AreTrue more (matched_by (on_buses (is_reached rules (sights_of rows)) (sights_of rows)))
-then_marked rules rows marks more h k = λ c p hc hp.
-    k c p hc hp ∙ ap (λ (b : Bool). b || list_any (has_on (is_beyond (is_reached rules (sights_of rows))) c p) rows) (h c p hc hp ∙ sym (matched_on is_root rows c p))
+then_marked rules rows marks more first told = λ c p hc hp.
+    told c p hc hp ∙ ap (λ (b : Bool). b || list_any (has_on (is_beyond (is_reached rules (sights_of rows))) c p) rows) (first c p hc hp ∙ sym (matched_on is_root rows c p))
     ∙ all_visible rules (sights_of rows) c p rows ∙ matched_on (is_reached rules (sights_of rows)) rows c p
 
 -- the same where none is beyond the root buses
 pub still_marked : (rules : List Rule) (rows : List Row) (marks : List Bool) → AreTrue marks (matched_by (on_buses is_root (sights_of rows)))
     → list_any (stands_on (is_beyond (is_reached rules (sights_of rows)))) rows ≡ false
     → AreTrue marks (matched_by (on_buses (is_reached rules (sights_of rows)) (sights_of rows)))
-still_marked rules rows marks h none = λ c p hc hp.
+still_marked rules rows marks told none = λ c p hc hp.
     let beyond = is_beyond (is_reached rules (sights_of rows)) in
-    h c p hc hp ∙ sym (matched_on is_root rows c p) ∙ sym (or_right (list_any (has_on is_root c p) rows)) ∙ ap (λ (b : Bool). list_any (has_on is_root c p) rows || b) (sym (none_has beyond c p rows none))
+    told c p hc hp ∙ sym (matched_on is_root rows c p) ∙ sym (or-false (list_any (has_on is_root c p) rows)) ∙ ap (λ (b : Bool). list_any (has_on is_root c p) rows || b) (sym (none_has beyond c p rows none))
     ∙ all_visible rules (sights_of rows) c p rows ∙ matched_on (is_reached rules (sights_of rows)) rows c p
-  where
-    or_right : (b : Bool) → (b || false) ≡ b
-    or_right true = refl
-    or_right false = refl

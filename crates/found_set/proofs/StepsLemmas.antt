@@ -3,15 +3,17 @@ use Rattle.std.proofs.Common.{◌≡◌, ℕ, ◌+◌, ap, sym, ◌∙◌, arith
 use Rattle.bmc_base.specs.Counts.{raised}
 use Rattle.bmc_base.specs.Steps.{Counts, with_evals}
 
-raised_none : (c : ℕ) → c ≡ raised c 0
-raised_none c = omega arith
+raised_none : (count : ℕ) → count ≡ raised count 0
+raised_none count = omega arith
 
-raised_more : (c m n : ℕ) → raised (raised c m) n ≡ raised c (m + n)
-raised_more c m n = omega arith
+raised_twice : (count m n : ℕ) → raised (raised count m) n ≡ raised count (m + n)
+raised_twice count m n = omega arith
 
-pub no_evals : (s : Counts) → s ≡ with_evals s 0
-no_evals s = ap (λ (x : ℕ). record { matches = s.matches; evals = x }) (raised_none s.evals)
+pub no_evals : (steps : Counts) → steps ≡ with_evals steps 0
+no_evals steps = ap (λ (n : ℕ). record { matches = steps.matches; evals = n }) (raised_none steps.evals)
 
-pub evals_more : (s t u : Counts) (m n k : ℕ) → t ≡ with_evals s m → u ≡ with_evals t n → k ≡ m + n → u ≡ with_evals s k
-evals_more s t u m n k e f h =
-    f ∙ (ap (λ (c : Counts). with_evals c n) e ∙ ap (λ (x : ℕ). record { matches = s.matches; evals = x }) (raised_more s.evals m n ∙ ap (raised s.evals) (sym h)))
+pub evals_more : (first second third : Counts) (m n k : ℕ) → second ≡ with_evals first m → third ≡ with_evals second n → k ≡ m + n
+    → third ≡ with_evals first k
+evals_more first second third m n k once twice total =
+    twice ∙ ap (λ (counts : Counts). with_evals counts n) once
+    ∙ ap (λ (evals : ℕ). record { matches = first.matches; evals = evals }) (raised_twice first.evals m n ∙ ap (raised first.evals) (sym total))

@@ -190,8 +190,7 @@ impl<L: Ledger> FoundSet<L> {
         if self.rows[at].is_idle() {
             return self.facts;
         }
-        let (before, rest) = self.rows.as_slice().split_at(at);
-        let (_, after) = rest.split_at(1);
+        let (before, after) = (&self.rows[..at], &self.rows[at + 1..]);
         evaluate(&self.rules, &self.names, &Parts::of(before, after), steps)
     }
 

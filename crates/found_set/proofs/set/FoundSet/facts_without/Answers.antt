@@ -1,13 +1,12 @@
 -- A row that is idle changes nothing; else all is evaluated without it.
-use Rattle.std.proofs.Common.{◌≡◌, ◌∙◌, ℕ, ◌+◌, ◌*◌, ◌++◌, List, length, suc, get_or, false, take, drop, Some, ap, ap₂, sym, subst, arith}
+use Rattle.std.proofs.Common.{◌≡◌, ◌∙◌, ℕ, ◌+◌, ◌-◌, ◌*◌, ◌++◌, List, length, get_or, false, take, drop, Some, ap, ap₂, sym, subst}
 use Rattle.std.specs.Prelude.{position}
-use Rattle.std.proofs.lemmas.List.{drop-drop}
 use Rattle.std.proofs.lemmas.List.Quantifiers.{position-Some}
 use Rattle.bmc_base.specs.Steps.{IsWithin}
 use Rattle.found_set.specs.declared.row.Row.{Row}
 use Rattle.found_set.specs.Found.{Rule, facts}
 use Rattle.found_set.specs.Rows.{sights_of, is_row_at, is_idle, without_row}
-use Rattle.found_set.proofs.RowsLemmas.{without_row_at, none_without}
+use Rattle.found_set.proofs.RowsLemmas.{without_row_at, without_sliced, none_without}
 use Rattle.found_set.proofs.IdleLemmas.{idle_parts, idle_remove}
 use Rattle.found_set.proofs.EventsLemmas.{none_within, unplug_evals}
 use Rattle.found_set.proofs.set.FoundSet.facts_without.Goals as goal
@@ -38,12 +37,10 @@ returns-clause-facts g c =
     let rows = c.self.inside.rows.items in
     let at = c.in-Some.at in
     let found : position (is_row_at c.args.place) rows ≡ Some at = sym (ap (position (is_row_at c.args.place)) c.deref.ensures.value) ∙ sym c.position_at.ensures ∙ c.in-Some.is in
-    let next : at + 1 ≡ suc at = omega arith in
-    let after : c.split_at-2.result.1.now ≡ drop (suc at) rows = c.split_at-2.ensures.back ∙ ap (drop 1) (c.split_at.ensures.back ∙ ap (drop at) c.as_slice.ensures.value) ∙ drop-drop 1 at rows ∙ ap (λ (n : ℕ). drop n rows) next in
     let parts : c.of.result ≡ without_row c.args.place rows =
-    c.of.ensures ∙ ap₂ (λ (before after : List Row). before ++ after) (c.split_at.ensures.front ∙ ap (take at) c.as_slice.ensures.value) after
-    ∙ sym (without_row_at c.args.place rows at c.index.result.now c.self.invariant.by_place found) in
-    rw (← c.self.view_is) (c.evaluate.ensures.facts ∙ ap₂ (λ (rules : List Rule) (rows : List Row). facts rules (sights_of rows)) c.deref-2.ensures.value parts)
+    c.of.ensures ∙ ap₂ (λ (first rest : List Row). take at first ++ take (length rest - (at + 1)) (drop (at + 1) rest)) c.deref-2.ensures.value c.deref-3.ensures.value
+    ∙ without_sliced c.args.place rows at c.index.result.now c.self.invariant.by_place found in
+    rw (← c.self.view_is) (c.evaluate.ensures.facts ∙ ap₂ (λ (rules : List Rule) (rows : List Row). facts rules (sights_of rows)) c.deref-4.ensures.value parts)
 
 pub returns-clause-counted : goal.returns-clause-counted
 returns-clause-counted g c =
@@ -52,5 +49,5 @@ returns-clause-counted g c =
     let at = c.in-Some.at in
     let found : position (is_row_at c.args.place) rows ≡ Some at = sym (ap (position (is_row_at c.args.place)) c.deref.ensures.value) ∙ sym c.position_at.ensures ∙ c.in-Some.is in
     let busy : is_idle (get_or rows at c.index.result.now) ≡ false = ap is_idle (sym c.index.ensures) ∙ sym c.if-is_idle.ensures in
-    let within : IsWithin c.args.steps.now c.evaluate.new.steps (2 * length rules) = subst (λ (rules : List Rule). IsWithin c.args.steps.now c.evaluate.new.steps (2 * length rules)) c.deref-2.ensures.value c.evaluate.ensures.counted in
+    let within : IsWithin c.args.steps.now c.evaluate.new.steps (2 * length rules) = subst (λ (rules : List Rule). IsWithin c.args.steps.now c.evaluate.new.steps (2 * length rules)) c.deref-4.ensures.value c.evaluate.ensures.counted in
     rw (← c.self.view_is) (unplug_evals c.args.place rules rows at c.index.result.now _ _ found busy within)
