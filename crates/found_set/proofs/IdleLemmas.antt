@@ -17,7 +17,8 @@ use Rattle.found_set.specs.Buses.{has_on}
 use Rattle.found_set.proofs.BusesLemmas.{any_on}
 
 -- facts read of sights only what they have in common on each choice of buses
-opens_same : (c : ℕ) (rules : List Rule) (marks : List Bool) (sights others : List Sight) (bus : ℕ) → ((n : ℕ) → moves_to sights n bus ≡ moves_to others n bus) → opens c rules marks sights bus ≡ opens c rules marks others bus
+opens_same : (c : ℕ) (rules : List Rule) (marks : List Bool) (sights others : List Sight) (bus : ℕ) → ((n : ℕ) → moves_to sights n bus ≡ moves_to others n bus)
+    → opens c rules marks sights bus ≡ opens c rules marks others bus
 opens_same c [] marks sights others bus alike = refl
 opens_same c (rule ∷ rules) [] sights others bus alike = refl
 opens_same c (rule ∷ rules) (first ∷ later) sights others bus alike =
@@ -26,7 +27,9 @@ opens_same c (rule ∷ rules) (first ∷ later) sights others bus alike =
 module _ (sights others : List Sight) (matched : (test : ℕ → Bool) (c p : ℕ) → matched_by (on_buses test sights) c p ≡ matched_by (on_buses test others) c p)
     (moved : (c bus : ℕ) → moves_to (roots sights) c bus ≡ moves_to (roots others) c bus) (rules : List Rule) where
   found_same : (test : ℕ → Bool) → found rules (on_buses test sights) ≡ found rules (on_buses test others)
-  found_same test = let same : matched_by (on_buses test sights) ≡ matched_by (on_buses test others) = λ i c p. matched test c p i in ap (λ (t : ℕ → ℕ → Bool). found_from rules rules t []) same
+  found_same test =
+      let same : matched_by (on_buses test sights) ≡ matched_by (on_buses test others) = λ i c p. matched test c p i in
+      ap (λ (t : ℕ → ℕ → Bool). found_from rules rules t []) same
 
   reached_same : (bus : ℕ) → is_reached rules sights bus ≡ is_reached rules others bus
   reached_same bus =
@@ -44,7 +47,8 @@ module _ (sights others : List Sight) (matched : (test : ℕ → Bool) (c p : �
 abbrev moves_on : ℕ → ℕ → Row → Bool
 moves_on c bus row = is_root row.place.bus && (row_sight row).opened c bus
 
-rows_same : (rules : List Rule) (rows others : List Row) → ((test : ℕ → Bool) (c p : ℕ) → list_any (has_on test c p) rows ≡ list_any (has_on test c p) others) → ((c bus : ℕ) → list_any (moves_on c bus) rows ≡ list_any (moves_on c bus) others)
+rows_same : (rules : List Rule) (rows others : List Row) → ((test : ℕ → Bool) (c p : ℕ) → list_any (has_on test c p) rows ≡ list_any (has_on test c p) others)
+    → ((c bus : ℕ) → list_any (moves_on c bus) rows ≡ list_any (moves_on c bus) others)
     → facts rules (sights_of rows) ≡ facts rules (sights_of others)
 rows_same rules rows others matched moved =
     facts_same (sights_of rows) (sights_of others)
@@ -53,9 +57,11 @@ rows_same rules rows others matched moved =
     rules
 
 -- one that fails a test, among others
-any_without : (test : Row → Bool) (before after : List Row) (row : Row) → test row ≡ false → list_any test (before ++ row ∷ after) ≡ list_any test (before ++ after)
+any_without : (test : Row → Bool) (before after : List Row) (row : Row) → test row ≡ false
+    → list_any test (before ++ row ∷ after) ≡ list_any test (before ++ after)
 any_without test before after row fails =
-    list_any-append test before (row ∷ after) ∙ ap (λ (b : Bool). list_any test before || (b || list_any test after)) fails ∙ sym (list_any-append test before after)
+    list_any-append test before (row ∷ after) ∙ ap (λ (b : Bool). list_any test before || (b || list_any test after)) fails
+    ∙ sym (list_any-append test before after)
 
 module _ (row : Row) (hits : row.hits ≡ []) (channels : row.channels ≡ []) where
   no_hit : (test : ℕ → Bool) (c p : ℕ) → has_on test c p row ≡ false
@@ -71,11 +77,14 @@ module _ (row : Row) (hits : row.hits ≡ []) (channels : row.channels ≡ []) w
       (λ c bus. any_without (moves_on c bus) before after row (no_move c bus))
 
   pub idle_insert : (rules : List Rule) (rows : List Row) (at : ℕ) → facts rules (sights_of rows) ≡ facts rules (sights_of (insert rows at row))
-  idle_insert rules rows at = ap (λ (rs : List Row). facts rules (sights_of rs)) (sym (take-append-drop at rows)) ∙ sym (idle_among rules (take at rows) (drop at rows))
+  idle_insert rules rows at =
+      ap (λ (rs : List Row). facts rules (sights_of rs)) (sym (take-append-drop at rows)) ∙ sym (idle_among rules (take at rows) (drop at rows))
 
-  pub idle_remove : (rules : List Rule) (rows : List Row) (at : ℕ) → at < length rows → row ≡ get_or rows at row → facts rules (sights_of rows) ≡ facts rules (sights_of (remove rows at))
+  pub idle_remove : (rules : List Rule) (rows : List Row) (at : ℕ) → at < length rows → row ≡ get_or rows at row
+      → facts rules (sights_of rows) ≡ facts rules (sights_of (remove rows at))
   idle_remove rules rows at below is =
-      ap (λ (rs : List Row). facts rules (sights_of rs)) (sym (take-append-drop at rows) ∙ ap (λ (rs : List Row). take at rows ++ rs) (drop_more rows at row below ∙ ap (λ (r : Row). r ∷ drop (at + 1) rows) (sym is)))
+      ap (λ (rs : List Row). facts rules (sights_of rs)) (sym (take-append-drop at rows)
+      ∙ ap (λ (rs : List Row). take at rows ++ rs) (drop_more rows at row below ∙ ap (λ (r : Row). r ∷ drop (at + 1) rows) (sym is)))
       ∙ idle_among rules (take at rows) (drop (at + 1) rows)
       ∙ (let next : at + 1 ≡ suc at = omega arith in ap (λ (n : ℕ). facts rules (sights_of (take at rows ++ drop n rows))) next)
 

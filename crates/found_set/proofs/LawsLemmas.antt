@@ -9,13 +9,15 @@ use Rattle.found_set.specs.Rows.{row_sight, sights_of}
 use Rattle.found_set.specs.Laws.{AreKept, IsKept}
 use Rattle.found_set.proofs.IdleLemmas.{facts_same}
 
-any_cond : (test : Sight → Bool) (stays : Bool) (sight : Sight) (sights : List Sight) → list_any test (cond stays (sight ∷ sights) sights) ≡ ((stays && test sight) || list_any test sights)
+any_cond : (test : Sight → Bool) (stays : Bool) (sight : Sight) (sights : List Sight)
+    → list_any test (cond stays (sight ∷ sights) sights) ≡ ((stays && test sight) || list_any test sights)
 any_cond test true sight sights = refl
 any_cond test false sight sights = refl
 
 -- what the two have in common on each choice of buses
 module _ (sees : Sight → Bool) (test : ℕ → Bool) where
-  any_kept : (rows : List Row) (sights : List Sight) → AreKept rows sights → ((row : Row) (sight : Sight) → IsKept row sight → sees (row_sight row) ≡ sees sight)
+  any_kept : (rows : List Row) (sights : List Sight) → AreKept rows sights
+      → ((row : Row) (sight : Sight) → IsKept row sight → sees (row_sight row) ≡ sees sight)
       → list_any sees (on_buses test (sights_of rows)) ≡ list_any sees (on_buses test sights)
   any_kept [] [] kept alike = refl
   any_kept [] (sight ∷ sights) kept alike = absurd kept

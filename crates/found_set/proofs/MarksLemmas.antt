@@ -16,10 +16,13 @@ matched_on : (test : ℕ → Bool) (rows : List Row) (c p : ℕ) → list_any (h
 matched_on test rows c p = sym (any_on (λ (sight : Sight). sight.matched c p) test rows)
 
 -- what matches on root buses
-pub first_marked : (rows : List Row) (marks : List Bool) → AreTrue marks (λ c p. is_true (replicate 4352 false) c p || list_any (has_on is_root c p) rows) → AreTrue marks (matched_by (on_buses is_root (sights_of rows)))
-first_marked rows marks told = λ c p hc hp. told c p hc hp ∙ ap (λ (b : Bool). b || list_any (has_on is_root c p) rows) (none_marked 4352 (17 * c + p)) ∙ matched_on is_root rows c p
+pub first_marked : (rows : List Row) (marks : List Bool) → AreTrue marks (λ c p. is_true (replicate 4352 false) c p || list_any (has_on is_root c p) rows)
+    → AreTrue marks (matched_by (on_buses is_root (sights_of rows)))
+first_marked rows marks told =
+    λ c p hc hp. told c p hc hp ∙ ap (λ (b : Bool). b || list_any (has_on is_root c p) rows) (none_marked 4352 (17 * c + p)) ∙ matched_on is_root rows c p
 
-either_way : (root more hit : Bool) (left right : Bool) → (((root && hit) || left) || ((not root && (root || more) && hit) || right)) ≡ (((root || more) && hit) || (left || right))
+either_way : (root more hit : Bool) (left right : Bool)
+    → (((root && hit) || left) || ((not root && (root || more) && hit) || right)) ≡ (((root || more) && hit) || (left || right))
 either_way true more true left right = refl
 either_way true more false left right = refl
 either_way false true true true right = refl
@@ -29,10 +32,13 @@ either_way false false hit left right = refl
 
 module _ (rules : List Rule) (sights : List Sight) (c p : ℕ) where
   -- what is on root buses and what is beyond them is what is visible
-  pub all_visible : (rows : List Row) → (list_any (has_on is_root c p) rows || list_any (has_on (is_beyond (is_reached rules sights)) c p) rows) ≡ list_any (has_on (is_reached rules sights) c p) rows
+  pub all_visible : (rows : List Row)
+      → (list_any (has_on is_root c p) rows || list_any (has_on (is_beyond (is_reached rules sights)) c p) rows) ≡ list_any
+      (has_on (is_reached rules sights) c p) rows
   all_visible [] = refl
   all_visible (row ∷ rows) =
-      either_way (is_root row.place.bus) _ (has_hit row.hits c p) (list_any (has_on is_root c p) rows) (list_any (has_on (is_beyond (is_reached rules sights)) c p) rows)
+      either_way (is_root row.place.bus) _ (has_hit row.hits c p) (list_any (has_on is_root c p) rows)
+      (list_any (has_on (is_beyond (is_reached rules sights)) c p) rows)
       ∙ ap (λ (b : Bool). (is_reached rules sights row.place.bus && has_hit row.hits c p) || b) (all_visible rows)
 
 none_has : (test : ℕ → Bool) (c p : ℕ) (rows : List Row) → list_any (stands_on test) rows ≡ false → list_any (has_on test c p) rows ≡ false
@@ -46,7 +52,8 @@ pub then_marked : (rules : List Rule) (rows : List Row) (marks more : List Bool)
     → AreTrue more (λ c p. is_true marks c p || list_any (has_on (is_beyond (is_reached rules (sights_of rows))) c p) rows)
     → AreTrue more (matched_by (on_buses (is_reached rules (sights_of rows)) (sights_of rows)))
 then_marked rules rows marks more first told = λ c p hc hp.
-    told c p hc hp ∙ ap (λ (b : Bool). b || list_any (has_on (is_beyond (is_reached rules (sights_of rows))) c p) rows) (first c p hc hp ∙ sym (matched_on is_root rows c p))
+    told c p hc hp
+    ∙ ap (λ (b : Bool). b || list_any (has_on (is_beyond (is_reached rules (sights_of rows))) c p) rows) (first c p hc hp ∙ sym (matched_on is_root rows c p))
     ∙ all_visible rules (sights_of rows) c p rows ∙ matched_on (is_reached rules (sights_of rows)) rows c p
 
 -- the same where none is beyond the root buses
@@ -55,5 +62,6 @@ pub still_marked : (rules : List Rule) (rows : List Row) (marks : List Bool) →
     → AreTrue marks (matched_by (on_buses (is_reached rules (sights_of rows)) (sights_of rows)))
 still_marked rules rows marks told none = λ c p hc hp.
     let beyond = is_beyond (is_reached rules (sights_of rows)) in
-    told c p hc hp ∙ sym (matched_on is_root rows c p) ∙ sym (or-false (list_any (has_on is_root c p) rows)) ∙ ap (λ (b : Bool). list_any (has_on is_root c p) rows || b) (sym (none_has beyond c p rows none))
+    told c p hc hp ∙ sym (matched_on is_root rows c p) ∙ sym (or-false (list_any (has_on is_root c p) rows))
+    ∙ ap (λ (b : Bool). list_any (has_on is_root c p) rows || b) (sym (none_has beyond c p rows none))
     ∙ all_visible rules (sights_of rows) c p rows ∙ matched_on (is_reached rules (sights_of rows)) rows c p

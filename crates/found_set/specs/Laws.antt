@@ -23,7 +23,8 @@ KeptIsScan = (rules : List Rule) (rows : List Row) (sights : List Sight) → Are
 
 -- an idle row changes no fact, wherever it stands
 abbrev pub IdleRow : Type 0
-IdleRow = (rules : List Rule) (before after : List Row) (row : Row) → is_idle row ≡ true → facts rules (sights_of (before ++ row ∷ after)) ≡ facts rules (sights_of (before ++ after))
+IdleRow = (rules : List Rule) (before after : List Row) (row : Row) → is_idle row ≡ true
+    → facts rules (sights_of (before ++ row ∷ after)) ≡ facts rules (sights_of (before ++ after))
 
 -- root buses are reachable, whatever is found
 abbrev pub RootsAreReached : Type 0
@@ -31,4 +32,5 @@ RootsAreReached = (rules : List Rule) (sights : List Sight) (bus : ℕ) → bus 
 
 -- FOUND of the own name is false, and of the name of a later configuration: those before alone have a mark
 abbrev pub LaterIsNotFound : Type 0
-LaterIsNotFound = (rules : List Rule) (before : List Bool) (name : List ℕ) (number : ℕ) → number_of rules name ≡ Some number → length before ≤ number → is_named_found rules before name ≡ false
+LaterIsNotFound = (rules : List Rule) (before : List Bool) (name : List ℕ) (number : ℕ)
+    → number_of rules name ≡ Some number → length before ≤ number → is_named_found rules before name ≡ false

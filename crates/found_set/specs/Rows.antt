@@ -1,5 +1,5 @@
 -- What is kept of the FRUs that are present, by place.
-use Rattle.std.specs.Prelude.{ℕ, ◌<◌, ◌==◌, Bool, true, not, ◌&&◌, if◌then◌else◌, List, [], ◌∷◌, filter, map, length}
+use Rattle.std.specs.Prelude.{◌<◌, ◌==◌, Bool, true, not, ◌&&◌, if◌then◌else◌, List, [], ◌∷◌, filter, map, length}
 use Rattle.std.specs.List.{list_all, list_any, All}
 use Rattle.std.specs.Ordering.{is_lt, is_eq}
 use Rattle.bmc_base.specs.Places.{Place, place_cmp}

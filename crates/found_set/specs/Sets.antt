@@ -1,5 +1,5 @@
 -- The set, what is staged, and what its calls do.
-use Rattle.std.specs.Prelude.{ℕ, ◌≡◌, List, [], Option, Some, None, Result, IfOk, OnOk, OnErr}
+use Rattle.std.specs.Prelude.{◌≡◌, List, [], Option, Some, None, Result, IfOk, OnOk, OnErr}
 use Rattle.bmc_base.specs.Steps.{Counts, IsWithin}
 use Rattle.bmc_base.specs.declared.out_of_memory.OutOfMemory.{OutOfMemory}
 use Rattle.found_set.specs.declared.facts.Facts.{Facts}

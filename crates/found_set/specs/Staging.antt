@@ -1,5 +1,5 @@
 -- An event as the set holds it, and the room that it needs.
-use Rattle.std.specs.Prelude.{ℕ, ◌≡◌, ◌<◌, true, false, length, Vec, None, bytes_eq, position}
+use Rattle.std.specs.Prelude.{◌≡◌, ◌<◌, true, false, length, Vec, None, bytes_eq, position}
 use Rattle.std.specs.Global.{Global}
 use Rattle.std.specs.Vec.{vec_len, vec_capacity}
 use Rattle.found_set.specs.declared.row.Row.{Row}

@@ -170,7 +170,10 @@ impl<L: Ledger> FoundSet<L> {
         if row.is_idle() {
             return self.facts;
         }
-        let (before, after) = self.rows.as_slice().split_at(position_for(&self.rows, row.place));
+        let (before, after) = self
+            .rows
+            .as_slice()
+            .split_at(position_for(&self.rows, row.place));
         evaluate(
             &self.rules,
             &self.names,

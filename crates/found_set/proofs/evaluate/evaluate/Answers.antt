@@ -40,4 +40,9 @@ returns-clause-facts g c =
 pub returns-clause-counted : goal.returns-clause-counted
 returns-clause-counted g c =
     let n = length c.args.rules.now in
-    record { more = 2 * n; within = omega arith; counted = evals_more c.args.steps.now c.found_by-first.new.steps c.found_by-found.new.steps n n (2 * n) c.found_by-first.ensures.counted c.found_by-found.ensures.counted (omega arith) }
+    record {
+      more = 2 * n;
+      within = omega arith;
+      counted = evals_more c.args.steps.now c.found_by-first.new.steps c.found_by-found.new.steps n n
+          (2 * n) c.found_by-first.ensures.counted c.found_by-found.ensures.counted (omega arith);
+    }

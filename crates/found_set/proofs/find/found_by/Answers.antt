@@ -20,7 +20,10 @@ loop-i-init g c = record {
 pub loop-i-preserved : goal.loop-i-preserved
 loop-i-preserved g c = record {
   many = length-set c.loop-i.found c.loop-i.i c.holds-is_found.result ∙ c.loop-i.invariant.many;
-  told = λ test h. found_on c.args.names.now.names c.args.rules.now c.loop-i.i c.index-rules-i.result c.args.marks.now c.loop-i.found c.holds-is_found.result (omega arith) (omega arith) (omega arith) c.index-rules-i.is c.holds-is_found.ensures.few c.loop-i.invariant.none c.requires.named c.holds-is_found.ensures.value test h ∙ c.loop-i.invariant.told test h;
+  told = λ test h. found_on c.args.names.now.names c.args.rules.now c.loop-i.i c.index-rules-i.result c.args.marks.now c.loop-i.found c.holds-is_found.result
+      (omega arith) (omega arith)
+      (omega arith) c.index-rules-i.is c.holds-is_found.ensures.few c.loop-i.invariant.none c.requires.named c.holds-is_found.ensures.value test h
+      ∙ c.loop-i.invariant.told test h;
   none = none_later c.loop-i.found c.loop-i.i c.holds-is_found.result c.loop-i.invariant.none;
   counted = evals_more _ _ _ c.loop-i.i 1 _ c.loop-i.invariant.counted c.holds-is_found.ensures.counted refl;
 }

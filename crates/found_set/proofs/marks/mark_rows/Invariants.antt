@@ -5,4 +5,5 @@ use Rattle.found_set.specs.Buses.{has_on}
 use Rattle.found_set.proofs.marks.mark_rows.Given as goal
 
 abbrev pub invariant-loop-row : goal.invariant-loop-row
-invariant-loop-row l = (test : ℕ → Bool) → AreMarked l.buses test → AreTrue l.marks (λ c p. is_true l.initial.marks c p || list_any (has_on test c p) (take l.row-index l.rows))
+invariant-loop-row l =
+    (test : ℕ → Bool) → AreMarked l.buses test → AreTrue l.marks (λ c p. is_true l.initial.marks c p || list_any (has_on test c p) (take l.row-index l.rows))

@@ -1,5 +1,5 @@
 -- The first row at a place is the one there.
-use Rattle.std.proofs.Common.{◌≡◌, ◌∙◌, ap, sym}
+use Rattle.std.proofs.Common.{◌∙◌, ap, sym}
 use Rattle.std.specs.Prelude.{position}
 use Rattle.found_set.specs.Rows.{is_row_at}
 use Rattle.found_set.proofs.RowsLemmas.{without_row_at, none_without}
@@ -12,4 +12,5 @@ returns-in-Some c =
 
 pub returns-in_default : goal.returns-in_default
 returns-in_default c =
-    none_without c.args.place c.args.rows.now.items (sym (ap (position (is_row_at c.args.place)) c.deref.ensures.value) ∙ sym c.position_at.ensures ∙ c.in_default.is)
+    none_without c.args.place c.args.rows.now.items (sym (ap (position (is_row_at c.args.place)) c.deref.ensures.value) ∙ sym c.position_at.ensures
+    ∙ c.in_default.is)

@@ -10,4 +10,5 @@ returns c =
     let keys = c.self.inside.set.keys in
     let name = c.args.name in
     let new = subst (λ (v : NamesView). position (bytes_eq name) v.names ≡ None) (sym c.self.view_is) c.requires.new in
-    c.in-Ok.ensures.keys ∙ ap (λ (b : Bool). cond b keys (keys ++ name ∷ [])) (not_among (bytes_eq name) keys new) ∙ ap (λ (v : NamesView). v.names ++ name ∷ []) c.self.view_is
+    c.in-Ok.ensures.keys ∙ ap (λ (b : Bool). cond b keys (keys ++ name ∷ [])) (not_among (bytes_eq name) keys new)
+    ∙ ap (λ (v : NamesView). v.names ++ name ∷ []) c.self.view_is

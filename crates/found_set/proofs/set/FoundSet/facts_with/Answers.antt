@@ -1,5 +1,5 @@
 -- A row that is idle changes nothing; else all is evaluated with it.
-use Rattle.std.proofs.Common.{◌≡◌, ◌∙◌, ◌*◌, length, subst, ◌∷◌, ◌++◌, List, ap, ap₂, sym, take, drop, ℕ}
+use Rattle.std.proofs.Common.{◌≡◌, ◌∙◌, ◌*◌, length, subst, ◌∷◌, ◌++◌, List, ap, ap₂, sym, take, drop}
 use Rattle.bmc_base.specs.Steps.{IsWithin}
 use Rattle.std.specs.List.{position_or_len}
 use Rattle.found_set.specs.declared.row.Row.{Row}
@@ -26,13 +26,17 @@ pub returns-clause-facts : goal.returns-clause-facts
 returns-clause-facts g c =
     let rows = c.self.inside.rows.items in
     let row = c.args.row.now in
-    let at : c.position_for.result ≡ position_or_len (is_row_after row.place) rows = c.position_for.ensures.value ∙ ap (position_or_len (is_row_after row.place)) c.deref.ensures.value in
+    let at : c.position_for.result ≡ position_or_len (is_row_after row.place) rows =
+    c.position_for.ensures.value ∙ ap (position_or_len (is_row_after row.place)) c.deref.ensures.value in
     let parts : c.with.result ≡ with_row row rows =
-    c.with.ensures ∙ ap₂ (λ (before after : List Row). before ++ row ∷ after) (c.split_at.ensures.front ∙ ap₂ take at c.as_slice.ensures.value) (c.split_at.ensures.back ∙ ap₂ drop at c.as_slice.ensures.value)
+    c.with.ensures
+    ∙ ap₂ (λ (before after : List Row). before ++ row ∷ after)
+    (c.split_at.ensures.front ∙ ap₂ take at c.as_slice.ensures.value) (c.split_at.ensures.back ∙ ap₂ drop at c.as_slice.ensures.value)
     ∙ sym (with_row_at row rows) in
     rw (← c.self.view_is) (c.evaluate.ensures.facts ∙ ap₂ (λ (rules : List Rule) (rows : List Row). facts rules (sights_of rows)) c.deref-2.ensures.value parts)
 
 pub returns-clause-counted : goal.returns-clause-counted
 returns-clause-counted g c =
-    let within : IsWithin c.args.steps.now c.evaluate.new.steps (2 * length c.self.inside.rules.items) = subst (λ (rules : List Rule). IsWithin c.args.steps.now c.evaluate.new.steps (2 * length rules)) c.deref-2.ensures.value c.evaluate.ensures.counted in
+    let within : IsWithin c.args.steps.now c.evaluate.new.steps (2 * length c.self.inside.rules.items) =
+    subst (λ (rules : List Rule). IsWithin c.args.steps.now c.evaluate.new.steps (2 * length rules)) c.deref-2.ensures.value c.evaluate.ensures.counted in
     rw (← c.self.view_is) (plug_evals c.args.row.now c.self.inside.rules.items c.self.inside.rows.items _ _ (sym c.if-is_idle.ensures) within)

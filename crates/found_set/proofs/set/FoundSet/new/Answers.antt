@@ -11,7 +11,8 @@ invariant_of-result g c = record {
   few = let few : length {A = Rule} [] ≤ 256 = omega arith in subst (λ (rs : List Rule). length rs ≤ 256) (sym c.in_ok-rules.ensures.items) few;
   named = c.in_ok-names.ensures ∙ ap names_of (sym c.in_ok-rules.ensures.items);
   by_place = ap are_by_place c.in_ok-rows.ensures.items;
-  facts = c.no_facts.ensures ∙ ap₂ (λ (rs : List Rule) (ws : List Row). facts rs (sights_of ws)) (sym c.in_ok-rules.ensures.items) (sym c.in_ok-rows.ensures.items);
+  facts = c.no_facts.ensures
+      ∙ ap₂ (λ (rs : List Rule) (ws : List Row). facts rs (sights_of ws)) (sym c.in_ok-rules.ensures.items) (sym c.in_ok-rows.ensures.items);
   next = bare _;
   room = bare _;
 }

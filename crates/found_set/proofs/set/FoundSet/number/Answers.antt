@@ -7,4 +7,5 @@ use Rattle.found_set.proofs.set.FoundSet.number.Goals as goal
 
 pub returns : goal.returns
 returns g c =
-    c.number.ensures ∙ ap (position (bytes_eq c.args.name.now)) c.self.invariant.named ∙ number_by_name c.args.name.now c.self.inside.rules.items ∙ ap (λ (v : SetView). number_of v.rules c.args.name.now) c.self.view_is
+    c.number.ensures ∙ ap (position (bytes_eq c.args.name.now)) c.self.invariant.named ∙ number_by_name c.args.name.now c.self.inside.rules.items
+    ∙ ap (λ (v : SetView). number_of v.rules c.args.name.now) c.self.view_is
