@@ -2,11 +2,14 @@
 //! their patterns.
 #![tactic(auto)]
 
+mod key;
+mod part;
 mod pattern;
 mod pattern_text;
 mod probe;
 mod rows;
 mod term;
+mod test;
 mod truths;
 mod word;
 
