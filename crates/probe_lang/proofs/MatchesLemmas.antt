@@ -52,9 +52,9 @@ pub texts_of-Contains : (members : List Member) (i : ℕ) (member : Member) (tex
     → pattern_text member ≡ Some text → Contains (texts_of members) text
 texts_of-Contains members i member text lt is e =
     let here : texts_of (take (i + 1) members) ≡ texts_of (take i members) ++ text ∷ [] =
-        texts_of-take members i member lt is ∙ ap (λ (one : Option (List ℕ)). texts_of (take i members) ++ cons_option one []) e in
+    texts_of-take members i member lt is ∙ ap (λ (one : Option (List ℕ)). texts_of (take i members) ++ cons_option one []) e in
     let split : texts_of (take (i + 1) members) ++ texts_of (drop (i + 1) members) ≡ texts_of members =
-        sym (filter_map-append pattern_text (take (i + 1) members) (drop (i + 1) members)) ∙ ap texts_of (take-append-drop (i + 1) members) in
+    sym (filter_map-append pattern_text (take (i + 1) members) (drop (i + 1) members)) ∙ ap texts_of (take-append-drop (i + 1) members) in
     let there : Contains (texts_of (take (i + 1) members)) text = rw here (Contains-push (texts_of (take i members)) text) in
     subst (λ (texts : List (List ℕ)). Contains texts text) split
     (Contains-append_left (texts_of (take (i + 1) members)) (texts_of (drop (i + 1) members)) text there)

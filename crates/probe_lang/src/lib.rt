@@ -5,6 +5,8 @@
 mod key;
 mod part;
 mod pattern;
+#[cfg(test)]
+mod pattern_tests;
 mod pattern_text;
 mod probe;
 mod rows;

@@ -52,11 +52,12 @@ impl Part {
     ) -> Result<bool, OutOfMemory>
         ensures { IfOk result (λ b. b ≡ member_matches place fru.now self.now) }
     {
+        let test = &self.test;
         match &self.key {
-            Key::Bus => self.test.passes(alloc, itoa::Buffer::new().format(place.bus())),
-            Key::Address => self.test.passes(alloc, itoa::Buffer::new().format(place.address())),
+            Key::Bus => test.passes(alloc, itoa::Buffer::new().format(place.bus())),
+            Key::Address => test.passes(alloc, itoa::Buffer::new().format(place.address())),
             Key::Field(name) => match fru.field_named(*name) {
-                Some(text) => self.test.passes(alloc, text),
+                Some(text) => test.passes(alloc, text),
                 None => Ok(false),
             },
             Key::Unknown(_) => {

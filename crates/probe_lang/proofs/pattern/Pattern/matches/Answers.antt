@@ -8,7 +8,7 @@ use Rattle.probe_lang.proofs.pattern.Pattern.matches.Goals as goal
 pub returns-then-not-branch-clause-value : goal.returns-then-not-branch-clause-value
 returns-then-not-branch-clause-value g c =
     let fails = matches-fails c.deref-part-items.result.now c.args.place c.args.fru.now c.loop-part.part-index c.part-item.result c.loop-part-test.true
-        c.part-item.is (sym c.in_ok-matches.ensures ∙ c.if-not-branch.true) in
+    c.part-item.is (sym c.in_ok-matches.ensures ∙ c.if-not-branch.true) in
     sym fails ∙ ap (λ (members : List Member). matches members c.args.place c.args.fru.now) (c.deref-part-items.ensures.value ∙ c.self.view_is)
 
 pub returns-clause-value : goal.returns-clause-value
