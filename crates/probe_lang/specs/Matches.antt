@@ -33,13 +33,14 @@ member_matches place fields member = is_wanted member.want (text_at place fields
 unfoldable pub matches : List Member → Place → List Field → Bool
 matches members place fields = list_all (member_matches place fields) members
 
+-- the text of what is wanted that is compiled
+abbrev pub want_text : Want → Option (List ℕ)
+want_text (wants.Pattern text) = Some text
+want_text (wants.Number n) = None
+
 -- the text that a member has compiled
 abbrev pub pattern_text : Member → Option (List ℕ)
-pattern_text member = text_of member.want
-  where
-    text_of : Want → Option (List ℕ)
-    text_of (wants.Pattern text) = Some text
-    text_of (wants.Number n) = None
+pattern_text member = want_text member.want
 
 -- the texts of a pattern that are compiled, in the order of its members
 abbrev pub texts_of : List Member → List (List ℕ)

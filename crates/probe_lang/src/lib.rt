@@ -2,11 +2,16 @@
 //! their patterns.
 #![tactic(auto)]
 
+mod key;
+mod part;
 mod pattern;
+#[cfg(test)]
+mod pattern_tests;
 mod pattern_text;
 mod probe;
 mod rows;
 mod term;
+mod test;
 mod truths;
 mod word;
 

@@ -1,8 +1,9 @@
-ghost use Rattle.std.specs.Prelude.{◌≡◌, IfOk};
+ghost use Rattle.std.specs.Prelude.{◌≡◌, ◌∷◌, ◌++◌, [], IfOk, OnOk};
 ghost use Rattle.bmc_base.specs.Steps.{with_matches};
 ghost use Rattle.probe_lang.specs.Matches.{matches, MakesPattern};
 
 use crate::PatternText;
+use crate::part::Part;
 use bmc_base::{Ledger, OutOfMemory, Place, Steps, Text};
 use fru_record::FruRecord;
 use pat_gate::PatternMaker;
@@ -38,7 +39,7 @@ impl From<OutOfMemory> for PatternFault {
 /// A pattern whose members are compiled. Contracts see it as the members that it was made of.
 #[derive(Drop)]
 pub struct Pattern<L: Ledger> {
-    members: PatternText,
+    parts: Vec<Part>,
     mark: PhantomData<L>,
 }
 
@@ -48,7 +49,7 @@ impl<L: Ledger> Model for Pattern<L> {
 
     ghost Value = { List Member };
 
-    ghost view = { λ p. p.members };
+    ghost view = { λ p. p.parts.items };
 }
 
 impl<L: Ledger> Pattern<L> {
@@ -61,9 +62,12 @@ impl<L: Ledger> Pattern<L> {
     ) -> Result<Pattern<L>, PatternFault>
         ensures { MakesPattern (M.seen maker.old) (M.seen maker.new) text.now result }
     {
-        let _ = alloc;
-        let _ = text;
-        Err(PatternFault::OutOfMemory)
+        let members = text.as_slice();
+        let mut pattern = Pattern::with_capacity(alloc, members.len())?;
+        for member in members {
+            pattern.push(Part::make(alloc, member, maker)?)?;
+        }
+        Ok(pattern)
     }
 
     /// Whether the pattern matches the record at a place. It counts one match, whatever the answer.
@@ -77,10 +81,31 @@ impl<L: Ledger> Pattern<L> {
         ensures value { IfOk result (λ b. b ≡ matches self.now place fru.now) }
         ensures counted { steps.new ≡ with_matches steps.old 1 }
     {
-        let _ = alloc;
-        let _ = place;
-        let _ = fru;
         steps.matched();
-        Err(OutOfMemory)
+        for part in &self.parts {
+            if !part.matches(alloc, place, fru)? {
+                return Ok(false);
+            }
+        }
+        Ok(true)
+    }
+
+    // Returns a pattern without members, with room for so many.
+    fn with_capacity(alloc: Global, capacity: usize) -> Result<Pattern<L>, OutOfMemory>
+        ensures { IfOk result (λ pattern. pattern ≡ []) }
+    {
+        let parts = Vec::with_capacity(alloc, capacity)?;
+        Ok(Pattern {
+            parts,
+            mark: PhantomData,
+        })
+    }
+
+    // Appends a member.
+    fn push(&mut self, part: Part) -> Result<(), OutOfMemory>
+        ensures { OnOk result (self.new ≡ self.old ++ part ∷ []) }
+    {
+        self.parts.push(part)?;
+        Ok(())
     }
 }

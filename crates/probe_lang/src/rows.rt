@@ -6,7 +6,7 @@ use fru_record::FruRecord;
 use std::alloc::Global;
 use std::marker::Model;
 
-/// A pattern of a configuration that matches, both by their numbers.
+/// A match of a record: the configuration and the pattern of its probe that matches, by their numbers.
 #[derive(Clone, Copy, Debug, PartialEq, Eq)]
 pub struct Hit {
     /// The number of the configuration.
@@ -144,10 +144,10 @@ pub struct Entry {
     pub channels: Channels,
 }
 
-/// The entries after an event: those that are kept, by place, with one more or without one.
+/// The entries after an event: those before it, with the one that comes or without the one that goes.
 #[derive(Drop)]
 pub struct Present<'a> {
-    /// The entries before the event.
+    /// The entries before the event, by place.
     pub kept: &'a [Entry],
     /// The entry that comes.
     pub plus: Option<&'a Entry>,

@@ -6,7 +6,7 @@ use crate::probe::Probe;
 use crate::word::Word;
 use bmc_base::{Ledger, Name, Steps};
 
-/// Which patterns are true, and which configurations are found.
+/// Tells which patterns of a probe are true, and which configurations are found.
 pub trait Truths {
     ghost use Rattle.std.specs.Prelude.{ℕ, Bool, List};
 
@@ -25,7 +25,7 @@ pub trait Truths {
         ensures { result ≡ founds self.now name.now };
 }
 
-// The value of an operand; an operator has none.
+// Tells the value of an operand. An operator has none, and answers false.
 fn operand<T: Truths>(word: &Word, truths: &T) -> bool
     ensures { result ≡ operand word.now (T.patterns truths.now) (T.founds truths.now) }
 {
@@ -39,7 +39,7 @@ fn operand<T: Truths>(word: &Word, truths: &T) -> bool
     }
 }
 
-// Two values under an operator.
+// Joins two values by an operator. A word that is none leaves the left one.
 fn joined(op: &Word, left: bool, right: bool) -> bool
     ensures { result ≡ joined op.now left right }
 {
@@ -50,7 +50,8 @@ fn joined(op: &Word, left: bool, right: bool) -> bool
     }
 }
 
-/// Tells the value of a probe, and counts one evaluation. Takes no memory.
+/// Tells the value of a probe, from left to right and without precedence, and counts one evaluation. A
+/// probe without words is false. Takes no memory.
 pub fn holds<T: Truths, L: Ledger>(probe: &Probe<L>, truths: &T, steps: &mut Steps<L>) -> bool
     ensures value { result ≡ value probe.now.words (T.patterns truths.now) (T.founds truths.now) }
     ensures few { AreFew probe.now.words }
