@@ -2,10 +2,13 @@
 //! their patterns.
 #![tactic(auto)]
 
+mod braces;
 mod pattern;
 mod pattern_text;
 mod probe;
+mod reading;
 mod rows;
+mod spelling;
 mod term;
 mod truths;
 mod word;
