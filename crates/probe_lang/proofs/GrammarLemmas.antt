@@ -90,7 +90,7 @@ term_is_few text =
     (found_name word) (pattern_in (between (codes "xyz.openbmc_project.FruDevice({") (codes "})") word))
   where
     by : (t f a o m : Bool) (name : Option (List ℕ)) (members : Option (List Member))
-      → few_term (if t then Some (Operand Always) else if f then Some (Operand Never) else if a then Some (Operator And) else if o then Some (Operator Or)
+        → few_term (if t then Some (Operand Always) else if f then Some (Operand Never) else if a then Some (Operator And) else if o then Some (Operator Or)
         else if m then Some MatchOne else option_or (option_map (λ name. Operand (Found name)) name) (option_map Pattern members)) ≡ true
     by true f a o m name members = refl
     by false true a o m name members = refl

@@ -10,6 +10,7 @@ use serde_json::{Map, Value};
 use std::alloc::Global;
 
 const MOST_MEMBERS: usize = 16;
+
 const LONGEST_WANT: usize = 256;
 
 // The members of a pattern with this between its braces; `None` where it is no pattern.
@@ -28,13 +29,14 @@ pub(crate) fn read_pattern(alloc: Global, inner: &str) -> Result<Option<PatternT
     }
 }
 
-// The text of an object with this between its braces, where quotes become double quotes and backslashes
-// stand for themselves.
+// The text of an object with this between its braces, where quotes become double quotes, and backslashes
+// are doubled.
 fn json_text(alloc: Global, inner: &str) -> Result<String, OutOfMemory>
     ensures { IfOk result (λ json. string_bytes json ≡ json_text inner.now) }
 {
-    let longest = inner.len().saturating_mul(2).saturating_add(2);
-    let mut json = String::with_capacity(alloc, longest)?;
+    // Each byte takes two at the most.
+    let room = inner.len().saturating_mul(2).saturating_add(2);
+    let mut json = String::with_capacity(alloc, room)?;
     json.push('{')?;
     for char in inner.chars() {
         push_character(&mut json, char)?;
@@ -71,10 +73,13 @@ fn read_object(alloc: Global, value: &Value) -> Result<Option<PatternText>, OutO
 }
 
 // The members, in the order of their keys; `None` where one of them is wrong.
-fn read_members(alloc: Global, members: &Map<String, Value>) -> Result<Option<PatternText>, OutOfMemory>
+fn read_members(
+    alloc: Global,
+    members: &Map<String, Value>,
+) -> Result<Option<PatternText>, OutOfMemory>
     ensures { IfOk result (λ read. read ≡ members_of (members_view members.now.entries)) }
 {
-    let mut text = PatternText::new(alloc)?;
+    let mut text = PatternText::with_capacity(alloc, members.len())?;
     'members: for (key, value) in members.iter() {
         match read_want(alloc, value)? {
             Some(want) => {

@@ -3,6 +3,8 @@
 #![tactic(auto)]
 
 mod braces;
+#[cfg(test)]
+mod grammar_tests;
 mod pattern;
 mod pattern_text;
 mod probe;

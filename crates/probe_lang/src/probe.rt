@@ -52,12 +52,15 @@ impl<L: Ledger> Model for Probe<L> {
 }
 
 impl<L: Ledger> Probe<L> {
-    /// Reads the probe of at most 33 texts, each of which is one word, and its patterns by number.
+    /// Reads the probe of at most 33 texts, and its patterns by number. Each text is one word; spaces around it
+    /// are dropped. `TRUE`, `FALSE`, `FOUND('NAME')` and `xyz.openbmc_project.FruDevice({..})` are operands, `AND`
+    /// or `OR` stands between two of them, and `MATCH_ONE` may stand behind the last. The fault is the first
+    /// text that is wrong.
     pub fn parse(alloc: Global, texts: &[&str]) -> Result<(Probe<L>, PatternTexts), ProbeFault>
         requires { length texts.now ≤ most_texts }
         ensures { GivesProbe result (probe_of (map (λ text. text.now) texts.now)) }
     {
-        let mut reading = Reading::new(alloc)?;
+        let mut reading = Reading::with_capacity(alloc, texts.len())?;
         let mut wants_operand = true;
         for at in 0..texts.len() {
             let term = read_term(alloc, texts[at])?;

@@ -35,11 +35,11 @@ impl Model for Reading {
 }
 
 impl Reading {
-    // Returns what is read of no texts.
-    pub(crate) fn new(alloc: Global) -> Result<Reading, OutOfMemory>
+    // Returns what is read of no texts, with room for so many words.
+    pub(crate) fn with_capacity(alloc: Global, capacity: usize) -> Result<Reading, OutOfMemory>
         ensures { IfOk result (λ reading. reading ≡ nothing_read) }
     {
-        let words = Words::new(alloc)?;
+        let words = Words::with_capacity(alloc, capacity)?;
         let patterns = PatternTexts::new(alloc)?;
         Ok(Reading { words, patterns })
     }
