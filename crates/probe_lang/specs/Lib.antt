@@ -5,4 +5,4 @@ pub mod Values
 pub mod Matches
 pub mod Sights
 pub mod Presents
-pub mod Parts
+pub mod Steps

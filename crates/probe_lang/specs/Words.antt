@@ -43,7 +43,7 @@ term_of_word word =
     else if bytes_eq word (codes "OR") then Some (Operator Or)
     else if bytes_eq word (codes "MATCH_ONE") then Some MatchOne
     else option_or (option_map (λ name. Operand (Found name)) (found_name word))
-        (option_map Pattern (pattern_in (between (codes "xyz.openbmc_project.FruDevice({") (codes "})") word)))
+    (option_map Pattern (pattern_in (between (codes "xyz.openbmc_project.FruDevice({") (codes "})") word)))
 
 -- what one text of a probe is
 abbrev pub term_of : List ℕ → Option Term

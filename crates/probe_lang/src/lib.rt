@@ -2,16 +2,16 @@
 //! their patterns.
 #![tactic(auto)]
 
-mod key;
-mod part;
-mod pattern;
+mod braces;
 #[cfg(test)]
-mod pattern_tests;
+mod grammar_tests;
+mod pattern;
 mod pattern_text;
 mod probe;
+mod reading;
 mod rows;
+mod spelling;
 mod term;
-mod test;
 mod truths;
 mod word;
 

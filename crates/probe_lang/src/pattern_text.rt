@@ -46,6 +46,14 @@ impl PatternText {
         Ok(PatternText { members })
     }
 
+    // Returns a pattern without members, with room for so many.
+    pub(crate) fn with_capacity(alloc: Global, capacity: usize) -> Result<PatternText, OutOfMemory>
+        ensures { IfOk result (λ text. text ≡ []) }
+    {
+        let members = Vec::with_capacity(alloc, capacity)?;
+        Ok(PatternText { members })
+    }
+
     /// Appends a member, or changes nothing for want of memory.
     pub fn push(&mut self, alloc: Global, item: Member) -> Result<(), OutOfMemory>
         ensures ok { OnOk result (self.new ≡ self.old ++ item ∷ []) }

@@ -61,6 +61,14 @@ impl Words {
         Ok(Words { words })
     }
 
+    // Returns a list of no words, with room for so many.
+    pub(crate) fn with_capacity(alloc: Global, capacity: usize) -> Result<Words, OutOfMemory>
+        ensures { IfOk result (λ words. words ≡ []) }
+    {
+        let words = Vec::with_capacity(alloc, capacity)?;
+        Ok(Words { words })
+    }
+
     /// Appends a word, or changes nothing for want of memory.
     pub fn push(&mut self, alloc: Global, item: Word) -> Result<(), OutOfMemory>
         ensures ok { OnOk result (self.new ≡ self.old ++ item ∷ []) }
