@@ -1,5 +1,5 @@
 ghost use Rattle.std.specs.Prelude.{◌≡◌, ◌≤◌, length, map, IfOk};
-ghost use Rattle.probe_lang.specs.Values.{AreFew};
+ghost use Rattle.probe_lang.specs.Values.{AreFew, most_patterns};
 ghost use Rattle.probe_lang.specs.Grammar.{most_texts, probe_of, GivesProbe};
 
 use crate::{PatternTexts, Words};
@@ -53,7 +53,8 @@ impl<L: Ledger> Probe<L> {
     /// Reads the probe of at most 33 texts, each of which is one word, and its patterns by number.
     pub fn parse(alloc: Global, texts: &[&str]) -> Result<(Probe<L>, PatternTexts), ProbeFault>
         requires { length texts.now ≤ most_texts }
-        ensures { GivesProbe result (probe_of (map (λ text. text.now) texts.now)) }
+        ensures read { GivesProbe result (probe_of (map (λ text. text.now) texts.now)) }
+        ensures few { IfOk result (λ parsed. length parsed.1 ≤ most_patterns) }
     {
         let _ = alloc;
         let _ = texts;
