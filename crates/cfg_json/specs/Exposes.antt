@@ -9,7 +9,7 @@ use Rattle.cfg_json.specs.declared.config_fault.ConfigFault.TheVariants.{WrongKi
 use Rattle.cfg_json.specs.declared.expose.Expose.{Expose}
 use Rattle.cfg_json.specs.declared.expose.Body.{Body}
 use Rattle.cfg_json.specs.declared.expose.Body.TheVariants.{Mux}
-use Rattle.cfg_json.specs.Values.{◌>>=◌, required, text_only, object_only, list_only, with_length, short_text, each}
+use Rattle.cfg_json.specs.Values.{◌>>=◌, required, text_only, object_only, list_within, with_length, short_text, each}
 
 -- the most exposes of a configuration, the most channels of a multiplexer, and the most bytes of the name of an expose
 abbrev pub most_exposes : ℕ
@@ -44,7 +44,7 @@ channel_of (array items) = Err WrongKind
 channel_of (object ms) = Err WrongKind
 
 abbrev pub channels_of : Data → Result (List ℕ) ConfigFault
-channels_of value = list_only value >>= with_length 1 most_channels >>= each channel_of
+channels_of value = list_within 1 most_channels value >>= each channel_of
 
 -- the body of an expose of this type: of a multiplexer its channels; other types are not read
 abbrev pub body_of : Data → List ℕ → Result Body ConfigFault
@@ -64,4 +64,4 @@ expose_of value =
 -- the exposes of a configuration, if there are any
 abbrev pub exposes_of : Option Data → Result (List Expose) ConfigFault
 exposes_of None = Ok []
-exposes_of (Some value) = list_only value >>= with_length 0 most_exposes >>= each expose_of
+exposes_of (Some value) = list_within 0 most_exposes value >>= each expose_of

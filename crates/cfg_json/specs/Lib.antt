@@ -5,4 +5,5 @@ pub mod Exposes
 pub mod Documents
 pub mod Readings
 pub mod Verdicts
+pub mod Laws
 pub mod Shelves

@@ -1,12 +1,18 @@
 -- What the calls answer that read a document.
-use Rattle.std.specs.Prelude.{ℕ, ◌≡◌, ⊤, List, Option, Some, Result, Ok, Err, IsOkAnd}
-use Rattle.std.specs.List.{All, Contains}
+use Rattle.std.specs.Prelude.{ℕ, ◌≡◌, ⊤, List, map, Option, Some, Result, Ok, Err, IsOkAnd}
+use Rattle.std.specs.List.{All, Contains, flat_map}
 use Rattle.std.specs.Borrow.{Bor}
+use Rattle.std.specs.Global.{Vec}
+use Rattle.arrayvec.specs.ArrayVec.{ArrayVec}
 use Rattle.serde_json.specs.Data.{Data}
 use Rattle.serde_json.specs.View.{view}
 use Rattle.serde_json.specs.declared.value.Value.{Value}
 use Rattle.pat_gate.specs.Grammar.{IsPattern, IsBad}
 use Rattle.pat_gate.specs.Makers.{Maker, with_refused}
+use Rattle.probe_lang.specs.Matches.{texts_of}
+use Rattle.probe_lang.specs.declared.pattern_text.Member.{Member}
+use Rattle.probe_lang.specs.declared.pattern.PatternFault.{PatternFault}
+use Rattle.probe_lang.specs.declared.pattern.PatternFault.TheVariants as faults
 use Rattle.cfg_json.specs.Configs.{Config, pattern_texts}
 use Rattle.cfg_json.specs.Documents.{config_of}
 use Rattle.cfg_json.specs.declared.config_fault.ConfigFault.{ConfigFault}
@@ -45,3 +51,32 @@ GivesDocument (Err fault) read = GivesFault fault (config_of read)
 abbrev pub GivesMember : Result (Bor Value) ConfigFault → Result Data ConfigFault → Type 0
 GivesMember (Ok member) found = found ≡ Ok (view member.now)
 GivesMember (Err fault) found = found ≡ Err fault
+
+-- the text, or why it is none
+abbrev pub GivesText : Result (Bor (List ℕ)) ConfigFault → Result (List ℕ) ConfigFault → Type 0
+GivesText (Ok text) found = found ≡ Ok text.now
+GivesText (Err fault) found = found ≡ Err fault
+
+-- the elements of a list, or why it is none
+abbrev pub GivesList : Result (Bor (List Value)) ConfigFault → Result (List Data) ConfigFault → Type 0
+GivesList (Ok items) found = found ≡ Ok (map view items.now)
+GivesList (Err fault) found = found ≡ Err fault
+
+-- the texts of a list, or why one is none
+abbrev pub GivesTexts : Result (ArrayVec (Bor (List ℕ))) ConfigFault → Result (List (List ℕ)) ConfigFault → Type 0
+GivesTexts (Ok texts) found = found ≡ Ok (map (λ text. text.now) texts.items)
+GivesTexts (Err fault) found = found ≡ Err fault
+
+-- a fault of a pattern as a configuration's
+abbrev pub pattern_rule : PatternFault → ConfigFault
+pattern_rule (faults.PatternSyntax text) = PatternSyntax text
+pattern_rule (faults.PatternTooLarge text) = PatternTooLarge text
+pattern_rule faults.OutOfMemory = OutOfMemory
+
+-- what is made of patterns: the grammar reads each text; or a text of them is bad, or the maker refused it as too large and lists it
+abbrev pub MakesPatterns : Maker → Maker → List (List Member) → Result (Vec (List Member)) ConfigFault → Type 0
+MakesPatterns old new patterns (Ok made) = (made.items ≡ patterns) × All IsPattern (flat_map texts_of patterns) × (new ≡ old)
+MakesPatterns old new patterns (Err (PatternSyntax text)) = Contains (flat_map texts_of patterns) text × IsBad text × (new ≡ old)
+MakesPatterns old new patterns (Err (PatternTooLarge text)) = Contains (flat_map texts_of patterns) text × (new ≡ with_refused old text)
+MakesPatterns old new patterns (Err OutOfMemory) = new ≡ old
+MakesPatterns old new patterns (Err fault) = ⊥

@@ -48,6 +48,10 @@ list_only (object ms) = Err WrongKind
 abbrev pub with_length : {A : Type 0} → ℕ → ℕ → List A → Result (List A) ConfigFault
 with_length least most items = if nat_le least (length items) && nat_le (length items) most then Ok items else Err OutOfRange
 
+-- the elements of a list, of which there are so many
+abbrev pub list_within : ℕ → ℕ → Data → Result (List Data) ConfigFault
+list_within least most value = list_only value >>= with_length least most
+
 -- a text that is a name
 abbrev pub short_text : Data → Result (List ℕ) ConfigFault
 short_text value = text_only value >>= with_length 1 longest_name

@@ -4,6 +4,7 @@ use Rattle.std.specs.List.{All, Contains}
 use Rattle.pat_gate.specs.Grammar.{IsPattern, IsBad}
 use Rattle.cfg_json.specs.Configs.{Config, pattern_texts}
 use Rattle.cfg_json.specs.declared.config_fault.ConfigFault.{ConfigFault}
+use Rattle.cfg_json.specs.declared.config_fault.ConfigFault.TheVariants.{PatternSyntax, PatternTooLarge}
 
 -- it compiles them all, or a text is no pattern, or too large
 pub data Verdict : Type 0 where
@@ -28,3 +29,10 @@ abbrev pub large_in : Verdict → List (List ℕ)
 large_in Accepted = []
 large_in (BadPattern text) = []
 large_in (LargePattern text) = text ∷ []
+
+-- what an answer says of the patterns, where it is no want of memory
+abbrev pub verdict_of : Result Config ConfigFault → Verdict
+verdict_of (Ok config) = Accepted
+verdict_of (Err (PatternSyntax text)) = BadPattern text
+verdict_of (Err (PatternTooLarge text)) = LargePattern text
+verdict_of (Err fault) = Accepted

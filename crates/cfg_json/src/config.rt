@@ -1,12 +1,13 @@
 ghost use Rattle.std.specs.Prelude.{◌≡◌, ◌≤◌, length};
 ghost use Rattle.probe_lang.specs.Values.{most_patterns};
 ghost use Rattle.cfg_json.specs.Documents.{config_read};
-ghost use Rattle.cfg_json.specs.Readings.{GivesConfig};
+ghost use Rattle.cfg_json.specs.Readings.{GivesConfig, MakesPatterns};
 
+use crate::draft::{Draft, read_draft};
 use crate::{ConfigFault, Expose, Exposes};
 use bmc_base::{Ledger, Name};
 use pat_gate::PatternMaker;
-use probe_lang::{Pattern, Probe};
+use probe_lang::{Pattern, PatternText, Probe};
 use std::alloc::Global;
 use std::marker::Model;
 
@@ -44,9 +45,19 @@ impl<L: Ledger> Config<L> {
     ) -> Result<Config<L>, ConfigFault>
         ensures { GivesConfig (M.seen maker.old) (M.seen maker.new) result (config_read bytes.now) }
     {
-        let _ = alloc;
-        let _ = bytes;
-        Err(ConfigFault::OutOfMemory)
+        let Draft {
+            name,
+            probe,
+            texts,
+            exposes,
+        } = read_draft(alloc, bytes)?;
+        let patterns = make_patterns(alloc, texts.as_slice(), maker)?;
+        Ok(Config {
+            name,
+            probe,
+            patterns,
+            exposes,
+        })
     }
 
     /// Returns the name.
@@ -77,4 +88,19 @@ impl<L: Ledger> Config<L> {
     {
         self.exposes.as_slice()
     }
+}
+
+// Compiles patterns, in their order.
+fn make_patterns<L: Ledger, M: PatternMaker>(
+    alloc: Global,
+    texts: &[PatternText],
+    maker: &mut M,
+) -> Result<Vec<Pattern<L>>, ConfigFault>
+    ensures { MakesPatterns (M.seen maker.old) (M.seen maker.new) texts.now result }
+{
+    let mut patterns = Vec::with_capacity(alloc, texts.len())?;
+    for text in texts {
+        patterns.push(Pattern::make(alloc, text, maker)?)?;
+    }
+    Ok(patterns)
 }

@@ -1,4 +1,6 @@
-use bmc_base::Text;
+use bmc_base::{OutOfMemory, Text};
+use probe_lang::{PatternFault, ProbeFault};
+use std::alloc::{AllocError, AllocFailed};
 use thiserror::Error;
 
 /// Why a document is no configuration: the first rule that it breaks, or want of memory.
@@ -36,4 +38,66 @@ pub enum ConfigFault {
     /// There was no memory. It says nothing of the document.
     #[error("out of memory")]
     OutOfMemory,
+}
+
+impl From<OutOfMemory> for ConfigFault {
+    ghost use Rattle.std.specs.Prelude.{◌≡◌};
+    ghost use Rattle.cfg_json.specs.declared.config_fault.ConfigFault.TheVariants.{OutOfMemory};
+
+    ghost from_gives = { λ _ fault. fault ≡ OutOfMemory };
+
+    fn from(_: OutOfMemory) -> Self {
+        ConfigFault::OutOfMemory
+    }
+}
+
+impl From<AllocError> for ConfigFault {
+    ghost use Rattle.std.specs.Prelude.{◌≡◌};
+    ghost use Rattle.cfg_json.specs.declared.config_fault.ConfigFault.TheVariants.{OutOfMemory};
+
+    ghost from_gives = { λ _ fault. fault ≡ OutOfMemory };
+
+    fn from(_: AllocError) -> Self {
+        ConfigFault::OutOfMemory
+    }
+}
+
+impl<T: Drop> From<AllocFailed<T>> for ConfigFault {
+    ghost use Rattle.std.specs.Prelude.{◌≡◌};
+    ghost use Rattle.cfg_json.specs.declared.config_fault.ConfigFault.TheVariants.{OutOfMemory};
+
+    ghost from_gives = { λ _ fault. fault ≡ OutOfMemory };
+
+    fn from(_: AllocFailed<T>) -> Self {
+        ConfigFault::OutOfMemory
+    }
+}
+
+impl From<ProbeFault> for ConfigFault {
+    ghost use Rattle.std.specs.Prelude.{◌≡◌};
+    ghost use Rattle.cfg_json.specs.Probes.{probe_rule};
+
+    ghost from_gives = { λ fault rule. rule ≡ probe_rule fault };
+
+    fn from(fault: ProbeFault) -> Self {
+        match fault {
+            ProbeFault::ProbeSyntax(at) => ConfigFault::ProbeSyntax(at),
+            ProbeFault::OutOfMemory => ConfigFault::OutOfMemory,
+        }
+    }
+}
+
+impl From<PatternFault> for ConfigFault {
+    ghost use Rattle.std.specs.Prelude.{◌≡◌};
+    ghost use Rattle.cfg_json.specs.Readings.{pattern_rule};
+
+    ghost from_gives = { λ fault rule. rule ≡ pattern_rule fault };
+
+    fn from(fault: PatternFault) -> Self {
+        match fault {
+            PatternFault::PatternSyntax(text) => ConfigFault::PatternSyntax(text),
+            PatternFault::PatternTooLarge(text) => ConfigFault::PatternTooLarge(text),
+            PatternFault::OutOfMemory => ConfigFault::OutOfMemory,
+        }
+    }
 }

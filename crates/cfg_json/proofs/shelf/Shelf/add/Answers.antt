@@ -1,5 +1,5 @@
 -- A new name goes last in the map, and so does its configuration.
-use Rattle.cfg_json.proofs.Shelves.{entries_with, configs_of_more, AreNamed_more, few_more}
+use Rattle.cfg_json.proofs.ShelvesLemmas.{entries_with, configs_of_more, AreNamed_more, few_more}
 use Rattle.cfg_json.proofs.shelf.Shelf.add.Goals as goal
 
 pub invariant_of-self-2 : goal.invariant_of-self-2

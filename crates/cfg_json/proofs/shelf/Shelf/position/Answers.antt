@@ -1,6 +1,6 @@
 -- The map's answer is the configuration's number.
 use Rattle.std.proofs.Common.{◌∙◌}
-use Rattle.cfg_json.proofs.Shelves.{number_of_key}
+use Rattle.cfg_json.proofs.ShelvesLemmas.{number_of_key}
 use Rattle.cfg_json.proofs.shelf.Shelf.position.Goals as goal
 
 pub returns : goal.returns

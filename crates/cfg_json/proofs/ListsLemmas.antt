@@ -1,0 +1,47 @@
+-- Lists of a document: their elements, their lengths, and reading each in turn.
+use Rattle.std.specs.Prelude.{⊤}
+use Rattle.std.proofs.Common.{◌≡◌, ◌&&◌, ℕ, List, [], ◌∷◌, ◌++◌, length, map, nat_le, if◌then◌else◌, true, false, Result, Ok, Err, refl, ap, sym, append_assoc}
+use Rattle.std.proofs.lemmas.List.{length-map}
+use Rattle.serde_json.specs.Data.{Data}
+use Rattle.serde_json.proofs.Views.{view-Array}
+use Rattle.serde_json.specs.declared.value.Value.TheVariants.{Array}
+use Rattle.std.specs.Global.{Vec}
+use Rattle.serde_json.specs.View.{items_of, view}
+use Rattle.serde_json.specs.declared.value.Value.{Value}
+use Rattle.cfg_json.specs.declared.config_fault.ConfigFault.{ConfigFault}
+use Rattle.cfg_json.specs.declared.config_fault.ConfigFault.TheVariants.{OutOfRange}
+use Rattle.cfg_json.specs.Values.{◌>>=◌, list_of, list_within, with_length, each}
+
+-- the items of a list are its elements
+pub list_of_items : (elements : List Data) → list_of (items_of elements) ≡ elements
+list_of_items [] = refl
+list_of_items (element ∷ elements) = ap (λ later. element ∷ later) (list_of_items elements)
+
+-- the elements of a list whose length was checked
+pub list_checked : (least most : ℕ) (value : Value) (items : Vec Value) (elements : List Value) (checked : Result ⊤ ConfigFault) → value ≡ Array items
+    → elements ≡ items.items → checked ≡ (if nat_le least (length elements) && nat_le (length elements) most then Ok tt else Err OutOfRange)
+    → list_within least most (view value) ≡ (checked >>= λ _. Ok (map view elements))
+list_checked least most value items elements checked e same length_checked =
+    rw (e, view-Array items, list_of_items (map view items.items), ← same, length-map elements view, length_checked)
+    (elim (nat_le least (length elements) && nat_le (length elements) most)
+    as (λ fits. (if fits then Ok (map view elements) else Err OutOfRange) ≡ ((if fits then Ok tt else Err OutOfRange) >>= λ _. Ok (map view elements)))
+    [ true ↦ refl | false ↦ refl ])
+
+-- what was read so far, and what reading the rest gives
+abbrev pub after : {B : Type 0} → List B → Result (List B) ConfigFault → Result (List B) ConfigFault
+after so_far rest = rest >>= λ later. Ok (so_far ++ later)
+
+pub after_more : {B : Type 0} (so_far : List B) (first : B) (rest : Result (List B) ConfigFault)
+    → after so_far (rest >>= λ later. Ok (first ∷ later)) ≡ after (so_far ++ first ∷ []) rest
+after_more so_far first (Ok later) = ap Ok (sym (append_assoc so_far (first ∷ []) later))
+after_more so_far first (Err fault) = refl
+
+-- an element that is read joins what was read so far
+pub each_more : {A B : Type 0} (read : A → Result B ConfigFault) (so_far : List B) (value : A) (values : List A) (first : B)
+    → read value ≡ Ok first → after so_far (each read (value ∷ values)) ≡ after (so_far ++ first ∷ []) (each read values)
+each_more read so_far value values first e = rw e (after_more so_far first (each read values))
+
+-- an element that is refused decides
+pub each_fault : {A B : Type 0} (read : A → Result B ConfigFault) (so_far : List B) (value : A) (values : List A) (fault : ConfigFault)
+    → read value ≡ Err fault → after so_far (each read (value ∷ values)) ≡ Err fault
+each_fault read so_far value values fault e = rw e refl

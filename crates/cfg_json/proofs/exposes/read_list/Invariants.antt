@@ -1,0 +1,10 @@
+-- The exposes so far, and those of the elements that are left, are all exposes.
+use Rattle.std.proofs.Common.{◌≡◌, drop, map}
+use Rattle.serde_json.specs.View.{view}
+use Rattle.cfg_json.specs.Values.{each}
+use Rattle.cfg_json.specs.Exposes.{expose_of}
+use Rattle.cfg_json.proofs.ListsLemmas.{after}
+use Rattle.cfg_json.proofs.exposes.read_list.Given as goal
+
+abbrev pub invariant-loop-item : goal.invariant-loop-item
+invariant-loop-item l = after l.exposes (each expose_of (map view (drop l.item-index l.items))) ≡ each expose_of (map view l.items)

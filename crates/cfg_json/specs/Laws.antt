@@ -1,0 +1,13 @@
+-- Laws of verdicts.
+use Rattle.std.specs.Prelude.{◌≡◌, ◌≢◌, ◌++◌, Result, Err}
+use Rattle.pat_gate.specs.Makers.{Maker}
+use Rattle.cfg_json.specs.Configs.{Config}
+use Rattle.cfg_json.specs.Readings.{GivesConfig}
+use Rattle.cfg_json.specs.Verdicts.{TiedToReading, large_in, verdict_of}
+use Rattle.cfg_json.specs.declared.config_fault.ConfigFault.{ConfigFault}
+use Rattle.cfg_json.specs.declared.config_fault.ConfigFault.TheVariants.{OutOfMemory}
+
+-- what is answered of a document, but for want of memory, is a verdict that is tied to its reading, and the maker lists what it calls too large
+abbrev pub AnswersAreVerdicts : Type 0
+AnswersAreVerdicts = (old new : Maker) (result read : Result Config ConfigFault) → GivesConfig old new result read → result ≢ Err OutOfMemory
+    → TiedToReading read (verdict_of result) × (new.refused ≡ old.refused ++ large_in (verdict_of result))

@@ -1,0 +1,8 @@
+ghost use Rattle.cfg_json.specs.Laws.{AnswersAreVerdicts};
+
+/// Each answer of [`Config::read`](crate::Config::read) but want of memory is a verdict on the patterns of
+/// what the document says, and the maker lists the text that it calls too large.
+#[tactic(auto, using(crate::proofs::VerdictsLemmas::gives_ties))]
+pub fn answers_are_verdicts()
+    ensures { AnswersAreVerdicts }
+{}
