@@ -6,3 +6,4 @@ pub mod Matches
 pub mod Sights
 pub mod Presents
 pub mod Steps
+pub mod Parts

@@ -5,13 +5,18 @@
 mod braces;
 #[cfg(test)]
 mod grammar_tests;
+mod key;
+mod part;
 mod pattern;
+#[cfg(test)]
+mod pattern_tests;
 mod pattern_text;
 mod probe;
 mod reading;
 mod rows;
 mod spelling;
 mod term;
+mod test;
 mod truths;
 mod word;
 

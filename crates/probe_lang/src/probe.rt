@@ -1,7 +1,9 @@
 ghost use Rattle.std.specs.Prelude.{◌≡◌, ◌≤◌, length, map, IfOk};
 ghost use Rattle.probe_lang.specs.Values.{AreFew, most_patterns};
-ghost use Rattle.probe_lang.specs.Grammar.{most_texts, probe_of, GivesProbe};
+ghost use Rattle.probe_lang.specs.Grammar.{most_texts, probe_of, parsed, GivesProbe};
 
+use crate::reading::{Reading, Step};
+use crate::term::read_term;
 use crate::{PatternTexts, Words};
 use bmc_base::{Ledger, OutOfMemory};
 use std::alloc::Global;
@@ -50,15 +52,43 @@ impl<L: Ledger> Model for Probe<L> {
 }
 
 impl<L: Ledger> Probe<L> {
-    /// Reads the probe of at most 33 texts, each of which is one word, and its patterns by number.
+    /// Reads the probe of at most 33 texts, and its patterns by number. Each text is one word; spaces around it
+    /// are dropped. `TRUE`, `FALSE`, `FOUND('NAME')` and `xyz.openbmc_project.FruDevice({..})` are operands, `AND`
+    /// or `OR` stands between two of them, and `MATCH_ONE` may stand behind the last. The fault is the first
+    /// text that is wrong.
     pub fn parse(alloc: Global, texts: &[&str]) -> Result<(Probe<L>, PatternTexts), ProbeFault>
         requires { length texts.now ≤ most_texts }
         ensures read { GivesProbe result (probe_of (map (λ text. text.now) texts.now)) }
         ensures few { IfOk result (λ parsed. length parsed.1 ≤ most_patterns) }
     {
-        let _ = alloc;
-        let _ = texts;
-        Err(ProbeFault::OutOfMemory)
+        let mut reading = Reading::with_capacity(alloc, texts.len())?;
+        let mut wants_operand = true;
+        for at in 0..texts.len() {
+            let term = read_term(alloc, texts[at])?;
+            match reading.read(alloc, wants_operand, at + 1 == texts.len(), term)? {
+                Step::Read => wants_operand = !wants_operand,
+                Step::Ends => return Ok(Probe::parsed(reading, true)),
+                Step::Wrong => return Err(ProbeFault::ProbeSyntax(at as u32)),
+            }
+        }
+        if wants_operand {
+            return Err(ProbeFault::ProbeSyntax(texts.len() as u32));
+        }
+        Ok(Probe::parsed(reading, false))
+    }
+
+    // The probe and its patterns, of what was read to the end.
+    fn parsed(reading: Reading, match_one: bool) -> (Probe<L>, PatternTexts)
+        requires { AreFew reading.words }
+        ensures { result ≡ parsed reading match_one }
+    {
+        let Reading { words, patterns } = reading;
+        let probe = Probe {
+            words,
+            match_one,
+            mark: PhantomData,
+        };
+        (probe, patterns)
     }
 
     /// Whether it ends with `MATCH_ONE`.
