@@ -1,5 +1,5 @@
 -- Whether a pattern matches the record at a place.
-use Rattle.std.specs.Prelude.{ℕ, ◌≡◌, ⊤, Bool, false, if◌then◌else◌, List, [], ◌∷◌, ◌++◌, codes, bytes_eq, Option, Some, None, Result, Ok, Err}
+use Rattle.std.specs.Prelude.{ℕ, ◌≡◌, Bool, false, if◌then◌else◌, List, codes, bytes_eq, Option, Some, None, Result, Ok, Err}
 use Rattle.std.specs.List.{list_all, All, Contains, filter_map}
 use Rattle.std.specs.Fmt.{decimal, signed_decimal}
 use Rattle.bmc_base.specs.Places.{Place}

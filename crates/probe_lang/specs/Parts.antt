@@ -1,5 +1,5 @@
 -- The compiled members of a pattern.
-use Rattle.std.specs.Prelude.{ℕ, ◌≡◌, ⊤, Bool, false, List, [], ◌∷◌, codes, bytes_eq, Option, Some, Result, Ok, Err}
+use Rattle.std.specs.Prelude.{ℕ, ◌≡◌, ⊤, false, List, codes, bytes_eq, Option, Some, Result, Ok, Err}
 use Rattle.std.specs.Option.{IfSome}
 use Rattle.fru_area.specs.Names.{name_text, IsName}
 use Rattle.fru_area.specs.declared.name.FieldName.{FieldName}
@@ -11,7 +11,6 @@ use Rattle.probe_lang.specs.declared.test.Test.{Test}
 use Rattle.probe_lang.specs.declared.test.Test.TheVariants as tests
 use Rattle.probe_lang.specs.declared.pattern_text.Want.{Want}
 use Rattle.probe_lang.specs.declared.pattern_text.Want.TheVariants as wants
-use Rattle.probe_lang.specs.declared.pattern_text.Member.{Member}
 use Rattle.probe_lang.specs.declared.pattern.PatternFault.{PatternFault}
 use Rattle.probe_lang.specs.declared.pattern.PatternFault.TheVariants.{PatternSyntax, PatternTooLarge, OutOfMemory}
 

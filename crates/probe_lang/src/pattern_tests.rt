@@ -3,6 +3,7 @@ use bmc_base::{OutOfMemory, Place, Silent, Steps, Text};
 use fru_record::FruRecord;
 use pat_gate::{ListMaker, PatternMaker, RegexMaker};
 use std::alloc::Global;
+use std::process::Abort;
 use std::test::Fail;
 
 // A chassis of type 23 with the fields P1, S2 and X1, and a board with ACM, XRSR1, 8, 08 and an empty field.
@@ -119,14 +120,13 @@ fn member(alloc: Global, key: &str, wanted: Wanted) -> Result<Member, OutOfMemor
     Ok(Member { key, want })
 }
 
-#[test]
-fn patterns_match(rt: HostRuntime) -> Result<(), Fail> {
-    let alloc = rt.alloc();
+// Each row's pattern is made and matched against the record, which counts one match.
+fn assert_matches(rt: &impl Abort, alloc: Global, rows: &[Row]) -> Result<(), Fail> {
     let place = Place::new(12, 80).unwrap();
     let fru = FruRecord::decode(alloc, RECORD)?;
     let mut maker = RegexMaker::new(alloc);
     let mut steps = Steps::new(Silent);
-    for (row, (members, wanted)) in MATCHES.iter().enumerate() {
+    for (row, (members, wanted)) in rows.iter().enumerate() {
         let pattern = made(alloc, members, &mut maker)?;
         let before = steps.matches();
         let matched = pattern.matches(alloc, place, &fru, &mut steps)?;
@@ -135,6 +135,11 @@ fn patterns_match(rt: HostRuntime) -> Result<(), Fail> {
     }
     assert_eq!(rt; steps.evals(), 0);
     Ok(())
+}
+
+#[test]
+fn patterns_match(rt: HostRuntime) -> Result<(), Fail> {
+    assert_matches(&rt, rt.alloc(), &MATCHES)
 }
 
 // A text that the maker is told to refuse as too large.

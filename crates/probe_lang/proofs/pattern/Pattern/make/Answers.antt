@@ -1,5 +1,5 @@
 -- One member more is made, or it is refused.
-use Rattle.std.proofs.Common.{sym, ◌∙◌, ap, ap₂, ◌≡◌, ◌∷◌, ◌++◌, [], List, take, get_or}
+use Rattle.std.proofs.Common.{sym, ◌∙◌, ap₂, ◌∷◌, ◌++◌, [], List}
 use Rattle.std.proofs.lemmas.List.{take_more}
 use Rattle.std.proofs.lemmas.Result.{err_from_is_err_and}
 use Rattle.probe_lang.specs.declared.pattern_text.Member.{Member}

@@ -1,5 +1,5 @@
 -- The members are tried in order.
-use Rattle.std.proofs.Common.{sym, ◌∙◌, ap, ◌≡◌, List}
+use Rattle.std.proofs.Common.{sym, ◌∙◌, ap, List}
 use Rattle.probe_lang.specs.Matches.{matches}
 use Rattle.probe_lang.specs.declared.pattern_text.Member.{Member}
 use Rattle.probe_lang.proofs.MatchesLemmas.{matches-fails, matches-all}
