@@ -1,0 +1,149 @@
+-- What is known stands for a history, before a step and after it.
+use Rattle.std.proofs.Common.{◌≡◌, ℕ, List, [], ◌∷◌, ◌++◌, map, filter, Bool, true, false, not, cond, Option, Some, None, refl, ap, ap₂, sym, subst, ◌∙◌}
+use Rattle.std.specs.Option.{option_eq}
+use Rattle.std.specs.Ordering.{is_lt, is_eq}
+use Rattle.bmc_base.specs.Places.{Place, place_cmp, place_eq}
+use Rattle.probe_lang.specs.Presents.{with_entry, without_entry, holds_place}
+use Rattle.probe_lang.specs.Sights.{Sight, entry_sight}
+use Rattle.probe_lang.specs.declared.rows.Entry.{Entry}
+use Rattle.cfg_json.specs.Configs.{Config}
+use Rattle.match_rows.proofs.MatchingLemmas.{entry_sight_is}
+use Rattle.inventory.specs.Boards.{boards_in, has_board}
+use Rattle.inventory.specs.Indexes.{kept_of, except, with_boards}
+use Rattle.inventory.proofs.BoardLemmas.{all_pass}
+use Rattle.inventory.proofs.IndexesLemmas.{with_boards_distinct}
+use Rattle.inventory.proofs.ListLemmas.{distinct_filter}
+use Rattle.bmc_report.specs.declared.refusal.Refusal.{Refusal}
+use Rattle.bmc_report.specs.declared.change.Change.{Change}
+use Rattle.bmc_machine.specs.Standings.{Fru, Standing, fields_of, put, without, is_present, is_at}
+use Rattle.bmc_machine.specs.Boards.{sights_of, sights, boards}
+use Rattle.bmc_machine.specs.Histories.{Step, Configure, Plug, RefusedPlug, Unplug, standing}
+use Rattle.bmc_machine.specs.Indexes.{kept}
+use Rattle.bmc_machine.specs.Refusals.{refusal_of, IsLegalStep, IsLegal}
+use Rattle.bmc_machine.specs.Changes.{Inventory, inventory, changes_between, changes}
+use Rattle.bmc_machine.specs.Answers.{past_refused}
+use Rattle.bmc_machine.proofs.IndexLemmas.{kept_next, kept_now, kept_idle}
+use Rattle.bmc_machine.proofs.MeetingLemmas.{boards_differ}
+use Rattle.bmc_replay.specs.States.{View, no_view, fru_entry, view_boards, view_inventory, Stands, Moves}
+use Rattle.bmc_replay.specs.Steps.{Accepts, Refuses, Tries}
+
+pub stands_none : Stands no_view []
+unfolding standing kept IsLegal
+stands_none = record { legal = tt; configs = refl; entries = refl; plugged = refl; kept = λ number. refl }
+
+-- ---- what is seen
+
+entry_sights : (configs : List Config) (frus : List Fru) → map entry_sight (map (fru_entry configs) frus) ≡ sights_of configs frus
+entry_sights configs [] = refl
+entry_sights configs (fru ∷ frus) =
+    ap₂ (λ (first : Sight) (later : List Sight). first ∷ later) (entry_sight_is configs fru.place (fields_of fru)) (entry_sights configs frus)
+
+-- the boards by what is known are those of a scan
+boards_are : (view : View) (now : Standing) → view.configs ≡ now.configs → view.entries ≡ map (fru_entry now.configs) now.frus
+    → (number : ℕ) → view_boards view number ≡ boards now number
+unfolding boards
+boards_are view now configs entries number =
+    ap₂ (λ (configs : List Config) (sights : List Sight). boards_in configs sights number) configs
+    (ap (map entry_sight) entries ∙ entry_sights now.configs now.frus)
+
+inventory_is : (view : View) (past : List Step) → view.configs ≡ (standing past).configs
+    → ((number : ℕ) → view_boards view number ≡ boards (standing past) number) → ((number : ℕ) → kept_of view.kept number ≡ kept past number)
+    → view_inventory view ≡ inventory past
+inventory_is view past configs same held =
+    λ i. record { configs = configs i; boards = λ number. same number i; kept = λ number. held number i }
+
+-- ---- what is kept
+
+-- what fails a test is left out already
+except_twice : (test other : Option Place → Bool) (places : List (Option Place)) → ((place : Option Place) → other place ≡ true → test place ≡ true)
+    → except test (except other places) ≡ except test places
+except_twice test other [] passes = refl
+except_twice test other (place ∷ places) passes = by (other place) (test place) (passes place) (except_twice test other places passes)
+  where
+    by : (is_other passes_test : Bool) → (is_other ≡ true → passes_test ≡ true) → except test (except other places) ≡ except test places
+        → cond (not is_other) (cond (not passes_test) (place ∷ except test (except other places)) (except test (except other places)))
+        (except test (except other places)) ≡ cond (not passes_test) (place ∷ except test places) (except test places)
+    by true true both rest = rest
+    by true false both rest = absurd (let no = both refl in cc)
+    by false true both rest = rest
+    by false false both rest = ap (λ (places : List (Option Place)). place ∷ places) rest
+
+-- the boards that are new are kept behind the others
+kept_after : (old new : View) (past : List Step) (step : Step) → IsLegal (step ∷ past)
+    → ((number : ℕ) → view_boards old number ≡ boards (standing past) number) → ((number : ℕ) → kept_of old.kept number ≡ kept past number)
+    → ((number : ℕ) → view_boards new number ≡ boards (standing (step ∷ past)) number) → Moves old new
+    → (number : ℕ) → kept_of new.kept number ≡ kept (step ∷ past) number
+kept_after old new past step legal before held after moves number =
+    moves.kept number
+    ∙ ap₂ (λ (there here : List (Option Place)). with_boards there (except (has_board (view_boards old number)) here)) (held number) (after number)
+    ∙ ap (λ (here : List (Option Place)). with_boards (kept past number) (except (has_board here) now)) (before number)
+    ∙ with_boards_distinct (kept past number) (except (has_board (boards (standing past) number)) now)
+      (distinct_filter (option_eq place_eq) _ now (boards_differ (step ∷ past) number legal))
+    ∙ ap (λ (new : List (Option Place)). kept past number ++ new)
+      (except_twice (has_board (kept past number)) (has_board (boards (standing past) number)) now
+      (λ place has. all_pass (has_board (kept past number)) (boards (standing past) number) (kept_now past number) place has))
+    ∙ sym (kept_next step past number)
+  where
+    now : List (Option Place)
+    now = boards (standing (step ∷ past)) number
+
+-- ---- steps
+
+-- an accepted step joins the history, and the changes are its own
+pub accepted : (old new : View) (past : List Step) (step : Step) → Stands old past → refusal_of (standing past) step ≡ None → IsLegalStep past step
+    → new.configs ≡ (standing (step ∷ past)).configs → new.entries ≡ map (fru_entry (standing (step ∷ past)).configs) (standing (step ∷ past)).frus
+    → new.plugged ≡ (standing (step ∷ past)).plugged → Moves old new → Accepts past step new
+unfolding IsLegal
+accepted old new past step stood reason legal configs entries plugged moves =
+    let before = boards_are old (standing past) stood.configs stood.entries in
+    let after = boards_are new (standing (step ∷ past)) configs entries in
+    let held = kept_after old new past step (stood.legal, legal) before stood.kept after moves in
+    record {
+      reason = reason;
+      stands = record { legal = (stood.legal, legal); configs = configs; entries = entries; plugged = plugged; kept = held };
+      told =
+          moves.changes
+          ∙ ap₂ changes_between (inventory_is old past stood.configs before stood.kept) (inventory_is new (step ∷ past) configs after held);
+    }
+
+-- a state that stands does so also without its last changes
+without_changes : (view : View) (past : List Step) → Stands view past → Stands (record view { changes = [] }) past
+without_changes view past stood =
+    record { legal = stood.legal; configs = stood.configs; entries = stood.entries; plugged = stood.plugged; kept = stood.kept }
+
+standing_refused : (place : Place) (bytes : List ℕ) (refusal : Refusal) (past : List Step) → standing (RefusedPlug place bytes refusal ∷ past) ≡ standing past
+unfolding standing
+standing_refused place bytes refusal past = refl
+
+-- a refused plug joins the history, and leaves what stands
+refused_plug : (view : View) (past : List Step) (place : Place) (bytes : List ℕ) (refusal : Refusal) → Stands view past
+    → refusal_of (standing past) (Plug place bytes) ≡ Some refusal → Stands view (RefusedPlug place bytes refusal ∷ past)
+unfolding IsLegal
+refused_plug view past place bytes refusal stood reason =
+    let same : standing (RefusedPlug place bytes refusal ∷ past) ≡ standing past = standing_refused place bytes refusal past in
+    record {
+      legal = (stood.legal, reason);
+      configs = stood.configs ∙ sym (ap (λ (now : Standing). now.configs) same);
+      entries = stood.entries ∙ sym (ap (λ (now : Standing). map (fru_entry now.configs) now.frus) same);
+      plugged = stood.plugged ∙ sym (ap (λ (now : Standing). now.plugged) same);
+      kept = λ number. stood.kept number ∙ sym (kept_idle (RefusedPlug place bytes refusal) past number same);
+    }
+
+-- a step is refused that whatever history is known refuses
+pub refused : (old new : View) (step : Step) (refusal : Refusal)
+    → ((past : List Step) → Stands old past → refusal_of (standing past) step ≡ Some refusal) → new ≡ record old { changes = [] }
+    → Tries old step (Some refusal) new
+refused old new step refusal reasons left = record {
+  tried = λ past stood. record {
+    reason = reasons past stood;
+    stands = subst (λ (view : View). Stands view (past_refused past step refusal)) (sym left) (of step past (reasons past stood) (without_changes old past stood));
+  };
+  left = left;
+}
+  where
+    of : (step : Step) (past : List Step) → refusal_of (standing past) step ≡ Some refusal → Stands (record old { changes = [] }) past
+        → Stands (record old { changes = [] }) (past_refused past step refusal)
+    of (Configure config) past reason stood = stood
+    of (Plug place bytes) past reason stood = refused_plug _ past place bytes refusal stood reason
+    of (RefusedPlug place bytes other) past reason stood = stood
+    of (Unplug place) past reason stood = stood

@@ -1,0 +1,172 @@
+-- What each kind of step leaves.
+use Rattle.std.proofs.Common.{◌≡◌, ℕ, List, [], ◌∷◌, ◌++◌, map, length, Bool, true, false, not, cond, Option, Some, None, Ok, Err, refl, ap, ap₂, sym, ◌∙◌}
+use Rattle.std.specs.Prelude.{Result, nat_le, is_some, ◌||◌, ◌==◌}
+use Rattle.std.specs.Ordering.{is_lt, is_eq}
+use Rattle.bmc_base.specs.Places.{Place, place_cmp}
+use Rattle.fru_area.specs.Readings.{checked}
+use Rattle.fru_area.specs.declared.field.Field.{Field}
+use Rattle.fru_area.specs.declared.fault.FruFault.{FruFault}
+use Rattle.fru_record.specs.Records.{record_of}
+use Rattle.probe_lang.specs.Presents.{with_entry, without_entry, holds_place}
+use Rattle.probe_lang.specs.declared.rows.Entry.{Entry}
+use Rattle.cfg_json.specs.Configs.{Config}
+use Rattle.cfg_json.specs.Shelves.{number_of, most_configs}
+use Rattle.match_rows.specs.Matching.{entry_of}
+use Rattle.bmc_report.specs.declared.refusal.Refusal.{Refusal}
+use Rattle.bmc_report.specs.declared.refusal.Refusal.TheVariants.{ConfigAfterPlug, DuplicateName, ConfigLimit, Occupied, NotPresent}
+use Rattle.bmc_machine.specs.Standings.{Fru, Standing, fields_in, fields_of, put, without, is_present}
+use Rattle.bmc_machine.specs.Histories.{Step, Configure, Plug, Unplug, standing}
+use Rattle.bmc_machine.specs.Refusals.{record_refusal, broken_rule, refusal_of}
+use Rattle.bmc_replay.specs.States.{View, fru_entry, Stands, Moves}
+use Rattle.bmc_replay.specs.Steps.{AddsFru, Tries}
+use Rattle.bmc_replay.proofs.StatesLemmas.{accepted, refused}
+
+-- ---- FRUs and their entries
+
+present_is : (configs : List Config) (frus : List Fru) (place : Place) → holds_place (map (fru_entry configs) frus) place ≡ is_present frus place
+present_is configs [] place = refl
+present_is configs (fru ∷ frus) place = ap (λ (later : Bool). is_eq (place_cmp place fru.place) || later) (present_is configs frus place)
+
+put_is : (configs : List Config) (fru : Fru) (frus : List Fru) → with_entry (fru_entry configs fru) (map (fru_entry configs) frus) ≡ map (fru_entry configs) (put fru frus)
+put_is configs fru [] = refl
+put_is configs fru (other ∷ frus) = by (is_lt (place_cmp fru.place other.place)) (put_is configs fru frus)
+  where
+    by : (is_before : Bool) → with_entry (fru_entry configs fru) (map (fru_entry configs) frus) ≡ map (fru_entry configs) (put fru frus)
+        → cond is_before (fru_entry configs fru ∷ fru_entry configs other ∷ map (fru_entry configs) frus)
+        (fru_entry configs other ∷ with_entry (fru_entry configs fru) (map (fru_entry configs) frus))
+        ≡ map (fru_entry configs) (cond is_before (fru ∷ other ∷ frus) (other ∷ put fru frus))
+    by true rest = refl
+    by false rest = ap (λ (entries : List Entry). fru_entry configs other ∷ entries) rest
+
+without_is : (configs : List Config) (place : Place) (frus : List Fru) → without_entry place (map (fru_entry configs) frus) ≡ map (fru_entry configs) (without place frus)
+without_is configs place [] = refl
+without_is configs place (fru ∷ frus) = by (is_eq (place_cmp place fru.place)) (without_is configs place frus)
+  where
+    by : (is_here : Bool) → without_entry place (map (fru_entry configs) frus) ≡ map (fru_entry configs) (without place frus)
+        → cond (not is_here) (fru_entry configs fru ∷ without_entry place (map (fru_entry configs) frus)) (without_entry place (map (fru_entry configs) frus))
+        ≡ map (fru_entry configs) (cond (not is_here) (fru ∷ without place frus) (without place frus))
+    by true rest = rest
+    by false rest = ap (λ (entries : List Entry). fru_entry configs fru ∷ entries) rest
+
+-- whether a FRU is present, by what is known
+is_known : (view : View) (past : List Step) (place : Place) (held : Bool) → Stands view past → holds_place view.entries place ≡ held
+    → is_present (standing past).frus place ≡ held
+is_known view past place held stood is =
+    sym (ap (λ (entries : List Entry). holds_place entries place) stood.entries
+    ∙ present_is (standing past).configs (standing past).frus place) ∙ is
+
+-- ---- plugs
+
+-- a place that is held is refused
+pub occupied : (old new : View) (place : Place) (bytes : List ℕ) → holds_place old.entries place ≡ true → new ≡ record old { changes = [] }
+    → Tries old (Plug place bytes) (Some Occupied) new
+occupied old new place bytes held left =
+    refused old new (Plug place bytes) Occupied
+    (λ past stood. ap (λ (there : Bool). cond there (Some Occupied) (broken_rule (record_of bytes))) (is_known old past place true stood held)) left
+
+-- bytes that break a rule are refused by it
+pub broken : (old new : View) (place : Place) (bytes : List ℕ) (rule : FruFault) (refusal : Refusal) → holds_place old.entries place ≡ false
+    → record_of bytes ≡ Err rule → record_refusal rule ≡ Some refusal → new ≡ record old { changes = [] } → Tries old (Plug place bytes) (Some refusal) new
+broken old new place bytes rule refusal free breaks is left =
+    refused old new (Plug place bytes) refusal
+    (λ past stood. ap (λ (there : Bool). cond there (Some Occupied) (broken_rule (record_of bytes))) (is_known old past place false stood free)
+    ∙ ap broken_rule breaks ∙ is) left
+
+-- a FRU is added whose record is whole
+pub plugged : (old new : View) (place : Place) (bytes : List ℕ) (fields : List Field) → holds_place old.entries place ≡ false
+    → record_of bytes ≡ Ok fields → AddsFru place fields old new → Tries old (Plug place bytes) None new
+unfolding standing
+plugged old new place bytes fields free whole adds = record {
+  tried = λ past stood.
+      let fru : Fru = record { place = place; bytes = bytes } in
+      let reason : refusal_of (standing past) (Plug place bytes) ≡ None =
+      ap (λ (there : Bool). cond there (Some Occupied) (broken_rule (record_of bytes))) (is_known old past place false stood free) ∙ ap broken_rule whole in
+      accepted old new past (Plug place bytes) stood reason reason (adds.configs ∙ stood.configs)
+      (adds.entries
+      ∙ ap (λ (configs : List Config). with_entry (entry_of configs place fields) old.entries) stood.configs
+      ∙ ap (λ (entries : List Entry). with_entry (entry_of (standing past).configs place fields) entries) stood.entries
+      ∙ ap (λ (read : Result (List Field) FruFault). with_entry (entry_of (standing past).configs place (fields_in read))
+      (map (fru_entry (standing past).configs) (standing past).frus)) (sym whole)
+      ∙ put_is (standing past).configs fru (standing past).frus)
+      adds.plugged adds.moves;
+  left = tt;
+}
+
+-- ---- unplugs
+
+-- a place that is free is refused
+pub not_present : (old new : View) (place : Place) → holds_place old.entries place ≡ false → new ≡ record old { changes = [] }
+    → Tries old (Unplug place) (Some NotPresent) new
+not_present old new place free left =
+    refused old new (Unplug place) NotPresent
+    (λ past stood. ap (λ (there : Bool). cond there None (Some NotPresent)) (is_known old past place false stood free)) left
+
+pub unplugged : (old new : View) (place : Place) → holds_place old.entries place ≡ true → new.configs ≡ old.configs
+    → new.entries ≡ without_entry place old.entries → new.plugged ≡ old.plugged → Moves old new → Tries old (Unplug place) None new
+unfolding standing
+unplugged old new place held configs entries same moves = record {
+  tried = λ past stood.
+      let reason : refusal_of (standing past) (Unplug place) ≡ None =
+      ap (λ (there : Bool). cond there None (Some NotPresent)) (is_known old past place true stood held) in
+      accepted old new past (Unplug place) stood reason reason (configs ∙ stood.configs)
+      (entries ∙ ap (without_entry place) stood.entries ∙ without_is (standing past).configs place (standing past).frus)
+      (same ∙ stood.plugged) moves;
+  left = tt;
+}
+
+-- ---- configurations
+
+-- why a configuration is refused where this stands
+by_tests : Bool → Bool → Bool → Option Refusal
+by_tests after_plug duplicate full = cond after_plug (Some ConfigAfterPlug) (cond duplicate (Some DuplicateName) (cond full (Some ConfigLimit) None))
+
+tests_are : (view : View) (past : List Step) (config : Config) → Stands view past
+    → refusal_of (standing past) (Configure config)
+    ≡ by_tests view.plugged (is_some (number_of view.configs config.name)) (nat_le most_configs (length view.configs))
+tests_are view past config stood =
+    ap₂ (λ (plugged : Bool) (configs : List Config). by_tests plugged (is_some (number_of configs config.name)) (nat_le most_configs (length configs)))
+    (sym stood.plugged) (sym stood.configs)
+
+pub after_plug : (old new : View) (config : Config) → old.plugged ≡ true → new ≡ record old { changes = [] }
+    → Tries old (Configure config) (Some ConfigAfterPlug) new
+after_plug old new config is left =
+    refused old new (Configure config) ConfigAfterPlug
+    (λ past stood. tests_are old past config stood ∙ ap (λ (test : Bool). by_tests test _ _) is) left
+
+pub duplicate : (old new : View) (config : Config) → old.plugged ≡ false → is_some (number_of old.configs config.name) ≡ true
+    → new ≡ record old { changes = [] } → Tries old (Configure config) (Some DuplicateName) new
+duplicate old new config is_new has left =
+    refused old new (Configure config) DuplicateName
+    (λ past stood. tests_are old past config stood ∙ ap₂ (λ (plugged named : Bool). by_tests plugged named (nat_le most_configs (length old.configs))) is_new has)
+    left
+
+pub full : (old new : View) (config : Config) → old.plugged ≡ false → is_some (number_of old.configs config.name) ≡ false
+    → nat_le most_configs (length old.configs) ≡ true → new ≡ record old { changes = [] } → Tries old (Configure config) (Some ConfigLimit) new
+full old new config is_new other many left =
+    refused old new (Configure config) ConfigLimit
+    (λ past stood. tests_are old past config stood
+    ∙ ap₂ (λ (plugged named : Bool). by_tests plugged named (nat_le most_configs (length old.configs))) is_new other
+    ∙ ap (by_tests false false) many) left
+
+no_frus : (configs : List Config) (frus : List Fru) (entries : List Entry) → entries ≡ [] → entries ≡ map (fru_entry configs) frus → frus ≡ []
+no_frus configs [] entries none same = refl
+no_frus configs (fru ∷ frus) entries none same = absurd (let no = sym none ∙ same in cc)
+
+-- a configuration is accepted while no FRU is present
+pub configured : (old new : View) (config : Config) → old.plugged ≡ false → old.entries ≡ [] → number_of old.configs config.name ≡ None
+    → nat_le most_configs (length old.configs) ≡ false → new.configs ≡ old.configs ++ config ∷ [] → new.entries ≡ old.entries → new.plugged ≡ old.plugged
+    → Moves old new → Tries old (Configure config) None new
+unfolding standing
+configured old new config never none other few configs entries same moves = record {
+  tried = λ past stood.
+      let reason : refusal_of (standing past) (Configure config) ≡ None =
+      tests_are old past config stood
+      ∙ ap₂ (λ (plugged named : Bool). by_tests plugged named (nat_le most_configs (length old.configs))) never (ap is_some other)
+      ∙ ap (by_tests false false) few in
+      let empty : (standing past).frus ≡ [] = no_frus (standing past).configs (standing past).frus old.entries none stood.entries in
+      accepted old new past (Configure config) stood reason reason
+      (configs ∙ ap (λ (configs : List Config). configs ++ config ∷ []) stood.configs)
+      (entries ∙ none ∙ sym (ap (map (fru_entry ((standing past).configs ++ config ∷ []))) empty))
+      (same ∙ stood.plugged) moves;
+  left = tt;
+}
