@@ -1,7 +1,7 @@
 -- A row that is idle changes nothing; else all is evaluated with it.
 use Rattle.std.proofs.Common.{◌≡◌, ◌∙◌, ◌-◌, ◌*◌, length, subst, ◌∷◌, ◌++◌, List, ap, ap₂, sym, take, drop}
-use Rattle.bmc_base.specs.Steps.{IsWithin}
 use Rattle.std.specs.List.{position_or_len}
+use Rattle.bmc_base.specs.Steps.{IsWithin}
 use Rattle.found_set.specs.declared.row.Row.{Row}
 use Rattle.found_set.specs.Found.{Rule, facts}
 use Rattle.found_set.specs.Rows.{sights_of, is_row_after, with_row}
