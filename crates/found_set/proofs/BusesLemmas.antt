@@ -4,6 +4,7 @@ use Rattle.std.specs.List.{list_any}
 use Rattle.std.proofs.lemmas.List.{get_or_past, length-append}
 use Rattle.std.proofs.lemmas.Bool.{cases_lt}
 use Rattle.std.proofs.lemmas.Bool.Decides.{nat_tests}
+use Rattle.std.proofs.Math.Bool.{or_assoc, and-false, or-false}
 use Rattle.probe_lang.specs.Sights.{Sight}
 use Rattle.probe_lang.specs.declared.rows.Channel.{Channel}
 use Rattle.found_set.specs.declared.row.Row.{Row}
@@ -11,7 +12,6 @@ use Rattle.found_set.specs.Marks.{is_marked, AreMarked}
 use Rattle.found_set.specs.Found.{Rule, found_from, found, matched_by, on_buses, is_root, roots, moves_to, opens, is_reached}
 use Rattle.found_set.specs.Rows.{row_sight, sights_of}
 use Rattle.found_set.specs.Buses.{leads, leads_on, fixed_opens}
-use Rattle.std.proofs.Math.Bool.{or_assoc, and-false, or-false}
 
 -- one mark for each configuration
 pub length-found_from : (all rules : List Rule) (test : ℕ → ℕ → Bool) (before : List Bool)

@@ -4,11 +4,11 @@ use Rattle.std.specs.List.{list_all}
 use Rattle.std.proofs.lemmas.List.{drop_more, take_more_set, length-take-le, length-map}
 use Rattle.std.proofs.lemmas.Bool.{and_parts}
 use Rattle.std.proofs.lemmas.Bool.Decides.{nat_tests}
+use Rattle.std.specs.Prelude.{position}
 use Rattle.probe_lang.specs.declared.word.Word.{Word}
 use Rattle.probe_lang.specs.declared.word.Word.TheVariants.{Always, Never, Found, Fru, And, Or}
 use Rattle.probe_lang.specs.Values.{value, value_from, operand, joined, is_few, AreFew}
 use Rattle.found_set.specs.Marks.{is_marked, is_true, AreTrue}
-use Rattle.std.specs.Prelude.{position}
 use Rattle.found_set.specs.Named.{mark_of, AreNames}
 use Rattle.found_set.specs.Found.{Rule, names_of, is_named_found, found_from}
 use Rattle.found_set.proofs.NamedLemmas.{named_is, named_before}

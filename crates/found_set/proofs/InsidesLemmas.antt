@@ -1,6 +1,7 @@
 -- What keeps a set sound.
 use Rattle.std.proofs.Common.{◌≡◌, ◌≤◌, ℕ, Vec, Global, List, [], ◌∷◌, ◌++◌, length, length-append, arith, Option, Some, None, true, subst, ap, ap₂, sym, ◌∙◌}
 use Rattle.std.specs.Option.{ForSome}
+use Rattle.std.proofs.lemmas.List.{same_from_push, map-append}
 use Rattle.found_set.specs.declared.facts.Facts.{Facts}
 use Rattle.found_set.specs.declared.row.Row.{Row}
 use Rattle.found_set.specs.declared.set.FoundSet.TheInside.{Inside}
@@ -8,7 +9,6 @@ use Rattle.found_set.specs.Staging.{HasRoom}
 use Rattle.found_set.specs.Found.{Rule, facts, names_of}
 use Rattle.found_set.specs.Named.{NamesView}
 use Rattle.found_set.specs.Rows.{sights_of, are_by_place}
-use Rattle.std.proofs.lemmas.List.{same_from_push, map-append}
 use Rattle.found_set.specs.Sets.{SetView, as_staged}
 use Rattle.found_set.specs.Events.{Staged, Event, ConfigEvent, PlugEvent, UnplugEvent, names_after, rules_after, rows_after, facts_after}
 use Rattle.found_set.specs.Insides.{IsSound}

@@ -8,7 +8,7 @@ use Rattle.found_set.specs.declared.row.Row.{Row}
 use Rattle.found_set.specs.Marks.{is_true, AreTrue}
 use Rattle.found_set.specs.Found.{Rule, on_buses, matched_by, is_root, is_reached}
 use Rattle.found_set.specs.Rows.{sights_of}
-use Rattle.found_set.specs.Buses.{stands_on, has_on, is_beyond}
+use Rattle.found_set.specs.Buses.{is_on_bus, has_on, is_beyond}
 use Rattle.found_set.proofs.FoundLemmas.{none_marked}
 use Rattle.found_set.proofs.BusesLemmas.{any_on}
 
@@ -41,7 +41,7 @@ module _ (rules : List Rule) (sights : List Sight) (c p : ℕ) where
       (list_any (has_on (is_beyond (is_reached rules sights)) c p) rows)
       ∙ ap (λ (b : Bool). (is_reached rules sights row.place.bus && has_hit row.hits c p) || b) (all_visible rows)
 
-none_has : (test : ℕ → Bool) (c p : ℕ) (rows : List Row) → list_any (stands_on test) rows ≡ false → list_any (has_on test c p) rows ≡ false
+none_has : (test : ℕ → Bool) (c p : ℕ) (rows : List Row) → list_any (is_on_bus test) rows ≡ false → list_any (has_on test c p) rows ≡ false
 none_has test c p [] none = refl
 none_has test c p (row ∷ rows) none =
     let both = or_parts _ _ none in
@@ -58,7 +58,7 @@ then_marked rules rows marks more first told = λ c p hc hp.
 
 -- the same where none is beyond the root buses
 pub still_marked : (rules : List Rule) (rows : List Row) (marks : List Bool) → AreTrue marks (matched_by (on_buses is_root (sights_of rows)))
-    → list_any (stands_on (is_beyond (is_reached rules (sights_of rows)))) rows ≡ false
+    → list_any (is_on_bus (is_beyond (is_reached rules (sights_of rows)))) rows ≡ false
     → AreTrue marks (matched_by (on_buses (is_reached rules (sights_of rows)) (sights_of rows)))
 still_marked rules rows marks told none = λ c p hc hp.
     let beyond = is_beyond (is_reached rules (sights_of rows)) in

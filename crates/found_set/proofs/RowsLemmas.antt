@@ -82,7 +82,7 @@ all_filtered test other (row ∷ rows) all = let two = and_parts _ _ all in by (
 next : (n : ℕ) → suc n ≡ 1 + n
 next n = omega arith
 
--- one row more stands before the first at a later place
+-- one row more goes before the first at a later place
 pub with_row_at : (row : Row) (rows : List Row) → with_row row rows ≡ insert rows (position_or_len (is_row_after row.place) rows) row
 with_row_at row [] = refl
 with_row_at row (other ∷ rows) = by (is_row_after row.place other) (with_row_at row rows)
@@ -117,14 +117,23 @@ without_row_at place rows at default ordered told =
     without_first place rows ordered
     ∙ ap (λ (n : ℕ). remove rows n) (position_or_len_is (is_row_at place) rows at default (omega (arith, found.0)) found.2 (λ k. found.1))
 
+-- the rows from a position to the end
+to_end : (rows : List Row) (n : ℕ) → take (length rows - n) (drop n rows) ≡ drop n rows
+to_end rows n = ap (λ (m : ℕ). take m (drop n rows)) (sym (length-drop n rows)) ∙ take-length (drop n rows)
+
+-- what is before a position, a row, and what is behind
+pub with_sliced : (row : Row) (rows : List Row) (at : ℕ) → at ≡ position_or_len (is_row_after row.place) rows
+    → (take at rows ++ row ∷ take (length rows - at) (drop at rows)) ≡ with_row row rows
+with_sliced row rows at is_first =
+    ap (λ (rest : List Row). take at rows ++ row ∷ rest) (to_end rows at) ∙ ap (λ (n : ℕ). insert rows n row) is_first ∙ sym (with_row_at row rows)
+
 -- what is before the first row at a place, and what is behind it
 pub without_sliced : (place : Place) (rows : List Row) (at : ℕ) (default : Row) → are_by_place rows ≡ true → position (is_row_at place) rows ≡ Some at
     → (take at rows ++ take (length rows - (at + 1)) (drop (at + 1) rows)) ≡ without_row place rows
 without_sliced place rows at default ordered found =
-    let next : at + 1 ≡ suc at = omega arith in
-    let behind : take (length rows - (at + 1)) (drop (at + 1) rows) ≡ drop (at + 1) rows =
-    ap (λ (n : ℕ). take n (drop (at + 1) rows)) (sym (length-drop (at + 1) rows)) ∙ take-length (drop (at + 1) rows) in
-    ap (λ (rest : List Row). take at rows ++ rest) (behind ∙ ap (λ (n : ℕ). drop n rows) next) ∙ sym (without_row_at place rows at default ordered found)
+    let one_more : at + 1 ≡ suc at = omega arith in
+    ap (λ (rest : List Row). take at rows ++ rest) (to_end rows (at + 1) ∙ ap (λ (n : ℕ). drop n rows) one_more)
+    ∙ sym (without_row_at place rows at default ordered found)
 
 -- rows stay by place
 after_all : (test : Row → Bool) (row : Row) (rows : List Row) → test row ≡ true → list_all test rows ≡ true → list_all test (with_row row rows) ≡ true

@@ -8,8 +8,8 @@ use Rattle.found_set.specs.Found.{Rule, is_root}
 use Rattle.found_set.specs.Marks.{is_marked}
 
 -- whether a row is on a bus that passes
-abbrev pub stands_on : (ℕ → Bool) → Row → Bool
-stands_on test row = test row.place.bus
+abbrev pub is_on_bus : (ℕ → Bool) → Row → Bool
+is_on_bus test row = test row.place.bus
 
 -- whether a row on a bus that passes has a hit
 abbrev pub has_on : (ℕ → Bool) → ℕ → ℕ → Row → Bool

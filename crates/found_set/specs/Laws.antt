@@ -21,7 +21,7 @@ AreKept (row ∷ rows) (sight ∷ sights) = IsKept row sight × AreKept rows sig
 abbrev pub KeptIsScan : Type 0
 KeptIsScan = (rules : List Rule) (rows : List Row) (sights : List Sight) → AreKept rows sights → facts rules (sights_of rows) ≡ facts rules sights
 
--- an idle row changes no fact, wherever it stands
+-- an idle row changes no fact, wherever it is
 abbrev pub IdleRow : Type 0
 IdleRow = (rules : List Rule) (before after : List Row) (row : Row) → is_idle row ≡ true
     → facts rules (sights_of (before ++ row ∷ after)) ≡ facts rules (sights_of (before ++ after))

@@ -26,7 +26,7 @@ is_row_at place row = is_eq (place_cmp place row.place)
 abbrev pub is_row_after : Place → Row → Bool
 is_row_after place row = is_lt (place_cmp place row.place)
 
--- whether a row stands at a place
+-- whether a row is at a place
 abbrev pub holds_place : List Row → Place → Bool
 holds_place rows place = list_any (is_row_at place) rows
 

@@ -2,7 +2,7 @@ ghost use Rattle.std.specs.Prelude.{◌≡◌, ℕ, Bool, ◌||◌, ◌&&◌, �
 ghost use Rattle.std.specs.List.{list_any};
 ghost use Rattle.probe_lang.specs.Sights.{has_hit};
 ghost use Rattle.found_set.specs.Marks.{is_marked, is_true, AreMarked, AreTrue};
-ghost use Rattle.found_set.specs.Buses.{has_on, stands_on};
+ghost use Rattle.found_set.specs.Buses.{has_on, is_on_bus};
 
 use crate::facts::{BUSES, MOST_RULES};
 use crate::row::Row;
@@ -69,7 +69,7 @@ pub(crate) fn is_on(row: &Row, buses: &[bool; BUSES]) -> bool
 
 // Whether a row is on a bus that is marked.
 pub(crate) fn any_is_on(rows: &[Row], buses: &[bool; BUSES]) -> bool
-    ensures { (test : ℕ → Bool) → AreMarked buses.now test → result ≡ list_any (stands_on test) rows.now }
+    ensures { (test : ℕ → Bool) → AreMarked buses.now test → result ≡ list_any (is_on_bus test) rows.now }
 {
     for row in rows {
         if is_on(row, buses) {

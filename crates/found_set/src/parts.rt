@@ -1,7 +1,7 @@
 ghost use Rattle.std.specs.Prelude.{◌≡◌, ℕ, Bool, ◌++◌, ◌∷◌, ◌||◌};
 ghost use Rattle.std.specs.List.{list_any};
 ghost use Rattle.found_set.specs.Marks.{is_marked, is_true, AreTrue, AreMarked};
-ghost use Rattle.found_set.specs.Buses.{has_on, stands_on, leads_on};
+ghost use Rattle.found_set.specs.Buses.{has_on, is_on_bus, leads_on};
 
 use crate::facts::{BUSES, MOST_RULES};
 use crate::marks::{PATTERN_MARKS, any_is_on, is_on, mark_row, mark_rows};
@@ -63,7 +63,7 @@ impl<'a> Parts<'a> {
 
     // Whether a row is on a bus that is marked.
     pub(crate) fn are_on(&self, buses: &[bool; BUSES]) -> bool
-        ensures { (test : ℕ → Bool) → AreMarked buses.now test → result ≡ list_any (stands_on test) self.now }
+        ensures { (test : ℕ → Bool) → AreMarked buses.now test → result ≡ list_any (is_on_bus test) self.now }
     {
         let plus_is_on = match self.plus {
             Some(row) => is_on(row, buses),

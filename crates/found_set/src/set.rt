@@ -20,8 +20,8 @@ use std::alloc::Global;
 use std::marker::Model;
 
 /// Configurations, and what is kept of the FRUs that are present, with what is found and reachable. At most
-/// one event is staged: a prepare stages one in place of the last and returns the facts after it, and commit
-/// takes it over. The set is else as it was before the prepare.
+/// one event is staged: a prepare stages one in place of the last and returns the facts after it, and
+/// [`commit`](FoundSet::commit) takes it over. But for what is staged, a prepare leaves the set as it was.
 #[derive(Drop)]
 pub struct FoundSet<L: Ledger> {
     names: Names,
@@ -78,9 +78,9 @@ impl<L: Ledger> FoundSet<L> {
         self.names.number(name)
     }
 
-    /// Stages a configuration that comes behind the others, and returns the facts after it. It has a new
-    /// name, fewer than 256 came before it, and no FRU is present. For want of memory nothing is staged. At
-    /// most twice as many probes are evaluated as there are configurations with this one.
+    /// Stages a configuration that comes behind the others, and returns the facts after it. Its name is new,
+    /// the set holds fewer than 256 configurations, and no FRU is present. For want of memory nothing is
+    /// staged. At most twice as many probes are evaluated as there are configurations, this one included.
     pub fn prepare_config(
         &mut self,
         alloc: Global,
@@ -102,9 +102,9 @@ impl<L: Ledger> FoundSet<L> {
     }
 
     /// Stages a FRU that comes, and returns the facts after it. None is present at its place, and its hits
-    /// and channels are of configurations of the set. For want of memory nothing is staged. At most twice
-    /// as many probes are evaluated as there are configurations, and none where it has neither hits nor
-    /// channels.
+    /// and channels are those of configurations of the set. For want of memory nothing is staged. At most twice
+    /// as many probes are evaluated as there are configurations, and none where the FRU has neither hits
+    /// nor channels.
     pub fn prepare_plug(
         &mut self,
         alloc: Global,
@@ -123,9 +123,9 @@ impl<L: Ledger> FoundSet<L> {
         Ok(NextFacts { key, facts })
     }
 
-    /// Stages that the FRU at this place goes, which is present, and returns the facts after it. For want of
-    /// memory nothing is staged. At most twice as many probes are evaluated as there are configurations,
-    /// and none where it has neither hits nor channels.
+    /// Stages that the FRU at this place goes, and returns the facts after it. One is present there. For want
+    /// of memory nothing is staged. At most twice as many probes are evaluated as there are configurations,
+    /// and none where the FRU has neither hits nor channels.
     pub fn prepare_unplug(
         &mut self,
         _alloc: Global,
@@ -170,16 +170,9 @@ impl<L: Ledger> FoundSet<L> {
         if row.is_idle() {
             return self.facts;
         }
-        let (before, after) = self
-            .rows
-            .as_slice()
-            .split_at(position_for(&self.rows, row.place));
-        evaluate(
-            &self.rules,
-            &self.names,
-            &Parts::with(before, row, after),
-            steps,
-        )
+        let at = position_for(&self.rows, row.place);
+        let parts = Parts::with(&self.rows[..at], row, &self.rows[at..]);
+        evaluate(&self.rules, &self.names, &parts, steps)
     }
 
     // Returns the facts without the row at a place.
@@ -193,8 +186,8 @@ impl<L: Ledger> FoundSet<L> {
         if self.rows[at].is_idle() {
             return self.facts;
         }
-        let (before, after) = (&self.rows[..at], &self.rows[at + 1..]);
-        evaluate(&self.rules, &self.names, &Parts::of(before, after), steps)
+        let parts = Parts::of(&self.rows[..at], &self.rows[at + 1..]);
+        evaluate(&self.rules, &self.names, &parts, steps)
     }
 
     // Stages a rule, with room for it, and returns the facts with it.

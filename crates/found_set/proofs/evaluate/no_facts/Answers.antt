@@ -1,10 +1,10 @@
 -- Nothing is found, and the root buses are reachable.
 use Rattle.std.proofs.Common.{◌∙◌, Bool, List, [], refl, ap₂, sym, false, replicate, rules as plain}
 use Rattle.std.proofs.lemmas.List.FromFn.{fill_by_all}
+use Rattle.std.proofs.Math.Bool.{or-false}
 use Rattle.found_set.specs.declared.facts.Facts.{Facts}
 use Rattle.found_set.specs.Found.{is_root, is_reached, is_found}
 use Rattle.found_set.proofs.FoundLemmas.{none_marked}
-use Rattle.std.proofs.Math.Bool.{or-false}
 use Rattle.found_set.proofs.evaluate.no_facts.Goals as goal
 
 pub returns : goal.returns

@@ -43,8 +43,8 @@ returns-clause-facts g c =
     let at = c.in-Some.at in
     let found : position (is_row_at c.args.place) rows ≡ Some at = sym (ap (position (is_row_at c.args.place)) c.deref.ensures.value)
     ∙ sym c.position_at.ensures ∙ c.in-Some.is in
-    let parts : c.of.result ≡ without_row c.args.place rows =
-    c.of.ensures
+    let parts : c.of-parts.result ≡ without_row c.args.place rows =
+    c.of-parts.ensures
     ∙ ap₂ (λ (first rest : List Row). take at first ++ take (length rest - (at + 1)) (drop (at + 1) rest)) c.deref-2.ensures.value c.deref-3.ensures.value
     ∙ without_sliced c.args.place rows at c.index.result.now c.self.invariant.by_place found in
     rw (← c.self.view_is) (c.evaluate.ensures.facts ∙ ap₂ (λ (rules : List Rule) (rows : List Row). facts rules (sights_of rows)) c.deref-4.ensures.value parts)

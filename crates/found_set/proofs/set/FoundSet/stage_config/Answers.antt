@@ -1,13 +1,13 @@
 -- A rule is pushed, evaluated with, and popped again.
 use Rattle.std.proofs.Common.{◌≡◌, ◌∙◌, ◌+◌, ◌<◌, ◌≤◌, List, [], ◌∷◌, ◌++◌, length, ap, ap₂, sym, refl, subst, None, arith, append-nil, vec_len, vec_capacity}
+use Rattle.std.specs.Prelude.{bytes_eq, position}
 use Rattle.found_set.specs.declared.facts.Facts.{Facts}
 use Rattle.found_set.specs.declared.row.Row.{Row}
-use Rattle.std.specs.Prelude.{bytes_eq, position}
 use Rattle.found_set.specs.Found.{Rule, facts, number_of}
-use Rattle.found_set.proofs.NamedLemmas.{number_by_name}
 use Rattle.found_set.specs.Rows.{sights_of}
 use Rattle.found_set.specs.Sets.{SetView}
 use Rattle.found_set.specs.Events.{Staged, ConfigEvent, facts_after}
+use Rattle.found_set.proofs.NamedLemmas.{number_by_name}
 use Rattle.found_set.proofs.InsidesLemmas.{bare_as, only, sound_with, seen_with, back}
 use Rattle.found_set.proofs.set.FoundSet.stage_config.Goals as goal
 
