@@ -1,4 +1,4 @@
--- What is kept of a FRU: the pairs of configuration and pattern that match it.
+-- The patterns that match a FRU, and what is seen of it.
 use Rattle.std.specs.Prelude.{ℕ, ◌≡◌, ◌≤◌, ◌+◌, Bool, false, if◌then◌else◌, List, [], ◌∷◌, ◌++◌, length, sum_by, slice_get, option_map}
 use Rattle.std.specs.Option.{unwrap_or}
 use Rattle.std.specs.List.{list_any}
@@ -27,13 +27,15 @@ abbrev pub config_hits : Place → List Field → ℕ → List Config → List H
 config_hits place fields number [] = []
 config_hits place fields number (config ∷ configs) = pattern_hits place fields number 0 config.patterns ++ config_hits place fields (number + 1) configs
 
+-- all hits
 abbrev pub hits_of : List Config → Place → List Field → List Hit
 hits_of configs place fields = config_hits place fields 0 configs
 
--- until moving channels are read there are none
+-- the entry of a record; until moving channels are read there are none
 abbrev pub entry_of : List Config → Place → List Field → Entry
 entry_of configs place fields = record { place = place; fru = fields; hits = hits_of configs place fields; channels = [] }
 
+-- how many patterns there are, in all configurations
 abbrev pub pattern_count : List Config → ℕ
 pattern_count configs = sum_by (λ (config : Config). length config.patterns) configs
 
@@ -47,15 +49,16 @@ pub record IsMatchedWithin (old new : Counts) (limit : ℕ) : Type 0 where
 abbrev pub of_config : List Config → ℕ → (Config → Bool) → Bool
 of_config configs number test = unwrap_or (option_map test (slice_get configs number)) false
 
--- whether the pattern of this number matches, and whether any does
+-- whether the pattern of this number in a configuration matches
 abbrev pub pattern_matches : Place → List Field → ℕ → Config → Bool
 pattern_matches place fields pattern config =
     unwrap_or (option_map (λ (members : List Member). matches members place fields) (slice_get config.patterns pattern)) false
 
+-- whether any pattern of a configuration matches
 abbrev pub any_matches : Place → List Field → Config → Bool
 any_matches place fields config = list_any (λ (members : List Member). matches members place fields) config.patterns
 
--- what is seen of a record as it is now; until moving channels are read none is open
+-- what is seen by a new look at a record; until moving channels are read none is open
 abbrev pub sight_of : List Config → Place → List Field → Sight
 sight_of configs place fields = record {
   place = place;

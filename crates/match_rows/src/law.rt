@@ -1,6 +1,6 @@
-ghost use Rattle.match_rows.specs.Laws.{KeptSightIsSeen};
+ghost use Rattle.match_rows.specs.Laws.{EntryShowsRecord};
 
-/// What is kept of a record shows what a new look at the record shows.
-pub fn kept_sight_is_seen()
-    ensures { KeptSightIsSeen }
+/// An entry shows what a new look at its record shows: which patterns match it, and which channels are open.
+pub fn entry_shows_record()
+    ensures { EntryShowsRecord }
 {}

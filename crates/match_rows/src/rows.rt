@@ -1,4 +1,5 @@
 ghost use Rattle.std.specs.Prelude.{◌≡◌, ◌<◌, ◌≤◌, [], false, true, length, find, option_map, Some, IfOk, OnOk, IsTrue};
+ghost use Rattle.std.specs.Option.{is_some};
 ghost use Rattle.probe_lang.specs.Presents.{is_entry_at, holds_place, with_entry, without_entry, are_by_place};
 ghost use Rattle.match_rows.specs.Rows.{count_before};
 
@@ -57,7 +58,8 @@ impl Rows {
 
     /// Borrows the entry at a place, if there is one.
     pub fn entry(&self, place: Place) -> Option<&Entry>
-        ensures { option_map (λ entry. entry.now) result ≡ find (is_entry_at place) self.now.entries }
+        ensures value { option_map (λ entry. entry.now) result ≡ find (is_entry_at place) self.now.entries }
+        ensures held { is_some result ≡ holds_place self.now.entries place }
     {
         let position = self.count_before(place);
         let entry = self.entries.get(position)?;
@@ -94,6 +96,7 @@ impl Rows {
     // Counts the entries that come before a place.
     fn count_before(&self, place: Place) -> usize
         ensures value { result ≡ count_before place self.now.entries }
+        ensures order { IsTrue (are_by_place self.now.entries) }
         ensures range { result ≤ length self.now.entries }
     {
         self.entries.partition_point(|entry| entry.place < place)

@@ -5,6 +5,7 @@ use Rattle.match_rows.proofs.matching.append_hits.Given as goal
 
 abbrev pub invariant-loop-pattern_number : goal.invariant-loop-pattern_number
 invariant-loop-pattern_number g l = record {
-  found : l.hits ++ pattern_hits l.place l.fru l.number l.pattern_number (drop l.pattern_number l.pattern-items) ≡ l.initial.hits ++ pattern_hits l.place l.fru l.number 0 l.pattern-items;
+  found : l.hits ++ pattern_hits l.place l.fru l.number l.pattern_number (drop l.pattern_number l.pattern-items)
+      ≡ l.initial.hits ++ pattern_hits l.place l.fru l.number 0 l.pattern-items;
   counted : l.steps ≡ with_matches l.fn.steps l.pattern_number;
 }

@@ -1,5 +1,5 @@
 use Rattle.match_rows.proofs.MatchingLemmas.{entry_sight_is}
-use Rattle.match_rows.proofs.law.kept_sight_is_seen.Goals as goal
+use Rattle.match_rows.proofs.law.entry_shows_record.Goals as goal
 
 pub returns : goal.returns
 returns c = entry_sight_is
