@@ -1,6 +1,7 @@
 -- The JSON of a pattern, and its members one after another.
-use Rattle.std.proofs.Common.{BTreeMap, ◌≡◌, ℕ, zero, suc, ◌+◌, ◌<◌, ◌≤◌, Bool, true, false, List, [], ◌∷◌, ◌++◌, codes, length, get_or, map, Option, Some, None, refl, sym, ap, ◌∙◌, arith, append_assoc}
-use Rattle.std.specs.Prelude.{◌≢◌, ◌==◌, if◌then◌else◌, option_map, String, string_bytes}
+use Rattle.std.proofs.Common.{BTreeMap, ◌≡◌, ℕ, suc, ◌<◌, ◌≤◌, List, [], ◌∷◌, ◌++◌, codes, length, get_or, Option, Some, None}
+use Rattle.std.proofs.Common.{refl, sym, ap, ◌∙◌, arith, append_assoc}
+use Rattle.std.specs.Prelude.{◌≢◌, option_map, String, string_bytes}
 use Rattle.std.specs.declared.alloc.Global.{Global}
 use Rattle.std.specs.List.{flat_map}
 use Rattle.std.specs.Str.{IsUtf8, chars}
@@ -52,7 +53,8 @@ json_chars [] = refl
 json_chars (c ∷ cs) = ap (λ xs. json_char c ++ xs) (json_chars cs) ∙ sym (flat_map-append json_byte (encode c) (encodes cs))
 
 -- the JSON of all characters, closed
-pub json_end : (json longer inner piece : List ℕ) → IsUtf8 inner → json ≡ codes "{" ++ flat_map json_char (chars inner) → longer ≡ json ++ piece → piece ≡ codes "}"
+pub json_end : (json longer inner piece : List ℕ) → IsUtf8 inner
+    → json ≡ codes "{" ++ flat_map json_char (chars inner) → longer ≡ json ++ piece → piece ≡ codes "}"
     → longer ≡ json_text inner
 json_end json longer inner piece utf8 so_far more is =
     let inside : flat_map json_char (chars inner) ≡ flat_map json_byte inner = json_chars (chars inner) ∙ ap (flat_map json_byte) (encodes-chars inner utf8) in
@@ -64,16 +66,19 @@ pub count_is : (ms : List (String Global × Value)) → member_count (members_vi
 count_is [] = refl
 count_is (m ∷ ms) = ap suc (count_is ms)
 
+seen_object : (value : Value) (m : BTreeMap (String Global) Value) → value ≡ Object m → pattern_of (view value) ≡ pattern_of (object (members_view m.entries))
+seen_object value m is = ap (λ (v : Value). pattern_of (view v)) is ∙ ap pattern_of (view-Object m)
+
 -- the members of an object, where they are few
 pub few_members : (value : Value) (m : BTreeMap (String Global) Value) → value ≡ Object m → length m.entries ≤ 16
     → members_of (members_view m.entries) ≡ pattern_of (view value)
 few_members value m is few =
-    let seen : pattern_of (view value) ≡ pattern_of (object (members_view m.entries)) = ap (λ (v : Value). pattern_of (view v)) is ∙ ap pattern_of (view-Object m) in
+    let seen = seen_object value m is in
     grind (arith, nat_tests, count_is m.entries, seen)
 
 pub many_members : (value : Value) (m : BTreeMap (String Global) Value) → value ≡ Object m → 16 < length m.entries → None ≡ pattern_of (view value)
 many_members value m is many =
-    let seen : pattern_of (view value) ≡ pattern_of (object (members_view m.entries)) = ap (λ (v : Value). pattern_of (view v)) is ∙ ap pattern_of (view-Object m) in
+    let seen = seen_object value m is in
     grind (arith, nat_tests, count_is m.entries, seen)
 
 -- one member more
@@ -82,7 +87,8 @@ more : (read : List Member) (one : Member) (later : Option (List Member))
 more read one None = refl
 more read one (Some members) = ap Some (append_assoc read (one ∷ []) members)
 
-pub members_on : (read longer : List Member) (one : Member) (key : String Global) (value : Value) (ms rest : List (String Global × Value)) (all : Option (List Member))
+pub members_on : (read longer : List Member) (one : Member) (key : String Global) (value : Value)
+    → (ms rest : List (String Global × Value)) (all : Option (List Member))
     → ms ≡ (key, value) ∷ rest → one.key ≡ string_bytes key → Some one.want ≡ want_of (view value) → longer ≡ read ++ one ∷ []
     → option_map (λ members. read ++ members) (members_of (members_view ms)) ≡ all
     → option_map (λ members. longer ++ members) (members_of (members_view rest)) ≡ all
@@ -91,4 +97,5 @@ members_on read longer one key value ms rest all next key_is want_is longer_is s
     let here : with_member one.key (Some one.want) later ≡ members_of (members_view ms) =
     ap (λ (k : List ℕ). with_member k (Some one.want) later) key_is ∙ ap (λ (w : Option Want). with_member (string_bytes key) w later) want_is
     ∙ sym (ap (λ (xs : List (String Global × Value)). members_of (members_view xs)) next) in
-    ap (λ (xs : List Member). option_map (λ members. xs ++ members) later) longer_is ∙ more read one later ∙ ap (option_map (λ members. read ++ members)) here ∙ so_far
+    ap (λ (xs : List Member). option_map (λ members. xs ++ members) later) longer_is ∙ more read one later
+    ∙ ap (option_map (λ members. read ++ members)) here ∙ so_far

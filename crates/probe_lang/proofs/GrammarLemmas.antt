@@ -1,5 +1,6 @@
 -- A probe, one text on; and its patterns have numbers below 17.
-use Rattle.std.proofs.Common.{◌≡◌, ℕ, suc, ◌+◌, ◌-◌, ◌*◌, ◌<◌, ◌≤◌, Bool, true, false, eqb, List, [], ◌∷◌, ◌++◌, length, get_or, drop, map, Option, Some, None, Result, Ok, Err, refl, sym, ap, subst, ◌∙◌, arith, length-append, length-drop}
+use Rattle.std.proofs.Common.{◌≡◌, ℕ, suc, ◌+◌, ◌-◌, ◌*◌, ◌<◌, ◌≤◌, Bool, true, false, eqb, List, [], ◌∷◌, ◌++◌, length, get_or, drop, map}
+use Rattle.std.proofs.Common.{Option, Some, None, Result, Ok, Err, refl, sym, ap, subst, ◌∙◌, arith, length-append, length-drop}
 use Rattle.std.specs.Prelude.{not, if◌then◌else◌, bytes_eq, codes, option_map}
 use Rattle.std.specs.Borrow.{Bor}
 use Rattle.std.specs.List.{list_all}
@@ -86,7 +87,8 @@ term_is_few : (text : List ℕ) → few_term (term_of text) ≡ true
 unfolding term_of_word
 term_is_few text =
     let word = without_spaces text in
-    by (bytes_eq word (codes "TRUE")) (bytes_eq word (codes "FALSE")) (bytes_eq word (codes "AND")) (bytes_eq word (codes "OR")) (bytes_eq word (codes "MATCH_ONE"))
+    by (bytes_eq word (codes "TRUE")) (bytes_eq word (codes "FALSE")) (bytes_eq word (codes "AND")) (bytes_eq word (codes "OR"))
+    (bytes_eq word (codes "MATCH_ONE"))
     (found_name word) (pattern_in (between (codes "xyz.openbmc_project.FruDevice({") (codes "})") word))
   where
     by : (t f a o m : Bool) (name : Option (List ℕ)) (members : Option (List Member))
@@ -105,7 +107,8 @@ one_more : (words : List Word) (word : Word) → list_all is_few words ≡ true 
 one_more words word few one = list_all-append is_few words (word ∷ []) ∙ rw (few, one) refl
 
 step_is_few : (wants : Bool) (at left : ℕ) (reading : Reading) (last : Bool) (term : Option Term) (p : Parsed) (later : Bool → Reading → Result Parsed ℕ)
-    → ((w : Bool) (r : Reading) → later w r ≡ Ok p → list_all is_few r.words ≡ true → 2 * length r.patterns + (if w then 1 else 0) ≤ at + 1 + 1 → list_all is_few p.0.words ≡ true)
+    → ((w : Bool) (r : Reading) → later w r ≡ Ok p → list_all is_few r.words ≡ true
+    → 2 * length r.patterns + (if w then 1 else 0) ≤ at + 1 + 1 → list_all is_few p.0.words ≡ true)
     → few_term term ≡ true → read_on wants at reading last term later ≡ Ok p → list_all is_few reading.words ≡ true
     → 2 * length reading.patterns + (if wants then 1 else 0) ≤ at + 1 → at + suc left ≤ 33 → list_all is_few p.0.words ≡ true
 step_is_few true at left reading last (Some (Operand word)) p later next one read few counted size =
@@ -143,6 +146,7 @@ words_are_few (text ∷ texts) false at reading p read few counted size =
     step_is_few false at (length texts) reading (is_last texts) (term_of text) p (λ w r. read_from w (at + 1) r texts)
     (λ w r later so_far counted. words_are_few texts w (at + 1) r p later so_far counted (omega arith)) (term_is_few text) read few counted size
 
-pub probe_is_few : (texts : List (Bor (List ℕ))) (p : Parsed) → length texts ≤ 33 → probe_of (map (λ text. text.now) texts) ≡ Ok p → list_all is_few p.0.words ≡ true
+pub probe_is_few : (texts : List (Bor (List ℕ))) (p : Parsed) → length texts ≤ 33 → probe_of (map (λ text. text.now) texts) ≡ Ok p
+    → list_all is_few p.0.words ≡ true
 probe_is_few texts p size read =
     words_are_few (map (λ text. text.now) texts) true 0 nothing_read p read refl (omega arith) (omega (arith, size, length-map texts (λ text. text.now)))

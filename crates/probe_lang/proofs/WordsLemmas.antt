@@ -1,15 +1,18 @@
 -- The words of a probe: the spaces at their ends, and what stands between a head and a tail.
-use Rattle.std.proofs.Common.{take-append-drop, length-take, ◌≡◌, ℕ, zero, suc, ◌+◌, ◌-◌, ◌<◌, ◌≤◌, Bool, true, false, true≢false, cond, List, [], ◌∷◌, ◌++◌, length, take, drop, get_or, Option, Some, None, refl, sym, ap, ◌∙◌, arith, append_assoc, length-append}
+use Rattle.std.proofs.Common.{◌≡◌, ℕ, zero, suc, ◌+◌, ◌-◌, ◌<◌, Bool, true, false, true≢false, cond, List, [], ◌∷◌, ◌++◌, length, take, drop, get_or}
+use Rattle.std.proofs.Common.{Option, Some, None, refl, sym, ap, ◌∙◌, arith, append_assoc, length-append, length-take, take-append-drop}
 use Rattle.std.specs.Prelude.{◌≢◌, reverse, slice_range, bytes_eq, nat_eq, nat_le, not, ◌&&◌, if◌then◌else◌, replicate}
 use Rattle.std.specs.Borrow.{Bor}
 use Rattle.std.specs.List.{list_any, prefix_len, suffix_len}
-use Rattle.std.specs.Option.{MatchOption, IfSome, option_map}
-use Rattle.std.specs.Str.Pattern.{HasCharAt, StripsPrefix, StripsSuffix, FindsTextPrefix, FindsTextSuffix, FindsChar, FindsCharPrefix, FindsCharSuffix, HasMatch, CutsPrefixes, CutsSuffixes, IsFullyTrimmed, IsTrimMatches}
+use Rattle.std.specs.Option.{MatchOption, option_map}
+use Rattle.std.specs.Str.Pattern.{HasCharAt, StripsPrefix, StripsSuffix, FindsTextPrefix, FindsTextSuffix, FindsChar, FindsCharPrefix, FindsCharSuffix}
+use Rattle.std.specs.Str.Pattern.{HasMatch, CutsPrefixes, CutsSuffixes, IsFullyTrimmed, IsTrimMatches}
 use Rattle.std.proofs.Math.Utf8.{encode}
 use Rattle.std.proofs.lemmas.Bool.{false_from_ne_true}
 use Rattle.std.proofs.lemmas.Bool.Decides.{nat_tests}
 use Rattle.std.proofs.lemmas.Slice.Eq.{bytes_eq-Decides}
-use Rattle.std.proofs.lemmas.List.{append_cancel_left, append-nil, reverse-append, reverse-reverse, length-reverse, replicate_more, length-replicate, take_at, drop_at, take-take}
+use Rattle.std.proofs.lemmas.List.{append_cancel_left, append-nil, reverse-append, reverse-reverse, length-reverse}
+use Rattle.std.proofs.lemmas.List.{replicate_more, length-replicate, take_at, drop_at, take-take}
 use Rattle.std.proofs.lemmas.List.Folds.{list_any_at}
 use Rattle.std.proofs.lemmas.Str.{encode_ascii, length-encode, len_utf8_ascii, len_utf8_bounds, inside_one}
 use Rattle.std.proofs.lemmas.Str.Pattern.{drop_at_char, contains_char}
@@ -17,7 +20,7 @@ use Rattle.std.proofs.Math.Seq.{take-nil, drop-append_seam, take-append_seam, dr
 use Rattle.std.specs.Bool.{MatchBool}
 use Rattle.std.specs.Result.{result_ok}
 use Rattle.bmc_base.specs.Names.{name_of}
-use Rattle.probe_lang.specs.Words.{is_space, without_spaces, between, is_quotable, quoted_name, found_name}
+use Rattle.probe_lang.specs.Words.{is_space, without_spaces, between, quoted_name}
 
 -- ---- between
 
@@ -77,8 +80,10 @@ cut_front (n ∷ ns) text rest (longer, cuts, at, e) =
 cut_end : (ns text rest : List ℕ) → CutsSuffixes (FindsCharSuffix 32) text ns rest → text ≡ rest ++ spaces (length ns)
 cut_end [] text rest e = sym e ∙ sym (append-nil rest)
 cut_end (n ∷ ns) text rest (longer, cuts, (size, at, bound), e) =
-    let last : drop (length longer - n) longer ≡ 32 ∷ [] = drop_at_char 32 longer (length longer - n) (length longer) at (omega arith) ∙ ap (λ xs. 32 ∷ xs) (drop-length longer) in
-    let ends : longer ≡ rest ++ 32 ∷ [] = sym (take-append-drop (length longer - n) longer) ∙ ap (λ xs. take (length longer - n) longer ++ xs) last ∙ ap (λ xs. xs ++ 32 ∷ []) (sym e) in
+    let last : drop (length longer - n) longer ≡ 32 ∷ [] =
+    drop_at_char 32 longer (length longer - n) (length longer) at (omega arith) ∙ ap (λ xs. 32 ∷ xs) (drop-length longer) in
+    let ends : longer ≡ rest ++ 32 ∷ [] =
+    sym (take-append-drop (length longer - n) longer) ∙ ap (λ xs. take (length longer - n) longer ++ xs) last ∙ ap (λ xs. xs ++ 32 ∷ []) (sym e) in
     cut_end ns text longer cuts ∙ ap (λ xs. xs ++ spaces (length ns)) ends ∙ append_assoc rest (32 ∷ []) (spaces (length ns))
 
 -- nothing more to cut
@@ -137,7 +142,8 @@ unfolding without_spaces
 middle_alone n k text some no_front no_end =
     let whole = (spaces n ++ text) ++ spaces k in
     let behind : suffix_len is_space whole ≡ k = omega (arith, end_spaces (spaces n ++ text) k, end_alone (spaces n) text some no_end) in
-    let size : length (spaces n ++ text) ≡ length whole - suffix_len is_space whole = omega (arith, behind, length-append (spaces n ++ text) (spaces k), length-replicate {A = ℕ} k 32) in
+    let size : length (spaces n ++ text) ≡ length whole - suffix_len is_space whole =
+    omega (arith, behind, length-append (spaces n ++ text) (spaces k), length-replicate {A = ℕ} k 32) in
     let front : take (length whole - suffix_len is_space whole) whole ≡ spaces n ++ text = take_at (spaces n ++ text) (spaces k) _ size in
     let before : length (spaces n) ≡ prefix_len is_space (spaces n ++ text) = omega (arith, length-replicate {A = ℕ} n 32, front_spaces n text) in
     rw front (drop_at (spaces n) text _ before)
@@ -180,7 +186,8 @@ trimmed_is text trimmed (byte ∷ bytes, ((ns, cuts), done), is, behind) =
     sym (take-append-drop w rest) ∙ ap (λ xs. take w rest ++ xs) cut ∙ ap (λ xs. xs ++ (drop w trimmed ++ spaces (length ms))) (sym front)
     ∙ sym (append_assoc (take w trimmed) (drop w trimmed) (spaces (length ms))) ∙ ap (λ xs. xs ++ spaces (length ms)) (take-append-drop w trimmed) in
     let other = no_more_front rest done in
-    let no_front : prefix_len is_space trimmed ≡ 0 = none_at_front trimmed (λ xs e. other (xs ++ spaces (length ms)) (whole ∙ ap (λ ys. ys ++ spaces (length ms)) e)) in
+    let no_front : prefix_len is_space trimmed ≡ 0 =
+    none_at_front trimmed (λ xs e. other (xs ++ spaces (length ms)) (whole ∙ ap (λ ys. ys ++ spaces (length ms)) e)) in
     let no_end : suffix_len is_space trimmed ≡ 0 =
     sym (ap (suffix_len is_space) (take-append-drop w trimmed))
     ∙ both_ends (take w trimmed) (drop w trimmed) (λ xs e. one_character c w rest at other xs (sym front ∙ e)) (no_more_end (drop w trimmed) ending.1) in

@@ -15,4 +15,5 @@ returns c =
     let walked = YieldsList-end yields c.loop-char.yielded _ c.loop-char.yielded_by _ _ c.in-None.is c.next.ensures.steps in
     let all : c.loop-char.yielded ≡ chars c.args.inner.now = sym (map-id c.loop-char.yielded) ∙ walked.0 in
     let so_far = c.loop-char.invariant ∙ ap (λ (cs : List ℕ). codes "{" ++ flat_map json_char cs) all in
-    json_end (string_bytes c.loop-char.json) (string_bytes c.push-2.new.self) c.args.inner.now _ c.utf8.inner so_far c.in_ok-push-2.ensures.bytes (c.push-2.ensures.ascii low)
+    json_end (string_bytes c.loop-char.json) (string_bytes c.push-2.new.self) c.args.inner.now _ c.utf8.inner so_far
+    c.in_ok-push-2.ensures.bytes (c.push-2.ensures.ascii low)

@@ -1,5 +1,5 @@
 -- The members so far and the next one.
-use Rattle.std.proofs.Common.{◌≡◌, Some, ap, sym, ◌∙◌, string_bytes}
+use Rattle.std.proofs.Common.{◌≡◌, Some, sym, ◌∙◌}
 use Rattle.serde_json.specs.View.{view}
 use Rattle.probe_lang.specs.Braces.{want_of}
 use Rattle.probe_lang.proofs.BracesLemmas.{members_on}

@@ -1,6 +1,5 @@
 -- The members of an object, where they are few.
-use Rattle.std.proofs.Common.{◌∙◌, arith, subst, Option}
-use Rattle.std.specs.Result.{IfOk}
+use Rattle.std.proofs.Common.{arith}
 use Rattle.probe_lang.proofs.BracesLemmas.{few_members, many_members}
 use Rattle.probe_lang.proofs.braces.read_object.Goals as goal
 

@@ -15,4 +15,5 @@ pub returns : goal.returns
 unfolding found_name
 returns c =
     let name = c.in_ok-name.name.now in
-    c.ok.ensures.value ∙ ap result_ok c.new.ensures ∙ quoted_is name (sym (quote_found false name c.if-contains.ensures.cases)) ∙ ap quoted_name c.in_ok-name.ensures
+    c.ok.ensures.value ∙ ap result_ok c.new.ensures ∙ quoted_is name (sym (quote_found false name c.if-contains.ensures.cases))
+    ∙ ap quoted_name c.in_ok-name.ensures
