@@ -11,10 +11,12 @@ use Rattle.bmc_report.specs.Refusals.{refused_line}
 use Rattle.bmc_report.specs.declared.refusal.Refusal.{Refusal}
 use Rattle.cfg_json.specs.Configs.{Config}
 use Rattle.cfg_json.specs.Documents.{config_read}
-use Rattle.cfg_json.specs.declared.config.ConfigFault.{ConfigFault}
+use Rattle.cfg_json.specs.Verdicts.{Verdict, Accepted, BadPattern, LargePattern}
+use Rattle.cfg_json.specs.declared.config_fault.ConfigFault.{ConfigFault}
 use Rattle.bmc_machine.specs.Histories.{Step, Configure, Plug, Unplug, standing}
 use Rattle.bmc_machine.specs.Refusals.{config_refusal, refusal_of, IsLegalStep, IsLegal}
-use Rattle.bmc_machine.specs.Answers.{past_refused, answer_by, answer_step, answer_command, answer_broken, answer_config, answer, answers}
+use Rattle.bmc_machine.specs.Answers.{past_refused, answer_by, answer_step, answer_command, answer_broken, answer_config, answer}
+use Rattle.bmc_machine.specs.Answers.{first_verdict, later_verdicts, answers}
 
 module _ (line : Refusal → List ℕ) (past : List Step) (legal : IsLegal past) where
   -- what comes of a step, where it may follow once it is not refused, and what is left once it is
@@ -49,23 +51,26 @@ module _ (line : Refusal → List ℕ) (past : List Step) (legal : IsLegal past)
   broken_is_legal None = legal
   broken_is_legal (Some refusal) = legal
 
-  config_is_legal : (config : Result Config ConfigFault) → IsLegal (answer_config line past config).past
-  config_is_legal (Ok config) = configure_is_legal config
-  config_is_legal (Err rule) = broken_is_legal (config_refusal rule)
+  config_is_legal : (verdict : Verdict) (config : Result Config ConfigFault) → IsLegal (answer_config line past verdict config).past
+  config_is_legal Accepted (Ok config) = configure_is_legal config
+  config_is_legal (BadPattern text) (Ok config) = legal
+  config_is_legal (LargePattern text) (Ok config) = legal
+  config_is_legal verdict (Err rule) = broken_is_legal (config_refusal rule)
 
-  item_is_legal : (item : Item) → IsLegal (answer line past item).past
-  item_is_legal (Line bytes) = command_is_legal (command_of bytes)
-  item_is_legal LineTooLong = legal
-  item_is_legal (Block bytes) = config_is_legal (config_read bytes)
-  item_is_legal BlockTooLong = legal
-  item_is_legal BlockShort = legal
+  item_is_legal : (verdict : Verdict) (item : Item) → IsLegal (answer line past verdict item).past
+  item_is_legal verdict (Line bytes) = command_is_legal (command_of bytes)
+  item_is_legal verdict LineTooLong = legal
+  item_is_legal verdict (Block bytes) = config_is_legal verdict (config_read bytes)
+  item_is_legal verdict BlockTooLong = legal
+  item_is_legal verdict BlockShort = legal
 
 -- what items leave of a legal history is legal
-pub items_are_legal : (number : ℕ) (past : List Step) (items : List Item) → IsLegal past → IsLegal (answers number past items).past
+pub items_are_legal : (number : ℕ) (past : List Step) (verdicts : List Verdict) (items : List Item) → IsLegal past
+    → IsLegal (answers number past verdicts items).past
 unfolding answers
-items_are_legal number past [] legal = legal
-items_are_legal number past (item ∷ items) legal =
-    items_are_legal (number + 1) (answer (refused_line number) past item).past items (item_is_legal (refused_line number) past legal item)
+items_are_legal number past verdicts [] legal = legal
+items_are_legal number past verdicts (item ∷ items) legal =
+    items_are_legal (number + 1) _ (later_verdicts verdicts) items (item_is_legal (refused_line number) past legal (first_verdict verdicts) item)
 
 pub nothing_is_legal : IsLegal []
 unfolding IsLegal

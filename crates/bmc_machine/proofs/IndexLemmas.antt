@@ -6,10 +6,12 @@ use Rattle.std.proofs.lemmas.Bool.{or_right}
 use Rattle.std.proofs.lemmas.List.Folds.{list_any-append}
 use Rattle.std.proofs.lemmas.Map.Views.{any-filter_same}
 use Rattle.bmc_base.specs.Places.{Place, place_eq}
+use Rattle.inventory.specs.Boards.{board_places, boards_in, has_board}
+use Rattle.inventory.specs.Indexes.{except, index_in}
 use Rattle.bmc_machine.specs.Standings.{Standing}
-use Rattle.bmc_machine.specs.Boards.{boards, has_board}
+use Rattle.bmc_machine.specs.Boards.{boards}
 use Rattle.bmc_machine.specs.Histories.{Step, standing}
-use Rattle.bmc_machine.specs.Indexes.{had_board, except, kept, index_in}
+use Rattle.bmc_machine.specs.Indexes.{had_board, kept}
 use Rattle.bmc_machine.specs.Meetings.{position_of}
 use Rattle.bmc_machine.proofs.BoardLemmas.{board_same, kept_all, except_none}
 
@@ -53,7 +55,7 @@ kept_next step past number =
 
 -- all boards of the moment after a history are kept
 pub kept_now : (past : List Step) (number : ℕ) → list_all (has_board (kept past number)) (boards (standing past) number) ≡ true
-unfolding standing boards
+unfolding standing boards boards_in board_places
 kept_now [] number = refl
 kept_now (step ∷ past) number =
     ap (λ (there : List (Option Place)). list_all (has_board there) (boards (standing (step ∷ past)) number)) (kept_next step past number)

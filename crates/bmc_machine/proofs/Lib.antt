@@ -6,5 +6,4 @@ pub mod HistoryLemmas
 pub mod RefusalLemmas
 pub mod PositionLemmas
 pub mod MeetingLemmas
-pub mod Found
-pub mod Changed
+pub mod TiesLemmas

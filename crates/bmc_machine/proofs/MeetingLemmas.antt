@@ -1,6 +1,6 @@
 -- The index of a board is one more than the number of boards of its configuration that were first met before it.
 use Rattle.std.proofs.Common.{◌≡◌, ℕ, suc, ◌+◌, ◌≤◌, List, [], ◌∷◌, ◌++◌, Bool, true, false, not, cond, ◌&&◌, ◌||◌, nat_lt, Option, Some, None}
-use Rattle.std.proofs.Common.{filter, refl, sym, ap, ap₂, ◌∙◌, arith, subst, inl, inr, slice_get, option_map}
+use Rattle.std.proofs.Common.{filter, map, refl, sym, ap, ap₂, ◌∙◌, arith, subst, inl, inr, slice_get, option_map}
 use mathlib.Core.List.{map-map}
 use Rattle.std.specs.Prelude.{length}
 use Rattle.std.specs.Option.{option_eq, option_cmp, unwrap_or}
@@ -14,10 +14,15 @@ use Rattle.std.proofs.lemmas.List.Elements.{filter-append}
 use Rattle.std.proofs.lemmas.Map.Keys.{IsDistinct-from_sorted}
 use Rattle.bmc_base.specs.Places.{Place, place_cmp, place_eq}
 use Rattle.cfg_json.specs.Configs.{Config}
-use Rattle.bmc_machine.specs.Standings.{Fru}
-use Rattle.bmc_machine.specs.Boards.{is_found, is_hit, places_or_none, boards_of, boards, has_board}
+use Rattle.probe_lang.specs.Sights.{Sight}
+use Rattle.found_set.specs.Found.{is_found, is_reached, on_buses}
+use Rattle.match_rows.specs.Matching.{sight_of}
+use Rattle.inventory.specs.Boards.{places_or_none, hit_places, config_places, board_places, boards_in, rules_of, has_board}
+use Rattle.inventory.specs.Indexes.{except, index_in}
+use Rattle.bmc_machine.specs.Standings.{Fru, fields_of}
+use Rattle.bmc_machine.specs.Boards.{sights_of, boards}
 use Rattle.bmc_machine.specs.Histories.{Step, standing}
-use Rattle.bmc_machine.specs.Indexes.{had_board, except, kept, index_in}
+use Rattle.bmc_machine.specs.Indexes.{had_board, kept}
 use Rattle.bmc_machine.specs.Meetings.{Meeting, position_of, first_met, is_earlier, met_before}
 use Rattle.bmc_machine.specs.Refusals.{IsLegal}
 use Rattle.bmc_machine.proofs.BoardLemmas.{board_itself, board_same, place_cmp_eq}
@@ -27,7 +32,7 @@ use Rattle.bmc_machine.proofs.ListLemmas.{filter_none, filter_all}
 use Rattle.bmc_machine.proofs.StandingLemmas.{places, frus_ascend}
 use Rattle.bmc_machine.proofs.PositionLemmas.{position_behind, is_before, count_before}
 
--- ---- the boards of one moment differ
+-- ---- the boards of one configuration ascend
 
 board_cmp_eq : (place other : Option Place) → is_eq (option_cmp place_cmp place other) ≡ option_eq place_eq place other
 board_cmp_eq None None = refl
@@ -35,34 +40,65 @@ board_cmp_eq None (Some other) = refl
 board_cmp_eq (Some place) None = refl
 board_cmp_eq (Some place) (Some other) = place_cmp_eq place other
 
-places_ascend : (frus : List Fru) → IsStrictlySortedBy place_cmp (places frus) → IsStrictlySortedBy (option_cmp place_cmp) (places_or_none frus)
-unfolding IsStrictlySortedBy
-places_ascend [] ascend = (tt, tt)
-places_ascend (fru ∷ frus) ascend =
-    subst (IsStrictlySortedBy (option_cmp place_cmp)) (map-map Some (λ (fru : Fru). fru.place) (fru ∷ frus))
-    (ascending_map place_cmp (option_cmp place_cmp) Some (λ place other less. less) (places (fru ∷ frus)) ascend)
+option_places_ascend : (places : List Place) → IsStrictlySortedBy place_cmp places → IsStrictlySortedBy (option_cmp place_cmp) (map Some places)
+option_places_ascend places ascend = ascending_map place_cmp (option_cmp place_cmp) Some (λ place other less. less) places ascend
 
-boards_of_ascend : (config : Config) (frus : List Fru) → IsStrictlySortedBy place_cmp (places frus)
-    → IsStrictlySortedBy (option_cmp place_cmp) (boards_of config frus)
+places_or_none_ascend : (match_one : Bool) (places : List Place) → IsStrictlySortedBy place_cmp places
+    → IsStrictlySortedBy (option_cmp place_cmp) (places_or_none match_one places)
 unfolding IsStrictlySortedBy
-boards_of_ascend config frus ascend = by (is_found config frus)
+places_or_none_ascend match_one [] ascend = (tt, tt)
+places_or_none_ascend true (place ∷ places) ascend = (tt, tt)
+places_or_none_ascend false (place ∷ places) ascend = option_places_ascend (place ∷ places) ascend
+
+-- the boards of a configuration ascend by place, where the FRUs do that are seen
+pub config_places_ascend : (found reach : ℕ → Bool) (sights : List Sight) (number : ℕ) (config : Config)
+    → IsStrictlySortedBy place_cmp (map (λ (sight : Sight). sight.place) sights)
+    → IsStrictlySortedBy (option_cmp place_cmp) (config_places found reach sights number config)
+unfolding IsStrictlySortedBy
+config_places_ascend found reach sights number config ascend = by (found number)
   where
-    hits : List Fru
-    hits = filter (is_hit config) frus
+    place_of : Sight → Place
+    place_of sight = sight.place
 
-    by : (found : Bool) → IsStrictlySortedBy (option_cmp place_cmp) (cond found (places_or_none hits) [])
-    by true = places_ascend hits (ascending_filter (λ (fru : Fru). fru.place) place_cmp (is_hit config) frus ascend)
+    hits_ascend : IsStrictlySortedBy place_cmp (hit_places reach sights number)
+    hits_ascend =
+        ascending_filter place_of place_cmp (λ (sight : Sight). sight.hit number) (on_buses reach sights)
+        (ascending_filter place_of place_cmp (λ (sight : Sight). reach sight.place.bus) sights ascend)
+
+    by : (is_found : Bool)
+        → IsStrictlySortedBy (option_cmp place_cmp) (cond is_found (places_or_none config.probe.match_one (hit_places reach sights number)) [])
+    by true = places_or_none_ascend config.probe.match_one (hit_places reach sights number) hits_ascend
     by false = tt
+
+-- ---- the boards of one moment differ
+
+-- the FRUs that are seen are those that are present
+sights_ascend : (configs : List Config) (frus : List Fru) → IsStrictlySortedBy place_cmp (places frus)
+    → IsStrictlySortedBy place_cmp (map (λ (sight : Sight). sight.place) (sights_of configs frus))
+sights_ascend configs frus ascend =
+    subst (IsStrictlySortedBy place_cmp) (sym (map-map (λ (sight : Sight). sight.place) (λ fru. sight_of configs fru.place (fields_of fru)) frus)) ascend
 
 -- they ascend by place
 pub boards_ascend : (past : List Step) (number : ℕ) → IsLegal past → IsStrictlySortedBy (option_cmp place_cmp) (boards (standing past) number)
-unfolding boards IsStrictlySortedBy
-boards_ascend past number legal = by (slice_get (standing past).configs number)
+unfolding boards boards_in board_places IsStrictlySortedBy
+boards_ascend past number legal = by (slice_get configs number)
   where
+    configs : List Config
+    configs = (standing past).configs
+
+    seen : List Sight
+    seen = sights_of configs (standing past).frus
+
+    found : ℕ → Bool
+    found = is_found (rules_of configs) seen
+
+    reach : ℕ → Bool
+    reach = is_reached (rules_of configs) seen
+
     by : (config : Option Config)
-        → IsStrictlySortedBy (option_cmp place_cmp) (unwrap_or (option_map (λ config. boards_of config (standing past).frus) config) [])
+        → IsStrictlySortedBy (option_cmp place_cmp) (unwrap_or (option_map (config_places found reach seen number) config) [])
     by None = tt
-    by (Some config) = boards_of_ascend config (standing past).frus (frus_ascend past legal)
+    by (Some config) = config_places_ascend found reach seen number config (sights_ascend configs (standing past).frus (frus_ascend past legal))
 
 pub boards_differ : (past : List Step) (number : ℕ) → IsLegal past → IsDistinct (option_eq place_eq) (boards (standing past) number)
 boards_differ past number legal =

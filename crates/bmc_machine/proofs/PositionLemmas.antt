@@ -6,8 +6,8 @@ use Rattle.std.specs.List.{AllByRecursion, IsDistinct}
 use Rattle.std.proofs.lemmas.Bool.{false_from_ne_true, both_ways, or_parts}
 use Rattle.std.proofs.lemmas.Bool.Decides.{nat_tests}
 use Rattle.bmc_base.specs.Places.{Place, place_eq}
-use Rattle.bmc_machine.specs.Boards.{has_board}
-use Rattle.bmc_machine.specs.Indexes.{except}
+use Rattle.inventory.specs.Boards.{has_board}
+use Rattle.inventory.specs.Indexes.{except}
 use Rattle.bmc_machine.specs.Meetings.{position_of}
 use Rattle.bmc_machine.proofs.BoardLemmas.{board_itself, board_same}
 use Rattle.bmc_machine.proofs.ListLemmas.{all_any, all_filter, all_weaker, filter_alike, filter_none}

@@ -10,7 +10,8 @@ use Rattle.bmc_script.specs.declared.command.ScriptFault.{ScriptFault}
 use Rattle.bmc_report.specs.declared.refusal.Refusal.{Refusal}
 use Rattle.cfg_json.specs.Configs.{Config}
 use Rattle.cfg_json.specs.Documents.{config_read}
-use Rattle.cfg_json.specs.declared.config.ConfigFault.{ConfigFault}
+use Rattle.cfg_json.specs.Verdicts.{Verdict, Accepted, BadPattern, LargePattern}
+use Rattle.cfg_json.specs.declared.config_fault.ConfigFault.{ConfigFault}
 use Rattle.bmc_machine.specs.Histories.{Step, Configure, Plug, RefusedPlug, Unplug, standing}
 use Rattle.bmc_machine.specs.Indexes.{kept}
 use Rattle.bmc_machine.specs.Refusals.{config_refusal, refusal_of}
@@ -69,13 +70,17 @@ module _ (line : Refusal → List ℕ) (past : List Step) where
   broken_is_idle None = the_same
   broken_is_idle (Some refusal) = the_same
 
-  config_is_idle : (config : Result Config ConfigFault) → (answer_config line past config).refused ≡ true → IsAlike past (answer_config line past config).past
-  config_is_idle (Ok config) refused = step_is_idle (Configure config) refused
-  config_is_idle (Err rule) refused = broken_is_idle (config_refusal rule)
+  config_is_idle : (verdict : Verdict) (config : Result Config ConfigFault) → (answer_config line past verdict config).refused ≡ true
+      → IsAlike past (answer_config line past verdict config).past
+  config_is_idle Accepted (Ok config) refused = step_is_idle (Configure config) refused
+  config_is_idle (BadPattern text) (Ok config) refused = the_same
+  config_is_idle (LargePattern text) (Ok config) refused = the_same
+  config_is_idle verdict (Err rule) refused = broken_is_idle (config_refusal rule)
 
-  pub item_is_idle : (item : Item) → (answer line past item).refused ≡ true → IsAlike past (answer line past item).past
-  item_is_idle (Line bytes) refused = command_is_idle (command_of bytes) refused
-  item_is_idle LineTooLong refused = the_same
-  item_is_idle (Block bytes) refused = config_is_idle (config_read bytes) refused
-  item_is_idle BlockTooLong refused = the_same
-  item_is_idle BlockShort refused = the_same
+  pub item_is_idle : (verdict : Verdict) (item : Item) → (answer line past verdict item).refused ≡ true
+      → IsAlike past (answer line past verdict item).past
+  item_is_idle verdict (Line bytes) refused = command_is_idle (command_of bytes) refused
+  item_is_idle verdict LineTooLong refused = the_same
+  item_is_idle verdict (Block bytes) refused = config_is_idle verdict (config_read bytes) refused
+  item_is_idle verdict BlockTooLong refused = the_same
+  item_is_idle verdict BlockShort refused = the_same

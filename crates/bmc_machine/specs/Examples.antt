@@ -20,12 +20,43 @@ chassis_fields = codes " CHASSIS_TYPE=\"23\" CHASSIS_PART_NUMBER=\"P1\" CHASSIS_
 abbrev pub damaged : List ℕ
 damaged = codes "01000001040000FA010300000000C341434DC452535231C25331C0C0C10000F5010100C10000003E"
 
--- a configuration that is always found, and one that finds a riser
+-- a configuration that is always found, and one that its operators never find
 abbrev pub always_found : List ℕ
 always_found = codes "{\"Name\":\"A\",\"Probe\":\"TRUE\"}"
 
+abbrev pub never_found : List ℕ
+never_found = codes "{\"Name\":\"N\",\"Probe\":[\"TRUE\",\"OR\",\"TRUE\",\"AND\",\"FALSE\"]}"
+
+-- two that ask for the one that is always found, to stand before it and behind it
+abbrev pub asks_before : List ℕ
+asks_before = codes "{\"Name\":\"E\",\"Probe\":\"FOUND('A')\"}"
+
+abbrev pub asks_behind : List ℕ
+asks_behind = codes "{\"Name\":\"B\",\"Probe\":\"FOUND('A')\"}"
+
+-- configurations that find each FRU, the first FRU, a chassis of type 23, and a riser by a regular expression
+abbrev pub finds_any : List ℕ
+finds_any = codes "{\"Name\":\"F\",\"Probe\":\"xyz.openbmc_project.FruDevice({})\"}"
+
+abbrev pub finds_first : List ℕ
+finds_first = codes "{\"Name\":\"F\",\"Probe\":[\"xyz.openbmc_project.FruDevice({})\",\"MATCH_ONE\"]}"
+
+abbrev pub finds_chassis : List ℕ
+finds_chassis = codes "{\"Name\":\"C\",\"Probe\":\"xyz.openbmc_project.FruDevice({'CHASSIS_TYPE': 23})\"}"
+
 abbrev pub finds_riser : List ℕ
 finds_riser = codes "{\"Name\":\"R\",\"Probe\":\"xyz.openbmc_project.FruDevice({'BOARD_PRODUCT_NAME': 'RSR'})\"}"
+
+-- one that opens bus 20
+abbrev pub opens_20 : List ℕ
+opens_20 = codes "{\"Name\":\"M\",\"Probe\":\"TRUE\",\"Exposes\":[{\"Name\":\"X\",\"Type\":\"Mux\",\"Channels\":[20]}]}"
+
+-- one whose probe has no word, and one that exposes no multiplexer
+abbrev pub no_word : List ℕ
+no_word = codes "{\"Name\":\"A\",\"Probe\":\"TRU\"}"
+
+abbrev pub no_mux : List ℕ
+no_mux = codes "{\"Name\":\"A\",\"Probe\":\"TRUE\",\"Exposes\":[{\"Name\":\"X\",\"Type\":\"Fan\"}]}"
 
 abbrev pub newline : List ℕ
 newline = codes "\n"
@@ -47,12 +78,6 @@ fru place fields = codes "fru " ++ place ++ fields ++ newline
 abbrev pub refused : List ℕ → List ℕ → List ℕ
 refused number reason = codes "line " ++ number ++ codes " refused " ++ reason ++ newline
 
-abbrev pub new_riser : List ℕ → List ℕ → List ℕ
-new_riser index place = codes "0 new board \"R\" " ++ index ++ codes " at " ++ place ++ newline
-
-abbrev pub gone_riser : List ℕ → List ℕ → List ℕ
-gone_riser index place = codes "0 gone board \"R\" " ++ index ++ codes " at " ++ place ++ newline
-
 abbrev pub bus_1_80 : List ℕ
 bus_1_80 = codes "1 80"
 
@@ -62,7 +87,7 @@ bus_1_81 = codes "1 81"
 abbrev pub bus_1_79 : List ℕ
 bus_1_79 = codes "1 79"
 
--- a bus that is not visible
+-- a bus that is visible where a configuration opens it
 abbrev pub bus_20_80 : List ℕ
 bus_20_80 = codes "20 80"
 
@@ -76,6 +101,6 @@ place_1_80 = record { bus = 1; address = 80 }
 abbrev pub place_1_81 : Place
 place_1_81 = record { bus = 1; address = 81 }
 
--- risers at three places, of which the second is taken away before the third is plugged
-abbrev pub three_risers : List ℕ
-three_risers = config (codes "83") finds_riser ++ plug bus_1_80 riser ++ plug bus_1_81 riser ++ unplug bus_1_81 ++ plug bus_1_79 riser
+-- FRUs at three places, of which the second is taken away before the third is plugged
+abbrev pub three_frus : List ℕ
+three_frus = config (codes "56") finds_any ++ plug bus_1_80 riser ++ plug bus_1_81 riser ++ unplug bus_1_81 ++ plug bus_1_79 riser

@@ -2,9 +2,11 @@ ghost use Rattle.std.specs.Prelude.{◌≡◌, ◌+◌, ◌++◌, ◌∷◌, tru
 ghost use Rattle.std.specs.Option.{option_eq};
 ghost use Rattle.std.specs.List.{IsDistinct};
 ghost use Rattle.bmc_base.specs.Places.{Place, place_eq};
+ghost use Rattle.inventory.specs.Boards.{has_board};
+ghost use Rattle.inventory.specs.Indexes.{except, index_in};
 ghost use Rattle.bmc_machine.specs.Histories.{Step, standing};
-ghost use Rattle.bmc_machine.specs.Boards.{boards, has_board};
-ghost use Rattle.bmc_machine.specs.Indexes.{had_board, except, kept, index_in};
+ghost use Rattle.bmc_machine.specs.Boards.{boards};
+ghost use Rattle.bmc_machine.specs.Indexes.{had_board, kept};
 ghost use Rattle.bmc_machine.specs.Meetings.{met_before};
 ghost use Rattle.bmc_machine.specs.Refusals.{IsLegal};
 

@@ -20,7 +20,11 @@ use Rattle.bmc_report.specs.Changes.{change_text}
 use Rattle.fru_record.specs.Lookups.{text_named}
 use Rattle.serde_json.proofs.OnLiterals.{serde_json_on_literals}
 use Rattle.cfg_json.specs.Documents.{config_in, config_of}
-use Rattle.cfg_json.specs.Probes.{text_in, plain_probe_of, stands_in}
+use Rattle.probe_lang.specs.Words.{without_spaces, between, found_name, term_of_word}
+use Rattle.probe_lang.specs.Braces.{pattern_in}
+use Rattle.probe_lang.specs.Grammar.{read_from}
+use Rattle.probe_lang.specs.Matches.{matches}
+use Rattle.inventory.specs.Boards.{board_places, boards_in}
 use Rattle.bmc_machine.specs.Histories.{standing}
 use Rattle.bmc_machine.specs.Boards.{boards}
 use Rattle.bmc_machine.specs.Indexes.{kept}
@@ -31,7 +35,7 @@ use Rattle.bmc_machine.proofs.examples.scripts_with_boards.Goals as goal
 pub returns : goal.returns
 unfolding encode is_utf8 chars digits hex_on_literals without_return line_item whole_block whole_item cut_most cut block_size hex_decoded digits_in number
     place_named plug_of unplug_of words_of command_of header area_at first_field walk raw_fields text_of name_text area_fields area_text refusal_name
-    refusal_text
-    quoted field_row fru_row fields_of_area fields_at fields_under record_of change_text text_named serde_json_on_literals config_in config_of text_in
-    plain_probe_of stands_in boards kept changes_between standing answers final_list
-returns c = record { always = refl; found = refl; refused = refl; kept = refl }
+    refusal_text quoted field_row fru_row fields_of_area fields_at fields_under record_of change_text text_named serde_json_on_literals config_in config_of
+    without_spaces between found_name term_of_word pattern_in read_from matches board_places boards_in boards kept changes_between standing answers
+    final_list
+returns c = record { found = refl; first = refl; opened = refl; kept = refl }

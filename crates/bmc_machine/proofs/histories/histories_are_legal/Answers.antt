@@ -6,6 +6,6 @@ use Rattle.bmc_machine.proofs.histories.histories_are_legal.Goals as goal
 pub returns : goal.returns
 returns c = record {
   items = items_are_legal;
-  script = λ script. items_are_legal 1 [] (items_of script) nothing_is_legal;
-  whole = λ bytes. items_are_legal 1 [] (whole_items bytes) nothing_is_legal;
+  script = λ verdicts script. items_are_legal 1 [] verdicts (items_of script) nothing_is_legal;
+  whole = λ verdicts bytes. items_are_legal 1 [] verdicts (whole_items bytes) nothing_is_legal;
 }

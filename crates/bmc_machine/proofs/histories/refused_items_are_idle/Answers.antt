@@ -3,6 +3,6 @@ use Rattle.bmc_machine.proofs.histories.refused_items_are_idle.Goals as goal
 
 pub returns : goal.returns
 returns c = record {
-  standing = λ line past item refused. (item_is_idle line past item refused).standing;
-  kept = λ line past item number refused. (item_is_idle line past item refused).kept number;
+  standing = λ line past verdict item refused. (item_is_idle line past verdict item refused).standing;
+  kept = λ line past verdict item number refused. (item_is_idle line past verdict item refused).kept number;
 }
