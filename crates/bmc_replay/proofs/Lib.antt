@@ -1,9 +1,8 @@
-pub mod KeptFrus
-pub mod Hits
-pub mod ViewChanges
-pub mod Keeping
-pub mod States
-pub mod GatheringLemmas
 pub mod SoFar
-pub mod StandsLemmas
+pub mod StatesLemmas
+pub mod StepsLemmas
+pub mod KeysLemmas
+pub mod RowsLemmas
+pub mod RunsLemmas
+pub mod GatheringLemmas
 pub mod Along

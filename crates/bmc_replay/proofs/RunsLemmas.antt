@@ -1,0 +1,197 @@
+-- What a run does with an item is what the machine answers.
+use Rattle.std.proofs.Common.{◌≡◌, ℕ, List, [], ◌∷◌, ◌++◌, Bool, Option, Some, None, Ok, Err, refl, ap, ap₂, sym, subst, ◌∙◌, append-nil, string_bytes}
+use Rattle.std.specs.Prelude.{◌+◌, ◌||◌, ◌≢◌, Result}
+use Rattle.std.specs.List.{flat_map}
+use Rattle.bmc_text.specs.Items.{Item, Line, LineTooLong, Block, BlockTooLong, BlockShort}
+use Rattle.pat_gate.specs.Makers.{Maker}
+use Rattle.cfg_json.specs.Configs.{Config}
+use Rattle.cfg_json.specs.Documents.{config_read}
+use Rattle.cfg_json.specs.Readings.{GivesConfig}
+use Rattle.cfg_json.specs.Verdicts.{Verdict, Accepted, large_in, verdict_of}
+use Rattle.cfg_json.specs.declared.config_fault.ConfigFault.{ConfigFault}
+use Rattle.cfg_json.specs.declared.config_fault.ConfigFault.TheVariants as faults
+use Rattle.cfg_json.proofs.VerdictsLemmas.{gives_ties}
+use Rattle.bmc_script.specs.Commands.{command_of}
+use Rattle.bmc_script.specs.declared.command.Command.{Command}
+use Rattle.bmc_script.specs.declared.command.ScriptFault.{ScriptFault}
+use Rattle.bmc_report.specs.Refusals.{refused_line}
+use Rattle.bmc_report.specs.Changes.{change_line}
+use Rattle.bmc_report.specs.declared.change.Change.{Change}
+use Rattle.bmc_report.specs.declared.refusal.Refusal.{Refusal}
+use Rattle.bmc_report.specs.declared.refusal.Refusal.TheVariants.{UnknownCommand}
+use Rattle.bmc_machine.specs.Histories.{Step, Configure, standing}
+use Rattle.bmc_machine.specs.Refusals.{config_refusal, refusal_of}
+use Rattle.bmc_machine.specs.Answers.{Answer, silent, refusing, answer_by, answer_step, answer_command, answer_broken, answer_config, answer}
+use Rattle.bmc_machine.specs.Ties.{IsTied, AreTied, large_texts}
+use Rattle.bmc_replay.specs.States.{View, Stands}
+use Rattle.bmc_replay.specs.Steps.{Accepts, Refuses, IsTried, Tries}
+use Rattle.bmc_replay.specs.declared.run.Run.{Run}
+use Rattle.bmc_replay.specs.declared.run.Effect.{Effect}
+use Rattle.bmc_replay.specs.declared.run.Effect.TheVariants.{Nothing, Changed, Refused}
+use Rattle.bmc_replay.specs.Runs.{effect_text, effect_of, is_refused, IsAnswer, Answers, IsVerdict, AnswersItem, LeavesItem, CountsItem, TakesItem}
+
+-- nothing comes of it
+pub silent_answers : (view : View) → Answers (λ line past. silent past) Nothing view view
+silent_answers view line past stood = record { stands = stood; text = refl; refused = refl }
+
+-- it is refused for this reason, and leaves what is known
+pub refused_answers : (view : View) (refusal : Refusal) → Answers (λ line past. refusing line past refusal) (Refused refusal) view view
+refused_answers view refusal line past stood = record { stands = stood; text = refl; refused = refl }
+
+-- a step that was tried is answered
+pub tried_answers : (old : View) (step : Step) (refusal : Option Refusal) (new : View) → Tries old step refusal new
+    → Answers (λ line past. answer_step line past step) (effect_of refusal) old new
+tried_answers old step refusal new tries line past stood = of refusal (tries.tried past stood)
+  where
+    of : (refusal : Option Refusal) → IsTried refusal past step new → IsAnswer (answer_step line past step) line (effect_of refusal) new
+    of None accepts =
+        subst (λ (reason : Option Refusal). IsAnswer (answer_by reason line past step) line Changed new) (sym accepts.reason)
+        (record { stands = accepts.stands; text = ap (flat_map (change_line 0)) accepts.told; refused = refl })
+    of (Some refusal) refuses =
+        subst (λ (reason : Option Refusal). IsAnswer (answer_by reason line past step) line (Refused refusal) new) (sym refuses.reason)
+        (record { stands = refuses.stands; text = refl; refused = refl })
+
+-- the same under another name of the answer
+pub renamed : (what other : (Refusal → List ℕ) → List Step → Answer) (effect : Effect) (old new : View)
+    → ((line : Refusal → List ℕ) (past : List Step) → what line past ≡ other line past) → Answers what effect old new → Answers other effect old new
+renamed what other effect old new same answers line past stood =
+    subst (λ (answer : Answer). IsAnswer answer line effect new) (same line past) (answers line past stood)
+
+-- a line that is no command is refused
+pub unknown_answers : (view : View) (line : List ℕ) (fault : ScriptFault) → command_of line ≡ Err fault
+    → Answers (λ label past. answer label past Accepted (Line line)) (Refused UnknownCommand) view view
+unknown_answers view line fault unknown =
+    renamed (λ label past. refusing label past UnknownCommand) _ (Refused UnknownCommand) view view
+    (λ label past. ap (answer_command label past) (sym unknown)) (refused_answers view UnknownCommand)
+
+pub command_answers : (old new : View) (line : List ℕ) (command : Command) (effect : Effect) → command_of line ≡ Ok command
+    → Answers (λ label past. answer_command label past (Ok command)) effect old new
+    → Answers (λ label past. answer label past Accepted (Line line)) effect old new
+command_answers old new line command effect is =
+    renamed (λ label past. answer_command label past (Ok command)) _ effect old new (λ label past. ap (answer_command label past) (sym is))
+
+-- ---- verdicts
+
+-- the maker was not asked
+pub unasked : (item : Item) (effect : Effect) (old new : View) (maker maker_now : Maker) → IsTied item Accepted → maker_now ≡ maker
+    → Answers (λ line past. answer line past Accepted item) effect old new → AnswersItem item effect old new maker maker_now
+unasked item effect old new maker maker_now tied same answers = record {
+  verdict = Accepted;
+  is_verdict = record { tied = tied; large = ap (λ (maker : Maker). maker.refused) same ∙ sym (append-nil maker.refused) };
+  answers = answers;
+}
+
+-- an item without a verdict
+pub left_unasked : (item : Item) (maker maker_now : Maker) → maker_now ≡ maker → LeavesItem item maker maker_now
+left_unasked item maker maker_now same =
+    record { verdicts = []; tied = tt; large = ap (λ (maker : Maker). maker.refused) same ∙ sym (append-nil maker.refused) }
+
+pub left_with : (item : Item) (verdict : Verdict) (maker maker_now : Maker) → IsVerdict item verdict maker maker_now → LeavesItem item maker maker_now
+left_with item verdict maker maker_now is = record {
+  verdicts = verdict ∷ [];
+  tied = (is.tied, tt);
+  large = is.large ∙ ap (λ (texts : List (List ℕ)). maker.refused ++ texts) (sym (append-nil (large_in verdict)));
+}
+
+-- what reading a block answers is a verdict on it
+pub read_verdict : (bytes : List ℕ) (result : Result Config ConfigFault) (maker maker_now : Maker)
+    → GivesConfig maker maker_now result (config_read bytes) → result ≢ Err faults.OutOfMemory → IsVerdict (Block bytes) (verdict_of result) maker maker_now
+read_verdict bytes result maker maker_now gives known =
+    let ties = gives_ties maker maker_now result (config_read bytes) gives known in record { tied = ties.0; large = ties.1 }
+
+-- a configuration that was read is tried as a step
+pub config_answers : (bytes : List ℕ) (config : Config) (refusal : Option Refusal) (old new : View) (maker maker_now : Maker)
+    → GivesConfig maker maker_now (Ok config) (config_read bytes) → Tries old (Configure config) refusal new
+    → AnswersItem (Block bytes) (effect_of refusal) old new maker maker_now
+config_answers bytes config refusal old new maker maker_now gives tries = record {
+  verdict = Accepted;
+  is_verdict = read_verdict bytes (Ok config) maker maker_now gives (λ same. absurd (cc));
+  answers =
+      renamed (λ line past. answer_step line past (Configure config)) _ (effect_of refusal) old new
+      (λ line past. ap (answer_config line past Accepted) (sym gives.0)) (tried_answers old (Configure config) refusal new tries);
+}
+
+-- how a block is answered that is refused
+block_answer : (line : Refusal → List ℕ) (past : List Step) (bytes : List ℕ) (rule : ConfigFault) (refusal : Refusal) (maker maker_now : Maker)
+    → GivesConfig maker maker_now (Err rule) (config_read bytes) → config_refusal rule ≡ Some refusal
+    → answer_config line past (verdict_of (Err rule)) (config_read bytes) ≡ refusing line past refusal
+block_answer line past bytes rule refusal maker maker_now gives is = of rule (config_read bytes) gives is
+  where
+    by_rule : (rule : ConfigFault) (read : Result Config ConfigFault) → read ≡ Err rule → config_refusal rule ≡ Some refusal
+        → answer_config line past Accepted read ≡ refusing line past refusal
+    by_rule rule read breaks is =
+        ap (answer_config line past Accepted) breaks ∙ ap (λ (reason : Option Refusal). answer_broken reason line past) is
+
+    some_same : (one other : Refusal) → Option.Some one ≡ Some other → one ≡ other
+    some_same one other same = cc
+
+    of : (rule : ConfigFault) (read : Result Config ConfigFault) → GivesConfig maker maker_now (Err rule) read → config_refusal rule ≡ Some refusal
+        → answer_config line past (verdict_of (Err rule)) read ≡ refusing line past refusal
+    of faults.NotJson read gives is = by_rule faults.NotJson read gives.0 is
+    of faults.Fraction read gives is = by_rule faults.Fraction read gives.0 is
+    of faults.MissingKey read gives is = by_rule faults.MissingKey read gives.0 is
+    of faults.WrongKind read gives is = by_rule faults.WrongKind read gives.0 is
+    of faults.OutOfRange read gives is = by_rule faults.OutOfRange read gives.0 is
+    of (faults.ProbeSyntax at) read gives is = by_rule (faults.ProbeSyntax at) read gives.0 is
+    of faults.ExposeForm read gives is = by_rule faults.ExposeForm read gives.0 is
+    of (faults.PatternSyntax text) (Ok config) gives is = ap (refusing line past) (some_same _ _ is)
+    of (faults.PatternSyntax text) (Err other) gives is = absurd gives.0
+    of (faults.PatternTooLarge text) (Ok config) gives is = ap (refusing line past) (some_same _ _ is)
+    of (faults.PatternTooLarge text) (Err other) gives is = absurd gives.0
+    of faults.OutOfMemory read gives is = absurd (cc)
+
+known_rule : (rule : ConfigFault) (refusal : Refusal) → config_refusal rule ≡ Some refusal → Result.Err {Config} rule ≢ Err faults.OutOfMemory
+known_rule rule refusal is same = absurd (let no = ap (λ (result : Result Config ConfigFault). reason_of result) same in cc)
+  where
+    reason_of : Result Config ConfigFault → Option Refusal
+    reason_of (Ok config) = None
+    reason_of (Err rule) = config_refusal rule
+
+pub broken_answers : (bytes : List ℕ) (rule : ConfigFault) (refusal : Refusal) (view : View) (maker maker_now : Maker)
+    → GivesConfig maker maker_now (Err rule) (config_read bytes) → config_refusal rule ≡ Some refusal
+    → AnswersItem (Block bytes) (Refused refusal) view view maker maker_now
+broken_answers bytes rule refusal view maker maker_now gives is = record {
+  verdict = verdict_of (Err rule);
+  is_verdict = read_verdict bytes (Err rule) maker maker_now gives (known_rule rule refusal is);
+  answers =
+      renamed (λ line past. refusing line past refusal) _ (Refused refusal) view view
+      (λ line past. sym (block_answer line past bytes rule refusal maker maker_now gives is)) (refused_answers view refusal);
+}
+
+-- where no memory was left for it, nothing is said of a block
+pub unread : (bytes : List ℕ) (rule : ConfigFault) (maker maker_now : Maker) → GivesConfig maker maker_now (Err rule) (config_read bytes)
+    → config_refusal rule ≡ None → LeavesItem (Block bytes) maker maker_now
+unread bytes faults.OutOfMemory maker maker_now gives none = left_unasked (Block bytes) maker maker_now gives
+unread bytes faults.NotJson maker maker_now gives none = absurd (cc)
+unread bytes faults.Fraction maker maker_now gives none = absurd (cc)
+unread bytes faults.MissingKey maker maker_now gives none = absurd (cc)
+unread bytes faults.WrongKind maker maker_now gives none = absurd (cc)
+unread bytes faults.OutOfRange maker maker_now gives none = absurd (cc)
+unread bytes (faults.ProbeSyntax at) maker maker_now gives none = absurd (cc)
+unread bytes faults.ExposeForm maker maker_now gives none = absurd (cc)
+unread bytes (faults.PatternSyntax text) maker maker_now gives none = absurd (cc)
+unread bytes (faults.PatternTooLarge text) maker maker_now gives none = absurd (cc)
+
+-- ---- counting
+
+-- what was answered is counted
+pub answered_item : (item : Item) (effect : Effect) (old answered new : Run) (maker maker_now : Maker) → answered ≡ record old { state = answered.state }
+    → AnswersItem item effect old.state answered.state maker maker_now → CountsItem effect answered new → TakesItem item old new maker maker_now
+answered_item item effect old answered new maker maker_now same answers counts = record {
+  verdict = answers.verdict;
+  is_verdict = answers.is_verdict;
+  number = counts.number ∙ ap (λ (run : Run). run.number + 1) same;
+  follows = λ past stood.
+      let is = answers.answers (refused_line old.number) past stood in
+      record {
+        stands = subst (λ (view : View). Stands view (answer (refused_line old.number) past answers.verdict item).past) (sym counts.state) is.stands;
+        text =
+            counts.text
+            ∙ ap₂ (λ (text : List ℕ) (n : ℕ). text ++ effect_text (refused_line n) effect answered.state.changes)
+              (ap (λ (run : Run). string_bytes run.text) same) (ap (λ (run : Run). run.number) same)
+            ∙ ap (λ (text : List ℕ). string_bytes old.text ++ text) is.text;
+        refused =
+            counts.refused
+            ∙ ap₂ (λ (before now : Bool). before || now) (ap (λ (run : Run). run.refused) same) is.refused;
+      };
+}
