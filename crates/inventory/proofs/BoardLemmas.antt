@@ -6,8 +6,8 @@ use Rattle.std.specs.Ordering.{is_eq}
 use Rattle.std.proofs.lemmas.Bool.{eq-eqb, eqb-true, or_cases, or_left, or_right}
 use Rattle.std.proofs.lemmas.List.Folds.{list_any-append}
 use Rattle.bmc_base.specs.Places.{Place, place_cmp, place_eq}
-use Rattle.bmc_machine.specs.Boards.{has_board}
-use Rattle.bmc_machine.specs.Indexes.{except}
+use Rattle.inventory.specs.Boards.{has_board}
+use Rattle.inventory.specs.Indexes.{except}
 
 pub and_both : (one other : Bool) → one ≡ true → other ≡ true → (one && other) ≡ true
 and_both true other is_one is_other = is_other
