@@ -17,9 +17,9 @@ pub record Moment : Type 0 where
   pub entries : List Entry
 
 -- the marks are those of these tests
-pub record IsMarkedBy (facts : Facts) (found reach : ℕ → Bool) : Type 0 where
-  pub found : AreMarked facts.found found
-  pub reach : AreMarked facts.reach reach
+pub record IsMarkedBy (facts : Facts) (is_found is_reached : ℕ → Bool) : Type 0 where
+  pub found : AreMarked facts.found is_found
+  pub reach : AreMarked facts.reach is_reached
 
 -- the boards of each configuration at a moment, where these are found and these buses reachable
 abbrev pub boards_at : List Config → (ℕ → Bool) → (ℕ → Bool) → Moment → ℕ → List (Option Place)

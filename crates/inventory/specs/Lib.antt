@@ -1,3 +1,5 @@
 pub mod Boards
 pub mod Indexes
 pub mod Differences
+pub mod Keeping
+pub mod Moments

@@ -52,7 +52,8 @@ impl BoardKeys {
         ensures err { OnErr result (self.new ≡ self.old) }
     {
         let _ = alloc;
-        self.keys.push(item)?;
+        let BoardKey { config, place } = item;
+        self.keys.push(BoardKey { config, place })?;
         Ok(())
     }
 

@@ -1,12 +1,17 @@
-ghost use Rattle.std.specs.Prelude.{◌≡◌, ◌<◌, [], ℕ, IfOk, OnOk, OnErr, option_map};
-ghost use Rattle.inventory.specs.Indexes.{kept_of, with_boards, index_of};
+ghost use Rattle.std.specs.Prelude.{◌≡◌, ◌+◌, ◌<◌, ◌≤◌, ◌==◌, if◌then◌else◌, [], ℕ, filter, length, nat_eq, slice_set, IfOk, OnOk, OnErr};
+ghost use Rattle.indexmap.specs.IndexSet.{spare};
+ghost use Rattle.inventory.specs.Indexes.{kept_of, with_board, with_boards, index_of};
 ghost use Rattle.inventory.specs.Differences.{places_of};
+ghost use Rattle.inventory.specs.Keeping.{keys_of, room_of, AreFew, AreListed, IsReady, most_boards};
 
 use crate::BoardKey;
 use bmc_base::{OutOfMemory, Place};
 use indexmap::IndexSet;
 use std::alloc::Global;
 use std::marker::Model;
+
+// How many boards a list has at the most, so that each index fits.
+const MOST_BOARDS: usize = u32::MAX as usize;
 
 /// The boards that each configuration ever had, in the order in which they came, which gives them their
 /// indexes.
@@ -16,10 +21,159 @@ pub struct IndexKeep {
 }
 
 impl Model for IndexKeep {
-    ghost use Rattle.std.specs.Prelude.{List, Option, map};
+    ghost use Rattle.std.specs.Prelude.{List, Option};
     ghost use Rattle.bmc_base.specs.Places.{Place};
+    ghost use Rattle.inventory.specs.Keeping.{keys_of, AreFew};
 
     ghost Value = { List (List (Option Place)) };
 
-    ghost view = { λ k. map (λ list. list.keys) k.lists.items };
+    ghost view = { λ k. keys_of k.lists.items };
+
+    ghost invariant = { λ k. AreFew (keys_of k.lists.items) };
+}
+
+// Returns how many lists it takes that each of these keys has one.
+fn list_count(keys: &[BoardKey]) -> usize
+    ensures { AreListed keys.now result }
+{
+    let mut count = 0;
+    for key in keys {
+        count = count.max(key.config as usize + 1);
+    }
+    count
+}
+
+// Adds empty lists up to this number of them.
+fn add_lists(
+    alloc: Global,
+    lists: &mut Vec<IndexSet<Option<Place>>>,
+    count: usize,
+) -> Result<(), OutOfMemory>
+    ensures kept { (number : ℕ) → kept_of (keys_of lists.new.items) number ≡ kept_of (keys_of lists.old.items) number }
+    ensures ok { OnOk result (count ≤ length lists.new.items) }
+{
+    for _ in lists.len()..count {
+        lists.push(IndexSet::new(alloc))?;
+    }
+    Ok(())
+}
+
+// Counts the keys of this configuration.
+fn count_of(keys: &[BoardKey], number: usize) -> usize
+    ensures { result ≡ length (filter (λ key. nat_eq key.config number) keys.now) }
+{
+    keys.iter()
+        .filter(|key| key.config as usize == number)
+        .count()
+}
+
+// Makes room in the list with this number for the boards of these keys that are of its configuration.
+#[tactic(auto, using(crate::proofs::KeepingLemmas::count_places))]
+fn reserve_list(
+    list: &mut IndexSet<Option<Place>>,
+    number: usize,
+    keys: &[BoardKey],
+) -> Result<(), OutOfMemory>
+    ensures kept { list.new.keys ≡ list.old.keys }
+    ensures room { OnOk result (length (places_of number keys.now) ≤ spare list.new) }
+    ensures few { OnOk result (length list.new.keys + length (places_of number keys.now) ≤ most_boards) }
+{
+    let count = count_of(keys, number);
+    if count > MOST_BOARDS || list.len() > MOST_BOARDS - count {
+        return Err(OutOfMemory);
+    }
+    list.reserve(count)?;
+    Ok(())
+}
+
+// Makes room in each list for the boards of these keys that are of its configuration.
+fn reserve_lists(
+    lists: &mut [IndexSet<Option<Place>>],
+    keys: &[BoardKey],
+) -> Result<(), OutOfMemory>
+    ensures kept { (number : ℕ) → kept_of (keys_of lists.new) number ≡ kept_of (keys_of lists.old) number }
+    ensures ready { OnOk result ((number : ℕ) → number < length lists.old → IsReady keys.now lists.new number) }
+{
+    for number in 0..lists.len() {
+        reserve_list(&mut lists[number], number, keys)?;
+    }
+    Ok(())
+}
+
+// Keeps a board in the list with this number, which has room for one more.
+fn keep_board(lists: &mut [IndexSet<Option<Place>>], number: usize, place: Option<Place>)
+    requires within { number < length lists.old }
+    requires room { 0 < room_of lists.old number }
+    ensures kept { keys_of lists.new ≡ slice_set (keys_of lists.old) number (with_board (kept_of (keys_of lists.old) number) place) }
+    ensures room { (each : ℕ) → room_of lists.old each ≤ room_of lists.new each + (if each == number then 1 else 0) }
+{
+    let _ = lists[number].insert_full(place);
+}
+
+// Keeps the boards of these keys, for which there is room.
+fn keep_boards(lists: &mut [IndexSet<Option<Place>>], keys: &[BoardKey])
+    requires listed { AreListed keys.now (length lists.old) }
+    requires room { (number : ℕ) → number < length lists.old → IsReady keys.now lists.old number }
+    ensures { (number : ℕ) → kept_of (keys_of lists.new) number ≡ with_boards (kept_of (keys_of lists.old) number) (places_of number keys.now) }
+{
+    for key in keys {
+        keep_board(lists, key.config as usize, key.place);
+    }
+}
+
+// Keeps the boards of these keys, each behind the others in its list if it is not kept yet, or changes nothing.
+fn extend_lists(
+    lists: &mut [IndexSet<Option<Place>>],
+    keys: &[BoardKey],
+) -> Result<(), OutOfMemory>
+    requires { AreListed keys.now (length lists.old) }
+    ensures ok { OnOk result ((number : ℕ) → kept_of (keys_of lists.new) number ≡ with_boards (kept_of (keys_of lists.old) number) (places_of number keys.now)) }
+    ensures err { OnErr result ((number : ℕ) → kept_of (keys_of lists.new) number ≡ kept_of (keys_of lists.old) number) }
+    ensures few { AreFew (keys_of lists.old) → AreFew (keys_of lists.new) }
+{
+    reserve_lists(lists, keys)?;
+    keep_boards(lists, keys);
+    Ok(())
+}
+
+// Returns the index of a board in the list of its configuration.
+fn index_in_list(list: &IndexSet<Option<Place>>, place: Option<Place>) -> Option<u32>
+    requires { length list.now.keys ≤ most_boards }
+    ensures { result ≡ index_of list.now.keys place }
+{
+    let at = list.get_index_of(&place)?;
+    Some(at as u32 + 1)
+}
+
+impl IndexKeep {
+    /// Returns a keep of no boards.
+    pub fn new(alloc: Global) -> Result<IndexKeep, OutOfMemory>
+        ensures { IfOk result (λ keep. keep ≡ []) }
+    {
+        Ok(IndexKeep {
+            lists: Vec::new(alloc),
+        })
+    }
+
+    /// Keeps the boards of these keys, each behind the others of its configuration if it is not kept yet. For
+    /// want of memory, or where a configuration would have more boards than a `u32` counts, nothing changes.
+    pub fn extend(&mut self, alloc: Global, keys: &[BoardKey]) -> Result<(), OutOfMemory>
+        ensures ok { OnOk result ((number : ℕ) → kept_of self.new number ≡ with_boards (kept_of self.old number) (places_of number keys.now)) }
+        ensures err { OnErr result ((number : ℕ) → kept_of self.new number ≡ kept_of self.old number) }
+    {
+        add_lists(alloc, &mut self.lists, list_count(keys))?;
+        extend_lists(&mut self.lists, keys)
+    }
+
+    /// Returns the index of a board, from 1, if it is kept.
+    pub fn index_of(&self, key: &BoardKey) -> Option<u32>
+        ensures { result ≡ index_of (kept_of self.now key.now.config) key.now.place }
+    {
+        let number = key.config as usize;
+        if number < self.lists.len() {
+            index_in_list(&self.lists[number], key.place)
+        } else {
+            None
+        }
+    }
 }

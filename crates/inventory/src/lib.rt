@@ -3,11 +3,15 @@
 #![tactic(auto)]
 
 mod board;
-mod difference;
+mod boards;
+mod changed;
+mod compare;
+mod hits;
 mod index_keep;
 mod moment;
 
 pub use board::{Board, BoardKey, BoardKeys};
-pub use difference::{Difference, difference};
+pub use changed::Difference;
+pub use compare::difference;
 pub use index_keep::IndexKeep;
 pub use moment::Moment;

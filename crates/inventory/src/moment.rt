@@ -1,24 +1,111 @@
-ghost use Rattle.std.specs.Prelude.{◌≡◌};
+ghost use Rattle.std.specs.Prelude.{◌≡◌, ◌++◌, ℕ, Bool, IsTrue, OnOk, position};
+ghost use Rattle.found_set.specs.Marks.{AreMarked, is_marked};
+ghost use Rattle.probe_lang.specs.Presents.{are_by_place, is_entry_at, with_entry, without_entry};
+ghost use Rattle.inventory.specs.Moments.{hits_in, is_behind};
 
-use bmc_base::Place;
+use crate::hits::push_hits;
+use bmc_base::{OutOfMemory, Place};
 use found_set::Facts;
-use probe_lang::{Entry, Present};
+use probe_lang::Entry;
 use std::marker::Model;
+use std::slice;
 
 /// One moment: what is found and reachable then, and the FRUs that are present, by place, in three parts.
 #[derive(Drop)]
 pub struct Moment<'a> {
     facts: Facts,
     before: &'a [Entry],
-    plus: Option<&'a Entry>,
+    plus: &'a [Entry],
     behind: &'a [Entry],
 }
 
 impl<'a> Model for Moment<'a> {
-    ghost use Rattle.std.specs.Prelude.{◌++◌, option_map, option_to_list};
+    ghost use Rattle.std.specs.Prelude.{◌++◌};
     ghost use Rattle.inventory.specs.Differences.{Moment};
 
     ghost Value = { Moment };
 
-    ghost view = { λ m. record { facts = m.facts; entries = m.before.now ++ option_to_list (option_map (λ entry. entry.now) m.plus) ++ m.behind.now } };
+    ghost view = { λ m. record { facts = m.facts; entries = m.before.now ++ m.plus.now ++ m.behind.now } };
+}
+
+// Returns where the first entry behind this place stands, if there is one.
+fn first_behind(entries: &[Entry], place: Place) -> Option<usize>
+    ensures { result ≡ position (is_behind place) entries.now }
+{
+    entries.iter().position(|entry| place < entry.place)
+}
+
+// Returns where the first entry at this place stands, if there is one.
+fn position_at(entries: &[Entry], place: Place) -> Option<usize>
+    ensures { result ≡ position (is_entry_at place) entries.now }
+{
+    entries.iter().position(|entry| place == entry.place)
+}
+
+impl<'a> Moment<'a> {
+    /// Returns the moment of these entries.
+    pub fn of(facts: Facts, entries: &'a [Entry]) -> Moment<'a>
+        ensures facts { result.facts ≡ facts }
+        ensures entries { result.entries ≡ entries.now }
+    {
+        Moment {
+            facts,
+            before: &[],
+            plus: &[],
+            behind: entries,
+        }
+    }
+
+    /// Returns the moment of these entries with one more, at its place.
+    pub fn with(facts: Facts, entries: &'a [Entry], plus: &'a Entry) -> Moment<'a>
+        ensures facts { result.facts ≡ facts }
+        ensures entries { result.entries ≡ with_entry plus.now entries.now }
+    {
+        let at = first_behind(entries, plus.place).unwrap_or(entries.len());
+        let (before, behind) = entries.split_at(at);
+        Moment {
+            facts,
+            before,
+            plus: slice::from_ref(plus),
+            behind,
+        }
+    }
+
+    /// Returns the moment of these entries, each of which comes before those behind it, without the one at this place.
+    pub fn without(facts: Facts, entries: &'a [Entry], place: Place) -> Moment<'a>
+        requires { IsTrue (are_by_place entries.now) }
+        ensures facts { result.facts ≡ facts }
+        ensures entries { result.entries ≡ without_entry place entries.now }
+    {
+        match position_at(entries, place) {
+            Some(at) => Moment {
+                facts,
+                before: &entries[..at],
+                plus: &[],
+                behind: &entries[at + 1..],
+            },
+            None => Moment::of(facts, entries),
+        }
+    }
+    // Whether the configuration with this number is found.
+    pub(crate) fn found(&self, number: u32) -> bool
+        ensures { result ≡ is_marked self.now.facts.found number }
+    {
+        self.facts.found(number)
+    }
+
+    // Appends the places of the FRUs on reachable buses that a pattern of this configuration matches.
+    pub(crate) fn push_hits(
+        &self,
+        places: &mut Vec<Option<Place>>,
+        number: u32,
+    ) -> Result<(), OutOfMemory>
+        ensures { (reach : ℕ → Bool) → AreMarked self.now.facts.reach reach
+            → OnOk result (places.new.items ≡ places.old.items ++ hits_in reach self.now.entries number) }
+    {
+        push_hits(places, self.before, &self.facts, number)?;
+        push_hits(places, self.plus, &self.facts, number)?;
+        push_hits(places, self.behind, &self.facts, number)?;
+        Ok(())
+    }
 }

@@ -1,0 +1,5 @@
+pub mod ListLemmas
+pub mod BoardLemmas
+pub mod MomentsLemmas
+pub mod KeepingLemmas
+pub mod DifferencesLemmas

@@ -1,0 +1,25 @@
+use Rattle.std.proofs.Common.{◌∙◌, ◌≡◌, ap, sym, ℕ, Bool}
+use Rattle.cfg_json.specs.Configs.{Config}
+use Rattle.inventory.specs.Moments.{boards_now}
+use Rattle.inventory.specs.Differences.{Moment, boards_at}
+use Rattle.inventory.proofs.DifferencesLemmas.{boards_there, config_more}
+use Rattle.inventory.proofs.compare.push_shelf.Goals as goal
+
+pub loop-number-preserved : goal.loop-number-preserved
+loop-number-preserved g c =
+    let config : Config = c.in-Some.config.now in
+    let number = c.loop-number.number in
+    let configs = c.args.shelf.now in
+    let one : c.match_one-match_one.result ≡ config.probe.match_one = c.match_one-match_one.ensures ∙ ap (λ probe. probe.match_one) c.probe.ensures in
+    let there = λ (found reach : ℕ → Bool) (moment : Moment). ap (λ (match_one : Bool). boards_now match_one found reach moment number) one
+    ∙ boards_there configs found reach moment number config (sym c.in-Some.ensures) in
+    record {
+      gone = λ found reach found_after reach_after marked marked_after. config_more number (boards_at configs found reach c.args.before.now)
+          (boards_at configs found_after reach_after c.args.after.now) _ _ _ _ _ (c.loop-number.invariant.gone found reach found_after reach_after marked marked_after)
+          (c.in_ok-push_config.ensures.gone found reach found_after reach_after marked marked_after) (there found reach c.args.before.now)
+          (there found_after reach_after c.args.after.now);
+      come = λ found reach found_after reach_after marked marked_after. config_more number (boards_at configs found_after reach_after c.args.after.now)
+          (boards_at configs found reach c.args.before.now) _ _ _ _ _ (c.loop-number.invariant.come found reach found_after reach_after marked marked_after)
+          (c.in_ok-push_config.ensures.come found reach found_after reach_after marked marked_after) (there found_after reach_after c.args.after.now)
+          (there found reach c.args.before.now);
+    }

@@ -1,0 +1,139 @@
+ghost use Rattle.std.specs.Prelude.{◌≡◌, ◌+◌, ◌<◌, ◌≤◌, ◌++◌, ℕ, Bool, length, option_to_list, option_map, IfOk, OnOk};
+ghost use Rattle.inventory.specs.Differences.{IsMarkedBy, boards_at, keys_left};
+ghost use Rattle.inventory.specs.Moments.{boards_now, left, plus_keys};
+
+use crate::boards::{list_boards, push_both, push_left};
+use crate::{BoardKeys, Difference, Moment};
+use bmc_base::{Ledger, OutOfMemory, Place};
+use cfg_json::{Config, Shelf};
+use std::alloc::Global;
+
+// The keys of the boards that go and that come so far, and the boards of one configuration at both moments, in
+// memory that serves for each in turn.
+#[derive(Drop)]
+struct Comparison {
+    gone: BoardKeys,
+    come: BoardKeys,
+    before: Vec<Option<Place>>,
+    after: Vec<Option<Place>>,
+}
+
+// Appends the keys of the boards of a configuration that go and of those that come.
+fn push_config(
+    alloc: Global,
+    comparison: &mut Comparison,
+    before: &Moment<'_>,
+    after: &Moment<'_>,
+    number: u32,
+    match_one: bool,
+) -> Result<(), OutOfMemory>
+    requires { number < 256 }
+    ensures gone { (found reach found_after reach_after : ℕ → Bool) → IsMarkedBy before.now.facts found reach
+        → IsMarkedBy after.now.facts found_after reach_after → OnOk result (comparison.new.gone ≡ comparison.old.gone ++ left number
+        (boards_now match_one found reach before.now number) (boards_now match_one found_after reach_after after.now number)) }
+    ensures come { (found reach found_after reach_after : ℕ → Bool) → IsMarkedBy before.now.facts found reach
+        → IsMarkedBy after.now.facts found_after reach_after → OnOk result (comparison.new.come ≡ comparison.old.come ++ left number
+        (boards_now match_one found_after reach_after after.now number) (boards_now match_one found reach before.now number)) }
+{
+    list_boards(&mut comparison.before, before, number, match_one)?;
+    list_boards(&mut comparison.after, after, number, match_one)?;
+    push_both(
+        alloc,
+        &mut comparison.gone,
+        &mut comparison.come,
+        number,
+        &comparison.before,
+        &comparison.after,
+    )?;
+    Ok(())
+}
+
+// Appends the keys of the boards of each configuration that go and of those that come.
+fn push_shelf<L: Ledger>(
+    alloc: Global,
+    comparison: &mut Comparison,
+    shelf: &Shelf<L>,
+    before: &Moment<'_>,
+    after: &Moment<'_>,
+) -> Result<(), OutOfMemory>
+    requires { length shelf.now ≤ 256 }
+    ensures gone { (found reach found_after reach_after : ℕ → Bool) → IsMarkedBy before.now.facts found reach
+        → IsMarkedBy after.now.facts found_after reach_after → OnOk result (comparison.new.gone ≡ comparison.old.gone ++ keys_left (length shelf.now)
+        (boards_at shelf.now found reach before.now) (boards_at shelf.now found_after reach_after after.now)) }
+    ensures come { (found reach found_after reach_after : ℕ → Bool) → IsMarkedBy before.now.facts found reach
+        → IsMarkedBy after.now.facts found_after reach_after → OnOk result (comparison.new.come ≡ comparison.old.come ++ keys_left (length shelf.now)
+        (boards_at shelf.now found_after reach_after after.now) (boards_at shelf.now found reach before.now)) }
+{
+    for number in 0..shelf.len() {
+        let Some(config) = shelf.at(number) else {
+            unreachable!()
+        };
+        let match_one = config.probe().match_one();
+        push_config(
+            alloc,
+            comparison,
+            before,
+            after,
+            number as u32,
+            match_one,
+        )?;
+    }
+    Ok(())
+}
+
+// Appends the keys of the boards of one more configuration, if there is one. It had none before.
+fn push_plus<L: Ledger>(
+    alloc: Global,
+    comparison: &mut Comparison,
+    number: u32,
+    plus: Option<&Config<L>>,
+    after: &Moment<'_>,
+) -> Result<(), OutOfMemory>
+    requires { number + length (option_to_list (option_map (λ config. config.now) plus)) ≤ 256 }
+    ensures gone { comparison.new.gone ≡ comparison.old.gone }
+    ensures come { (found reach : ℕ → Bool) → IsMarkedBy after.now.facts found reach → OnOk result
+        (comparison.new.come ≡ comparison.old.come ++ plus_keys found reach after.now number (option_map (λ config. config.now) plus.entry)) }
+{
+    if let Some(config) = plus {
+        let match_one = config.probe().match_one();
+        list_boards(&mut comparison.after, after, number, match_one)?;
+        push_left(
+            alloc,
+            &mut comparison.come,
+            number,
+            &comparison.after,
+            &[],
+        )?;
+    }
+    Ok(())
+}
+
+/// Finds the boards that go and those that come from one moment to the next. The shelf has the configurations
+/// before; one more may be accepted now, with their count for its number.
+pub fn difference<L: Ledger>(
+    alloc: Global,
+    shelf: &Shelf<L>,
+    plus: Option<&Config<L>>,
+    before: &Moment<'_>,
+    after: &Moment<'_>,
+) -> Result<Difference, OutOfMemory>
+    requires { length (shelf.now ++ option_to_list (option_map (λ config. config.now) plus)) ≤ 256 }
+    ensures { let all = shelf.now ++ option_to_list (option_map (λ config. config.now) plus.entry) in
+        (found reach found_after reach_after : ℕ → Bool) → IsMarkedBy before.now.facts found reach
+        → IsMarkedBy after.now.facts found_after reach_after → IfOk result (λ d.
+        (d.gone ≡ keys_left (length shelf.now) (boards_at shelf.now found reach before.now) (boards_at all found_after reach_after after.now))
+        × (d.new ≡ keys_left (length all) (boards_at all found_after reach_after after.now) (boards_at shelf.now found reach before.now))) }
+{
+    let mut comparison = Comparison {
+        gone: BoardKeys::new(alloc)?,
+        come: BoardKeys::new(alloc)?,
+        before: Vec::new(alloc),
+        after: Vec::new(alloc),
+    };
+    push_shelf(alloc, &mut comparison, shelf, before, after)?;
+    push_plus(alloc, &mut comparison, shelf.len() as u32, plus, after)?;
+    Ok(Difference {
+        gone: comparison.gone,
+        new: comparison.come,
+    })
+}

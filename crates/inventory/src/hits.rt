@@ -1,0 +1,40 @@
+ghost use Rattle.std.specs.Prelude.{◌≡◌, ◌∷◌, ◌++◌, [], ℕ, Bool, OnOk};
+ghost use Rattle.found_set.specs.Marks.{AreMarked};
+ghost use Rattle.inventory.specs.Moments.{hits_in};
+
+use bmc_base::{OutOfMemory, Place};
+use found_set::Facts;
+use probe_lang::Entry;
+
+// Appends the place of a FRU, if it is on a reachable bus and a pattern of this configuration matches it.
+#[tactic(auto, using(crate::proofs::MomentsLemmas::hit_one))]
+fn push_hit(
+    places: &mut Vec<Option<Place>>,
+    entry: &Entry,
+    facts: &Facts,
+    number: u32,
+) -> Result<(), OutOfMemory>
+    ensures { (reach : ℕ → Bool) → AreMarked facts.now.reach reach
+        → OnOk result (places.new.items ≡ places.old.items ++ hits_in reach (entry.now ∷ []) number) }
+{
+    if facts.reach(entry.place.bus()) && entry.hits.has_config(number) {
+        places.push(Some(entry.place))?;
+    }
+    Ok(())
+}
+
+/// Appends the places of the FRUs on reachable buses that a pattern of this configuration matches.
+pub fn push_hits(
+    places: &mut Vec<Option<Place>>,
+    entries: &[Entry],
+    facts: &Facts,
+    number: u32,
+) -> Result<(), OutOfMemory>
+    ensures { (reach : ℕ → Bool) → AreMarked facts.now.reach reach
+        → OnOk result (places.new.items ≡ places.old.items ++ hits_in reach entries.now number) }
+{
+    for entry in entries {
+        push_hit(places, entry, facts, number)?;
+    }
+    Ok(())
+}
