@@ -1,11 +1,11 @@
 -- Lists of boards that grow.
-use Rattle.std.proofs.Common.{◌≡◌, ◌≢◌, ℕ, ◌+◌, ◌<◌, ◌≤◌, List, [], ◌∷◌, ◌++◌, Bool, true, false, cond, length, take, drop, map, filter, get_or, refl, sym, ap, ap₂, subst, ◌∙◌}
+use Rattle.std.proofs.Common.{◌≡◌, ◌≢◌, ℕ, ◌+◌, ◌<◌, ◌≤◌, List, [], ◌∷◌, ◌++◌, Bool, true, false, not, cond, length, take, drop, map, filter, get_or, refl, sym, ap, ap₂, subst, ◌∙◌}
 use Rattle.std.proofs.Common.{arith, append_assoc, length-append, Option, Some, None, Result, Ok, Err, IfOk, IsOk, position, eq-eqb}
 use Rattle.std.specs.Prelude.{nat_eq, nat_lt, slice_set, slice_index_or, ◌==◌, if◌then◌else◌}
 use Rattle.std.specs.Option.{option_eq}
 use Rattle.std.specs.Ordering.{ord_max, nat_cmp}
 use Rattle.std.specs.List.{All, position_or_len, list_any}
-use Rattle.std.proofs.lemmas.Bool.{eqb-true}
+use Rattle.std.proofs.lemmas.Bool.{eqb-true, or_parts}
 use Rattle.std.proofs.lemmas.Bool.Decides.{nat_tests}
 use Rattle.std.proofs.lemmas.List.{length-map, map-set, map-append, get_or-set_same, get_or-set_other, get_or_past, take_all, take-append-drop, append-nil, take_more, get_or-map}
 use Rattle.std.proofs.lemmas.List.Elements.{All-more, filter_more, filter-append}
@@ -219,3 +219,21 @@ few_now {S} {T} keys ready new number many each now = by (nat_lt number (length 
 -- what a vector is after its slice was written
 pub whole : {X : Type 0} (xs ys : List X) (n : ℕ) → length xs ≡ n → take n (xs ++ drop (length xs) ys) ≡ xs
 whole xs ys n long = ap (λ m. take m (xs ++ drop (length xs) ys)) (sym long) ∙ take-append_seam xs (drop (length xs) ys)
+
+position_past : (place : Option Place) (boards : List (Option Place)) → has_board boards place ≡ false
+    → position_or_len (option_eq place_eq place) boards ≡ length boards
+position_past place [] none = refl
+position_past place (board ∷ boards) none =
+    let parts = or_parts (option_eq place_eq place board) (has_board boards place) none in
+    let rest = position_past place boards parts.1 in
+    let one_more : 1 + position_or_len (option_eq place_eq place) boards ≡ length (board ∷ boards) = omega (arith, rest) in
+    ap (λ (same : Bool). cond (not same) (1 + position_or_len (option_eq place_eq place) boards) 0) parts.0 ∙ one_more
+
+-- a board that is not kept would be the next
+pub next_index_is : (boards : List (Option Place)) (place : Option Place) (index : ℕ) → None ≡ index_of boards place → index ≡ length boards + 1
+    → index ≡ index_in boards place
+next_index_is boards place index none is = is ∙ ap (λ n. n + 1) (sym (position_past place boards (by (has_board boards place) none)))
+  where
+    by : (has : Bool) → None ≡ cond has (Some (index_in boards place)) None → has ≡ false
+    by true none = absurd (cc)
+    by false none = refl

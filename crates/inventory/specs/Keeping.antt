@@ -1,5 +1,5 @@
 -- Lists of boards as they are kept, with the room that they have.
-use Rattle.std.specs.Prelude.{ℕ, ◌<◌, ◌+◌, ◌≤◌, List, map, Option, slice_index_or, length}
+use Rattle.std.specs.Prelude.{ℕ, ◌<◌, ◌+◌, ◌≤◌, ⊤, List, [], map, Option, Some, None, slice_index_or, length}
 use Rattle.std.specs.List.{All}
 use Rattle.indexmap.specs.IndexSet.{IndexSet, spare}
 use Rattle.bmc_base.specs.Places.{Place}
@@ -9,7 +9,7 @@ use Rattle.inventory.specs.Differences.{places_of}
 
 -- how many boards a list has at the most
 abbrev pub most_boards : ℕ
-most_boards = 4294967295
+most_boards = 4294967294
 
 -- the boards of each list
 abbrev pub keys_of : {S : Type 0} → List (IndexSet (Option Place) S) → List (List (Option Place))
@@ -31,3 +31,21 @@ AreListed keys count = All (λ (key : BoardKey). key.config < count) keys
 pub record IsReady {S : Type 0} (keys : List BoardKey) (lists : List (IndexSet (Option Place) S)) (number : ℕ) : Type 0 where
   pub room : length (places_of number keys) ≤ room_of lists number
   pub few : length (kept_of (keys_of lists) number) + length (places_of number keys) ≤ most_boards
+
+-- what is seen of a keep: the boards that are kept of each configuration, and those that are staged to be kept
+pub record Keep : Type 0 where
+  pub kept : List (List (Option Place))
+  pub staged : Option (List BoardKey)
+
+abbrev pub no_keep : Keep
+no_keep = record { kept = []; staged = None }
+
+-- there is room for the boards that are staged
+abbrev pub HasRoom : {S : Type 0} → Option (List BoardKey) → List (IndexSet (Option Place) S) → Type 0
+HasRoom None lists = ⊤
+HasRoom (Some keys) lists = AreListed keys (length lists) × ((number : ℕ) → number < length lists → IsReady keys lists number)
+
+-- what holds inside a keep
+pub record IsSound {S : Type 0} (staged : Option (List BoardKey)) (lists : List (IndexSet (Option Place) S)) : Type 0 where
+  pub few : AreFew (keys_of lists)
+  pub room : HasRoom staged lists

@@ -1,35 +1,34 @@
-ghost use Rattle.std.specs.Prelude.{◌≡◌, ◌+◌, ◌<◌, ◌≤◌, ◌==◌, if◌then◌else◌, [], ℕ, filter, length, nat_eq, slice_set, IfOk, OnOk, OnErr};
+ghost use Rattle.std.specs.Prelude.{◌≡◌, ◌+◌, ◌<◌, ◌≤◌, ◌==◌, if◌then◌else◌, [], ℕ, filter, length, nat_eq, slice_set, None, Some, ⊤, IfOk, OnOk, OnErr, IsSomeAnd};
 ghost use Rattle.indexmap.specs.IndexSet.{spare};
-ghost use Rattle.inventory.specs.Indexes.{kept_of, with_board, with_boards, index_of};
+ghost use Rattle.inventory.specs.Indexes.{kept_of, with_board, with_boards, index_of, index_in};
 ghost use Rattle.inventory.specs.Differences.{places_of};
-ghost use Rattle.inventory.specs.Keeping.{keys_of, room_of, AreFew, AreListed, IsReady, most_boards};
+ghost use Rattle.inventory.specs.Keeping.{keys_of, room_of, no_keep, AreFew, AreListed, IsReady, most_boards};
 
-use crate::BoardKey;
+use crate::{BoardKey, BoardKeys};
 use bmc_base::{OutOfMemory, Place};
 use indexmap::IndexSet;
 use std::alloc::Global;
 use std::marker::Model;
 
-// How many boards a list has at the most, so that each index fits.
-const MOST_BOARDS: usize = u32::MAX as usize;
+// How many boards a list has at the most, so that each index fits, also the next one.
+const MOST_BOARDS: usize = u32::MAX as usize - 1;
 
 /// The boards that each configuration ever had, in the order in which they came, which gives them their
-/// indexes.
+/// indexes. Boards can be staged, so that keeping them takes no memory.
 #[derive(Drop)]
 pub struct IndexKeep {
     lists: Vec<IndexSet<Option<Place>>>,
+    staged: Option<BoardKeys>,
 }
 
 impl Model for IndexKeep {
-    ghost use Rattle.std.specs.Prelude.{List, Option};
-    ghost use Rattle.bmc_base.specs.Places.{Place};
-    ghost use Rattle.inventory.specs.Keeping.{keys_of, AreFew};
+    ghost use Rattle.inventory.specs.Keeping.{Keep, IsSound, keys_of};
 
-    ghost Value = { List (List (Option Place)) };
+    ghost Value = { Keep };
 
-    ghost view = { λ k. keys_of k.lists.items };
+    ghost view = { λ k. record { kept = keys_of k.lists.items; staged = k.staged } };
 
-    ghost invariant = { λ k. AreFew (keys_of k.lists.items) };
+    ghost invariant = { λ k. IsSound k.staged k.lists.items };
 }
 
 // Returns how many lists it takes that each of these keys has one.
@@ -121,6 +120,16 @@ fn keep_boards(lists: &mut [IndexSet<Option<Place>>], keys: &[BoardKey])
     }
 }
 
+// Keeps the boards of these keys, for which there is room, so that each index fits.
+fn keep_staged(lists: &mut [IndexSet<Option<Place>>], keys: &[BoardKey])
+    requires listed { AreListed keys.now (length lists.old) }
+    requires room { (number : ℕ) → number < length lists.old → IsReady keys.now lists.old number }
+    ensures kept { (number : ℕ) → kept_of (keys_of lists.new) number ≡ with_boards (kept_of (keys_of lists.old) number) (places_of number keys.now) }
+    ensures few { AreFew (keys_of lists.new) }
+{
+    keep_boards(lists, keys);
+}
+
 // Keeps the boards of these keys, each behind the others in its list if it is not kept yet, or changes nothing.
 fn extend_lists(
     lists: &mut [IndexSet<Option<Place>>],
@@ -145,35 +154,92 @@ fn index_in_list(list: &IndexSet<Option<Place>>, place: Option<Place>) -> Option
     Some(at as u32 + 1)
 }
 
+// Returns the index of a board in the list of its configuration, or the next one.
+#[tactic(auto, using(crate::proofs::KeepingLemmas::next_index_is))]
+fn next_index(list: &IndexSet<Option<Place>>, place: Option<Place>) -> u32
+    requires { length list.now.keys ≤ most_boards }
+    ensures { result ≡ index_in list.now.keys place }
+{
+    index_in_list(list, place).unwrap_or(list.len() as u32 + 1)
+}
+
 impl IndexKeep {
     /// Returns a keep of no boards.
     pub fn new(alloc: Global) -> Result<IndexKeep, OutOfMemory>
-        ensures { IfOk result (λ keep. keep ≡ []) }
+        ensures { IfOk result (λ keep. keep ≡ no_keep) }
     {
         Ok(IndexKeep {
             lists: Vec::new(alloc),
+            staged: None,
         })
     }
 
-    /// Keeps the boards of these keys, each behind the others of its configuration if it is not kept yet. For
-    /// want of memory, or where a configuration would have more boards than a `u32` counts, nothing changes.
+    /// Keeps the boards of these keys, each behind the others of its configuration if it is not kept yet, and
+    /// discards what is staged. For want of memory, or where a configuration would have more boards than a `u32`
+    /// counts, none is kept.
     pub fn extend(&mut self, alloc: Global, keys: &[BoardKey]) -> Result<(), OutOfMemory>
-        ensures ok { OnOk result ((number : ℕ) → kept_of self.new number ≡ with_boards (kept_of self.old number) (places_of number keys.now)) }
-        ensures err { OnErr result ((number : ℕ) → kept_of self.new number ≡ kept_of self.old number) }
+        ensures ok { OnOk result ((number : ℕ) → kept_of self.new.kept number ≡ with_boards (kept_of self.old.kept number) (places_of number keys.now)) }
+        ensures err { OnErr result ((number : ℕ) → kept_of self.new.kept number ≡ kept_of self.old.kept number) }
+        ensures staged { self.new.staged ≡ None }
     {
+        self.staged = None;
         add_lists(alloc, &mut self.lists, list_count(keys))?;
         extend_lists(&mut self.lists, keys)
     }
 
+    /// Stages the boards of these keys in place of what is staged, so that [`commit`](IndexKeep::commit) takes no
+    /// memory. What is kept stays. For want of memory, or where a configuration would have more boards than a
+    /// `u32` counts, nothing is staged.
+    pub fn stage(&mut self, alloc: Global, keys: BoardKeys) -> Result<(), OutOfMemory>
+        ensures kept { (number : ℕ) → kept_of self.new.kept number ≡ kept_of self.old.kept number }
+        ensures ok { OnOk result (self.new.staged ≡ Some keys) }
+        ensures err { OnErr result (self.new.staged ≡ None) }
+    {
+        self.staged = None;
+        add_lists(alloc, &mut self.lists, list_count(keys.as_slice()))?;
+        reserve_lists(&mut self.lists, keys.as_slice())?;
+        self.staged = Some(keys);
+        Ok(())
+    }
+
+    /// Keeps the boards that are staged, each behind the others of its configuration if it is not kept yet, and
+    /// returns their keys. Takes no memory.
+    pub fn commit(&mut self) -> BoardKeys
+        requires { IsSomeAnd self.old.staged (λ _. ⊤) }
+        ensures keys { self.old.staged ≡ Some result }
+        ensures kept { (number : ℕ) → kept_of self.new.kept number ≡ with_boards (kept_of self.old.kept number) (places_of number result) }
+        ensures staged { self.new.staged ≡ None }
+    {
+        match self.staged.take() {
+            Some(keys) => {
+                keep_staged(&mut self.lists, keys.as_slice());
+                keys
+            }
+            None => unreachable!(),
+        }
+    }
+
     /// Returns the index of a board, from 1, if it is kept.
     pub fn index_of(&self, key: &BoardKey) -> Option<u32>
-        ensures { result ≡ index_of (kept_of self.now key.now.config) key.now.place }
+        ensures { result ≡ index_of (kept_of self.now.kept key.now.config) key.now.place }
     {
         let number = key.config as usize;
         if number < self.lists.len() {
             index_in_list(&self.lists[number], key.place)
         } else {
             None
+        }
+    }
+
+    /// Returns the index of a board that is kept, from 1, or the one that it would get next.
+    pub fn index(&self, key: &BoardKey) -> u32
+        ensures { result ≡ index_in (kept_of self.now.kept key.now.config) key.now.place }
+    {
+        let number = key.config as usize;
+        if number < self.lists.len() {
+            next_index(&self.lists[number], key.place)
+        } else {
+            1
         }
     }
 }

@@ -11,4 +11,4 @@ index_in_list-requires c =
     let within : number < length lists = omega arith in
     let list : c.index.result.now.keys ≡ kept_of (keys_of lists) number =
     ap (λ it. it.keys) c.index.ensures ∙ sym (get_or-map (λ it. it.keys) lists number c.index.result.now [] within) in
-    omega (arith, c.self.invariant number, ap length list)
+    omega (arith, c.self.invariant.few number, ap length list)
