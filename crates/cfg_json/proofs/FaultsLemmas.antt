@@ -1,5 +1,5 @@
 -- Faults of a part are faults of the whole.
-use Rattle.std.proofs.Common.{◌≡◌, List, ◌∙◌, Result, Ok, Err, refl, sym, ap, subst}
+use Rattle.std.proofs.Common.{◌≡◌, List, ◌∙◌, Result, Ok, Err, sym, ap, subst}
 use Rattle.std.specs.Result.{IsErrAnd}
 use Rattle.std.specs.Borrow.{Bor}
 use Rattle.serde_json.specs.Data.{Data}

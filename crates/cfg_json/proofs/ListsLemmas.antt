@@ -10,7 +10,7 @@ use Rattle.serde_json.specs.View.{items_of, view}
 use Rattle.serde_json.specs.declared.value.Value.{Value}
 use Rattle.cfg_json.specs.declared.config_fault.ConfigFault.{ConfigFault}
 use Rattle.cfg_json.specs.declared.config_fault.ConfigFault.TheVariants.{OutOfRange}
-use Rattle.cfg_json.specs.Values.{◌>>=◌, list_of, list_within, with_length, each}
+use Rattle.cfg_json.specs.Values.{◌>>=◌, list_of, list_within, each}
 
 -- the items of a list are its elements
 pub list_of_items : (elements : List Data) → list_of (items_of elements) ≡ elements

@@ -4,7 +4,6 @@ use Rattle.std.specs.List.{All, Contains, flat_map}
 use Rattle.std.specs.Result.{IsErrAnd}
 use Rattle.std.specs.Global.{Vec}
 use Rattle.std.proofs.lemmas.List.{take-append-drop, take_more, drop_more}
-use Rattle.std.proofs.lemmas.List.Concat.{flat_map-cons}
 use Rattle.std.proofs.lemmas.List.Elements.{All-append, Contains-append_left, Contains-append_right}
 use Rattle.std.proofs.lemmas.Grind.{flat_map-append}
 use Rattle.pat_gate.specs.Grammar.{IsPattern}
@@ -24,9 +23,9 @@ text_of_all : (patterns : List (List Member)) (number : ℕ) (pattern : List Mem
     → pattern ≡ get_or patterns number pattern → Contains (texts_of pattern) text → Contains (flat_map texts_of patterns) text
 text_of_all patterns number pattern text less here has =
     let parts : flat_map texts_of patterns ≡ flat_map texts_of (take number patterns) ++ (texts_of pattern ++ flat_map texts_of (drop (number + 1) patterns)) =
-      ap (flat_map texts_of) (sym (take-append-drop number patterns) ∙ ap (λ rest. take number patterns ++ rest)
-      (drop_more patterns number pattern less ∙ ap (λ first. first ∷ drop (number + 1) patterns) (sym here)))
-      ∙ flat_map-append texts_of (take number patterns) (pattern ∷ drop (number + 1) patterns) in
+    ap (flat_map texts_of) (sym (take-append-drop number patterns) ∙ ap (λ rest. take number patterns ++ rest)
+    (drop_more patterns number pattern less ∙ ap (λ first. first ∷ drop (number + 1) patterns) (sym here)))
+    ∙ flat_map-append texts_of (take number patterns) (pattern ∷ drop (number + 1) patterns) in
     rw parts (Contains-append_right (flat_map texts_of (take number patterns)) _ text (Contains-append_left (texts_of pattern) _ text has))
 
 -- a pattern more is made
@@ -40,8 +39,8 @@ pub one_read : (patterns : List (List Member)) (number : ℕ) (pattern : List Me
     → All IsPattern (flat_map texts_of (take number patterns)) → All IsPattern (texts_of pattern) → All IsPattern (flat_map texts_of (take (number + 1) patterns))
 one_read patterns number pattern less here before reads =
     let more : flat_map texts_of (take (number + 1) patterns) ≡ flat_map texts_of (take number patterns) ++ texts_of pattern =
-      ap (flat_map texts_of) (take_more patterns number pattern less ∙ ap (λ last. take number patterns ++ last ∷ []) (sym here))
-      ∙ flat_map-append texts_of (take number patterns) (pattern ∷ []) ∙ ap (λ last. flat_map texts_of (take number patterns) ++ last) (append-nil (texts_of pattern)) in
+    ap (flat_map texts_of) (take_more patterns number pattern less ∙ ap (λ last. take number patterns ++ last ∷ []) (sym here))
+    ∙ flat_map-append texts_of (take number patterns) (pattern ∷ []) ∙ ap (λ last. flat_map texts_of (take number patterns) ++ last) (append-nil (texts_of pattern)) in
     rw more (All-append IsPattern (flat_map texts_of (take number patterns)) (texts_of pattern) before reads)
 
 -- the fault of a pattern, as a configuration's

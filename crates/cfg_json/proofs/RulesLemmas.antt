@@ -1,6 +1,6 @@
 -- Reading a document names no pattern: that is left to compiling them.
 use Rattle.std.specs.Prelude.{⊤}
-use Rattle.std.proofs.Common.{◌≡◌, ◌&&◌, ℕ, Bool, true, false, nat_eq, nat_le, if◌then◌else◌, List, [], ◌∷◌, length, codes, Option, Some, None, Result, Ok, Err}
+use Rattle.std.proofs.Common.{◌&&◌, ℕ, Bool, true, false, nat_eq, nat_le, if◌then◌else◌, List, [], ◌∷◌, length, codes, Option, Some, None, Result, Ok, Err}
 use Rattle.std.specs.Prelude.{bytes_eq}
 use Rattle.std.specs.List.{list_any}
 use Rattle.bmc_base.specs.Names.{longest_name}
@@ -10,7 +10,7 @@ use Rattle.serde_json.specs.Find.{get}
 use Rattle.serde_json.specs.Written.{has_float}
 use Rattle.probe_lang.specs.Grammar.{Parsed, probe_of, most_texts}
 use Rattle.cfg_json.specs.declared.config_fault.ConfigFault.{ConfigFault}
-use Rattle.cfg_json.specs.declared.config_fault.ConfigFault.TheVariants.{NotJson, Fraction, MissingKey, WrongKind, OutOfRange, ProbeSyntax, ExposeForm, PatternSyntax, PatternTooLarge, OutOfMemory}
+use Rattle.cfg_json.specs.declared.config_fault.ConfigFault.TheVariants.{Fraction, OutOfRange, ExposeForm, PatternSyntax, PatternTooLarge}
 use Rattle.cfg_json.specs.Values.{◌>>=◌, required, text_only, object_only, list_of, list_only, with_length, short_text, each}
 use Rattle.cfg_json.specs.Probes.{probe_texts, by_grammar, probe_in}
 use Rattle.cfg_json.specs.Exposes.{expose_name, bus_of, channel_of, channels_of, body_of, expose_of, exposes_of, most_channels, most_exposes, longest_expose_name}

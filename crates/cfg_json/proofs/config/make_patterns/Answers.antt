@@ -1,5 +1,5 @@
 -- A pattern more, or the fault of one.
-use Rattle.std.proofs.Common.{rules, ◌∙◌}
+use Rattle.std.proofs.Common.{◌∙◌}
 use Rattle.cfg_json.proofs.ReadingsLemmas.{one_made, one_read, one_refused}
 use Rattle.cfg_json.proofs.config.make_patterns.Goals as goal
 
