@@ -1,11 +1,12 @@
 -- Faults of a part are faults of the whole.
-use Rattle.std.proofs.Common.{◌≡◌, List, ◌∙◌, Result, Ok, Err, refl, sym, ap, subst}
+use Rattle.std.proofs.Common.{◌≡◌, List, ◌∙◌, Result, Ok, Err, sym, ap, subst}
 use Rattle.std.specs.Result.{IsErrAnd}
 use Rattle.std.specs.Borrow.{Bor}
 use Rattle.serde_json.specs.Data.{Data}
 use Rattle.serde_json.specs.declared.value.Value.{Value}
 use Rattle.cfg_json.specs.declared.config_fault.ConfigFault.{ConfigFault}
-use Rattle.cfg_json.specs.declared.config_fault.ConfigFault.TheVariants.{NotJson, Fraction, MissingKey, WrongKind, OutOfRange, ProbeSyntax, ExposeForm, PatternSyntax, PatternTooLarge, OutOfMemory}
+use Rattle.cfg_json.specs.declared.config_fault.ConfigFault.TheVariants.{NotJson, Fraction, MissingKey, WrongKind, OutOfRange}
+use Rattle.cfg_json.specs.declared.config_fault.ConfigFault.TheVariants.{ProbeSyntax, ExposeForm, PatternSyntax, PatternTooLarge, OutOfMemory}
 use Rattle.cfg_json.specs.Readings.{Gives, GivesFault, GivesList}
 
 -- a fault that a part gives for sure

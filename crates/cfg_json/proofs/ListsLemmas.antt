@@ -1,6 +1,6 @@
 -- Lists of a document: their elements, their lengths, and reading each in turn.
 use Rattle.std.specs.Prelude.{⊤}
-use Rattle.std.proofs.Common.{◌≡◌, ◌&&◌, ℕ, List, [], ◌∷◌, ◌++◌, length, map, nat_le, if◌then◌else◌, true, false, Result, Ok, Err, refl, ap, sym, append_assoc}
+use Rattle.std.proofs.Common.{◌≡◌, ◌&&◌, ℕ, List, [], ◌∷◌, ◌++◌, length, map, nat_le, if◌then◌else◌, true, false, Result, Ok, Err, refl, ap}
 use Rattle.std.proofs.lemmas.List.{length-map}
 use Rattle.serde_json.specs.Data.{Data}
 use Rattle.serde_json.proofs.Views.{view-Array}
@@ -10,7 +10,7 @@ use Rattle.serde_json.specs.View.{items_of, view}
 use Rattle.serde_json.specs.declared.value.Value.{Value}
 use Rattle.cfg_json.specs.declared.config_fault.ConfigFault.{ConfigFault}
 use Rattle.cfg_json.specs.declared.config_fault.ConfigFault.TheVariants.{OutOfRange}
-use Rattle.cfg_json.specs.Values.{◌>>=◌, list_of, list_within, with_length, each}
+use Rattle.cfg_json.specs.Values.{◌>>=◌, list_of, list_within}
 
 -- the items of a list are its elements
 pub list_of_items : (elements : List Data) → list_of (items_of elements) ≡ elements
@@ -30,18 +30,3 @@ list_checked least most value items elements checked e same length_checked =
 -- what was read so far, and what reading the rest gives
 abbrev pub after : {B : Type 0} → List B → Result (List B) ConfigFault → Result (List B) ConfigFault
 after so_far rest = rest >>= λ later. Ok (so_far ++ later)
-
-pub after_more : {B : Type 0} (so_far : List B) (first : B) (rest : Result (List B) ConfigFault)
-    → after so_far (rest >>= λ later. Ok (first ∷ later)) ≡ after (so_far ++ first ∷ []) rest
-after_more so_far first (Ok later) = ap Ok (sym (append_assoc so_far (first ∷ []) later))
-after_more so_far first (Err fault) = refl
-
--- an element that is read joins what was read so far
-pub each_more : {A B : Type 0} (read : A → Result B ConfigFault) (so_far : List B) (value : A) (values : List A) (first : B)
-    → read value ≡ Ok first → after so_far (each read (value ∷ values)) ≡ after (so_far ++ first ∷ []) (each read values)
-each_more read so_far value values first e = rw e (after_more so_far first (each read values))
-
--- an element that is refused decides
-pub each_fault : {A B : Type 0} (read : A → Result B ConfigFault) (so_far : List B) (value : A) (values : List A) (fault : ConfigFault)
-    → read value ≡ Err fault → after so_far (each read (value ∷ values)) ≡ Err fault
-each_fault read so_far value values fault e = rw e refl

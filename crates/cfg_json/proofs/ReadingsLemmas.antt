@@ -4,7 +4,6 @@ use Rattle.std.specs.List.{All, Contains, flat_map}
 use Rattle.std.specs.Result.{IsErrAnd}
 use Rattle.std.specs.Global.{Vec}
 use Rattle.std.proofs.lemmas.List.{take-append-drop, take_more, drop_more}
-use Rattle.std.proofs.lemmas.List.Concat.{flat_map-cons}
 use Rattle.std.proofs.lemmas.List.Elements.{All-append, Contains-append_left, Contains-append_right}
 use Rattle.std.proofs.lemmas.Grind.{flat_map-append}
 use Rattle.pat_gate.specs.Grammar.{IsPattern}
@@ -14,7 +13,8 @@ use Rattle.probe_lang.specs.declared.pattern_text.Member.{Member}
 use Rattle.probe_lang.specs.declared.pattern.PatternFault.{PatternFault}
 use Rattle.probe_lang.specs.declared.pattern.PatternFault.TheVariants as faults
 use Rattle.cfg_json.specs.declared.config_fault.ConfigFault.{ConfigFault}
-use Rattle.cfg_json.specs.declared.config_fault.ConfigFault.TheVariants.{NotJson, Fraction, MissingKey, WrongKind, OutOfRange, ProbeSyntax, ExposeForm, PatternSyntax, PatternTooLarge, OutOfMemory}
+use Rattle.cfg_json.specs.declared.config_fault.ConfigFault.TheVariants.{NotJson, Fraction, MissingKey, WrongKind, OutOfRange}
+use Rattle.cfg_json.specs.declared.config_fault.ConfigFault.TheVariants.{ProbeSyntax, ExposeForm, PatternSyntax, PatternTooLarge, OutOfMemory}
 use Rattle.cfg_json.specs.Configs.{Config}
 use Rattle.cfg_json.specs.Readings.{MakesPatterns, GivesFault, GivesConfig, pattern_rule}
 use Rattle.cfg_json.proofs.RulesLemmas.{NamesNoPattern}
@@ -24,24 +24,27 @@ text_of_all : (patterns : List (List Member)) (number : ℕ) (pattern : List Mem
     → pattern ≡ get_or patterns number pattern → Contains (texts_of pattern) text → Contains (flat_map texts_of patterns) text
 text_of_all patterns number pattern text less here has =
     let parts : flat_map texts_of patterns ≡ flat_map texts_of (take number patterns) ++ (texts_of pattern ++ flat_map texts_of (drop (number + 1) patterns)) =
-      ap (flat_map texts_of) (sym (take-append-drop number patterns) ∙ ap (λ rest. take number patterns ++ rest)
-      (drop_more patterns number pattern less ∙ ap (λ first. first ∷ drop (number + 1) patterns) (sym here)))
-      ∙ flat_map-append texts_of (take number patterns) (pattern ∷ drop (number + 1) patterns) in
+    ap (flat_map texts_of) (sym (take-append-drop number patterns) ∙ ap (λ rest. take number patterns ++ rest)
+    (drop_more patterns number pattern less ∙ ap (λ first. first ∷ drop (number + 1) patterns) (sym here)))
+    ∙ flat_map-append texts_of (take number patterns) (pattern ∷ drop (number + 1) patterns) in
     rw parts (Contains-append_right (flat_map texts_of (take number patterns)) _ text (Contains-append_left (texts_of pattern) _ text has))
 
 -- a pattern more is made
-pub one_made : (patterns : List (List Member)) (number : ℕ) (pattern made : List Member) (before : List (List Member)) {after : List (List Member)} → number < length patterns
-    → pattern ≡ get_or patterns number pattern → before ≡ take number patterns → after ≡ before ++ made ∷ [] → made ≡ pattern → after ≡ take (number + 1) patterns
+pub one_made : (patterns : List (List Member)) (number : ℕ) (pattern made : List Member) (before : List (List Member)) {after : List (List Member)}
+    → number < length patterns → pattern ≡ get_or patterns number pattern → before ≡ take number patterns → after ≡ before ++ made ∷ [] → made ≡ pattern
+    → after ≡ take (number + 1) patterns
 one_made patterns number pattern made before less here so_far pushed same =
     rw (pushed, so_far, same) (sym (take_more patterns number pattern less ∙ ap (λ last. take number patterns ++ last ∷ []) (sym here)))
 
 -- the grammar reads the texts of a pattern more
 pub one_read : (patterns : List (List Member)) (number : ℕ) (pattern : List Member) → number < length patterns → pattern ≡ get_or patterns number pattern
-    → All IsPattern (flat_map texts_of (take number patterns)) → All IsPattern (texts_of pattern) → All IsPattern (flat_map texts_of (take (number + 1) patterns))
+    → All IsPattern (flat_map texts_of (take number patterns)) → All IsPattern (texts_of pattern)
+    → All IsPattern (flat_map texts_of (take (number + 1) patterns))
 one_read patterns number pattern less here before reads =
     let more : flat_map texts_of (take (number + 1) patterns) ≡ flat_map texts_of (take number patterns) ++ texts_of pattern =
-      ap (flat_map texts_of) (take_more patterns number pattern less ∙ ap (λ last. take number patterns ++ last ∷ []) (sym here))
-      ∙ flat_map-append texts_of (take number patterns) (pattern ∷ []) ∙ ap (λ last. flat_map texts_of (take number patterns) ++ last) (append-nil (texts_of pattern)) in
+    ap (flat_map texts_of) (take_more patterns number pattern less ∙ ap (λ last. take number patterns ++ last ∷ []) (sym here))
+    ∙ flat_map-append texts_of (take number patterns) (pattern ∷ [])
+    ∙ ap (λ last. flat_map texts_of (take number patterns) ++ last) (append-nil (texts_of pattern)) in
     rw more (All-append IsPattern (flat_map texts_of (take number patterns)) (texts_of pattern) before reads)
 
 -- the fault of a pattern, as a configuration's
@@ -83,7 +86,8 @@ document_refused maker fault read (Err other) rules e gives =
 
 -- a fault of a pattern is the configuration's
 pub patterns_refused : (old new : Maker) (config : Config) (patterns : List (List Member)) (fault : ConfigFault) (read result : Result Config ConfigFault)
-    → read ≡ Ok config → patterns ≡ config.patterns → MakesPatterns old new patterns (Err fault) → IsErrAnd result (λ other. other ≡ fault) → GivesConfig old new result read
+    → read ≡ Ok config → patterns ≡ config.patterns → MakesPatterns old new patterns (Err fault) → IsErrAnd result (λ other. other ≡ fault)
+    → GivesConfig old new result read
 patterns_refused old new config patterns fault read (Ok other) reads same makes e = absurd e
 patterns_refused old new config patterns fault read (Err other) reads same makes e =
     subst (λ fault. GivesConfig old new (Err fault) read) (sym e) (subst (λ read. GivesConfig old new (Err fault) read) (sym reads)

@@ -1,6 +1,6 @@
 -- Reading a document names no pattern: that is left to compiling them.
 use Rattle.std.specs.Prelude.{⊤}
-use Rattle.std.proofs.Common.{◌≡◌, ◌&&◌, ℕ, Bool, true, false, nat_eq, nat_le, if◌then◌else◌, List, [], ◌∷◌, length, codes, Option, Some, None, Result, Ok, Err}
+use Rattle.std.proofs.Common.{◌&&◌, ℕ, Bool, true, false, nat_eq, nat_le, if◌then◌else◌, List, [], ◌∷◌, length, codes, Option, Some, None, Result, Ok, Err}
 use Rattle.std.specs.Prelude.{bytes_eq}
 use Rattle.std.specs.List.{list_any}
 use Rattle.bmc_base.specs.Names.{longest_name}
@@ -10,10 +10,11 @@ use Rattle.serde_json.specs.Find.{get}
 use Rattle.serde_json.specs.Written.{has_float}
 use Rattle.probe_lang.specs.Grammar.{Parsed, probe_of, most_texts}
 use Rattle.cfg_json.specs.declared.config_fault.ConfigFault.{ConfigFault}
-use Rattle.cfg_json.specs.declared.config_fault.ConfigFault.TheVariants.{NotJson, Fraction, MissingKey, WrongKind, OutOfRange, ProbeSyntax, ExposeForm, PatternSyntax, PatternTooLarge, OutOfMemory}
+use Rattle.cfg_json.specs.declared.config_fault.ConfigFault.TheVariants.{Fraction, OutOfRange, ExposeForm, PatternSyntax, PatternTooLarge}
 use Rattle.cfg_json.specs.Values.{◌>>=◌, required, text_only, object_only, list_of, list_only, with_length, short_text, each}
 use Rattle.cfg_json.specs.Probes.{probe_texts, by_grammar, probe_in}
-use Rattle.cfg_json.specs.Exposes.{expose_name, bus_of, channel_of, channels_of, body_of, expose_of, exposes_of, most_channels, most_exposes, longest_expose_name}
+use Rattle.cfg_json.specs.Exposes.{expose_name, bus_of, channel_of, channels_of, body_of, expose_of, exposes_of}
+use Rattle.cfg_json.specs.Exposes.{most_channels, most_exposes, longest_expose_name}
 use Rattle.cfg_json.specs.Documents.{config_in, config_of}
 
 -- a fault that names no pattern
@@ -31,12 +32,14 @@ then_none : {A B : Type 0} (part : Result A ConfigFault) (next : A → Result B 
 then_none (Ok value) next none later = later value
 then_none (Err fault) next none later = none
 
-each_none : {A B : Type 0} (read : A → Result B ConfigFault) → ((value : A) → NamesNoPattern (read value)) → (values : List A) → NamesNoPattern (each read values)
+each_none : {A B : Type 0} (read : A → Result B ConfigFault) → ((value : A) → NamesNoPattern (read value)) → (values : List A)
+    → NamesNoPattern (each read values)
 each_none read none [] = tt
 each_none read none (value ∷ values) =
     then_none (read value) _ (none value) (λ first. then_none (each read values) _ (each_none read none values) (λ later. tt))
 
-where_none : {A : Type 0} (b : Bool) (part other : Result A ConfigFault) → NamesNoPattern part → NamesNoPattern other → NamesNoPattern (if b then part else other)
+where_none : {A : Type 0} (b : Bool) (part other : Result A ConfigFault) → NamesNoPattern part → NamesNoPattern other
+    → NamesNoPattern (if b then part else other)
 where_none true part other none none_else = none
 where_none false part other none none_else = none_else
 

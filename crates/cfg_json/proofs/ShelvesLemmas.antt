@@ -52,6 +52,7 @@ configs_of_more config entries = map-append (λ entry. entry.1) entries ((config
 pub AreNamed_more : (config : Config) (entries : Entries) → AreNamed entries → AreNamed (entries ++ (config.name, config) ∷ [])
 AreNamed_more config entries named = rw (map-append, map-append, named) refl
 
-pub few_more : (config : Config) (entries : Entries) → length (configs_of entries) < most_configs → length (entries ++ (config.name, config) ∷ []) ≤ most_configs
+pub few_more : (config : Config) (entries : Entries) → length (configs_of entries) < most_configs
+    → length (entries ++ (config.name, config) ∷ []) ≤ most_configs
 few_more config entries few =
     omega (arith, few, length-map entries (λ (entry : List ℕ × Config). entry.1), length-append entries ((config.name, config) ∷ []))

@@ -1,13 +1,14 @@
 -- Answers as verdicts.
 use Rattle.std.proofs.Common.{◌≡◌, List, ℕ, ◌++◌, [], Result, Ok, Err, refl, ap, sym, subst, ◌∙◌}
 use Rattle.std.proofs.lemmas.List.{append-nil}
-use Rattle.pat_gate.specs.Makers.{Maker, with_refused}
+use Rattle.pat_gate.specs.Makers.{Maker}
 use Rattle.pat_gate.specs.Grammar.{IsBad}
 use Rattle.cfg_json.specs.Configs.{Config}
 use Rattle.cfg_json.specs.Readings.{GivesConfig, HasText}
-use Rattle.cfg_json.specs.Verdicts.{Verdict, Accepted, BadPattern, LargePattern, TiedToReading, large_in, verdict_of}
+use Rattle.cfg_json.specs.Verdicts.{Accepted, BadPattern, LargePattern, TiedToReading, large_in, verdict_of}
 use Rattle.cfg_json.specs.declared.config_fault.ConfigFault.{ConfigFault}
-use Rattle.cfg_json.specs.declared.config_fault.ConfigFault.TheVariants.{NotJson, Fraction, MissingKey, WrongKind, OutOfRange, ProbeSyntax, ExposeForm, PatternSyntax, PatternTooLarge, OutOfMemory}
+use Rattle.cfg_json.specs.declared.config_fault.ConfigFault.TheVariants.{NotJson, Fraction, MissingKey, WrongKind, OutOfRange}
+use Rattle.cfg_json.specs.declared.config_fault.ConfigFault.TheVariants.{ProbeSyntax, ExposeForm, PatternSyntax, PatternTooLarge, OutOfMemory}
 
 same_list : (old new : Maker) → new ≡ old → new.refused ≡ old.refused ++ []
 same_list old new same = ap (λ (maker : Maker). maker.refused) same ∙ sym (append-nil old.refused)

@@ -1,5 +1,5 @@
 -- What a maker says of the patterns of a configuration that breaks no other rule.
-use Rattle.std.specs.Prelude.{ℕ, ◌≡◌, ⊤, List, [], ◌∷◌, ◌++◌, Result, Ok, Err}
+use Rattle.std.specs.Prelude.{ℕ, ◌≡◌, List, [], ◌∷◌, Result, Ok, Err}
 use Rattle.std.specs.List.{All, Contains}
 use Rattle.pat_gate.specs.Grammar.{IsPattern, IsBad}
 use Rattle.cfg_json.specs.Configs.{Config, pattern_texts}

@@ -7,7 +7,7 @@ use std::alloc::Global;
 use std::str;
 
 // Reads the document of bytes.
-#[tactic(auto, using(crate::proofs::DocumentsLemmas::document_of_text, crate::proofs::DocumentsLemmas::document_of_other), unfolding(crate::specs::Documents::config_of))]
+#[tactic(auto, using(crate::proofs::DocumentsLemmas::of_text, crate::proofs::DocumentsLemmas::of_other), unfolding(crate::specs::Documents::config_of))]
 pub(crate) fn read_document(alloc: Global, bytes: &[u8]) -> Result<Value, ConfigFault>
     ensures { GivesDocument result (document_of bytes.now) }
 {

@@ -12,6 +12,8 @@ mod fraction;
 mod law;
 mod probe_texts;
 mod shelf;
+#[cfg(test)]
+mod tests;
 mod values;
 
 pub use config::Config;

@@ -1,5 +1,5 @@
 -- A pattern more, or the fault of one.
-use Rattle.std.proofs.Common.{rules, ◌∙◌}
+use Rattle.std.proofs.Common.{◌∙◌}
 use Rattle.cfg_json.proofs.ReadingsLemmas.{one_made, one_read, one_refused}
 use Rattle.cfg_json.proofs.config.make_patterns.Goals as goal
 
@@ -10,7 +10,9 @@ returns-in_err-make g c =
 
 pub loop-text-preserved : goal.loop-text-preserved
 loop-text-preserved g c = record {
-  made = one_made c.args.texts.now c.loop-text.text-index c.text-item.result _ _ c.loop-text-test.true c.text-item.is c.loop-text.invariant.made c.in_ok-push.ensures.items c.in_ok-make.ensures.0;
-  read = one_read c.args.texts.now c.loop-text.text-index c.text-item.result c.loop-text-test.true c.text-item.is c.loop-text.invariant.read c.in_ok-make.ensures.1;
+  made = one_made c.args.texts.now c.loop-text.text-index c.text-item.result _ _ c.loop-text-test.true c.text-item.is
+      c.loop-text.invariant.made c.in_ok-push.ensures.items c.in_ok-make.ensures.0;
+  read = one_read c.args.texts.now c.loop-text.text-index c.text-item.result c.loop-text-test.true c.text-item.is
+      c.loop-text.invariant.read c.in_ok-make.ensures.1;
   same = c.in_ok-make.ensures.2 ∙ c.loop-text.invariant.same;
 }

@@ -7,7 +7,8 @@ use Rattle.cfg_json.proofs.probe_texts.read_probe.Goals as goal
 pub returns-in_err-texts-in-Array-clause-read : goal.returns-in_err-texts-in-Array-clause-read
 returns-in_err-texts-in-Array-clause-read g c =
     sure_passed_on c.in_err-texts-in-Array.field-0.0 _ c.from_residual-in_err-texts-in-Array.result c.from_residual-in_err-texts-in-Array.ensures.1
-    (bad_texts c.args.value.now c.in-Array.items c.deref.result.now c.in_err-texts-in-Array.field-0.0 c.in-Array.is c.deref.ensures.value c.in_err-texts-in-Array.ensures)
+    (bad_texts c.args.value.now c.in-Array.items c.deref.result.now c.in_err-texts-in-Array.field-0.0 c.in-Array.is
+    c.deref.ensures.value c.in_err-texts-in-Array.ensures)
 
 pub returns-in_err-parse-in-Array-clause-read : goal.returns-in_err-parse-in-Array-clause-read
 returns-in_err-parse-in-Array-clause-read g c =

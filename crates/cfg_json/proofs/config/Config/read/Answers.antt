@@ -8,7 +8,8 @@ use Rattle.cfg_json.proofs.config.Config.read.Goals as goal
 
 pub returns-in_err-name : goal.returns-in_err-name
 returns-in_err-name g c =
-    document_refused _ c.in_err-name.field-0.0 _ c.from_residual.result (document_names_none (document_of c.args.bytes.now)) c.from_residual.ensures.1 c.in_err-name.ensures
+    document_refused _ c.in_err-name.field-0.0 _ c.from_residual.result
+    (document_names_none (document_of c.args.bytes.now)) c.from_residual.ensures.1 c.in_err-name.ensures
 
 pub returns-in_err-patterns : goal.returns-in_err-patterns
 returns-in_err-patterns g c =

@@ -1,0 +1,512 @@
+use crate::{Body, Config, Expose, MOST_CONFIGS, Shelf, answers_are_verdicts};
+use bmc_base::{Name, Silent, Text};
+use pat_gate::{ListMaker, PatternMaker, RegexMaker};
+use std::alloc::Global;
+use std::process::Abort;
+use std::test::Fail;
+
+// Reads a document, whose patterns are compiled by `regex`.
+fn read(alloc: Global, document: &[u8]) -> Result<Config<Silent>, Fail> {
+    Ok(Config::read(alloc, document, &mut RegexMaker::new(alloc))?)
+}
+
+// The fault of a document as it is printed, or `Ok`.
+fn fault_of<M: PatternMaker>(
+    alloc: Global,
+    document: &[u8],
+    maker: &mut M,
+) -> Result<String, Fail> {
+    match Config::<Silent>::read(alloc, document, maker) {
+        Ok(_) => Ok(String::from_str(alloc, "Ok")?),
+        Err(fault) => Ok(format!(in alloc; "{fault:?}")?),
+    }
+}
+
+fn assert_fault(rt: &impl Abort, alloc: Global, document: &str, fault: &str) -> Result<(), Fail> {
+    let given = fault_of(alloc, document.as_bytes(), &mut RegexMaker::new(alloc))?;
+    assert_eq!(rt; given.as_str(), fault, "{document}");
+    Ok(())
+}
+
+// Documents that are no configuration, whatever their probe says.
+const FAULTS: [(&str, &str); 67] = [
+    // no JSON
+    ("", "NotJson"),
+    ("{", "NotJson"),
+    (r#"{"Name":"A","Probe":"TRUE"} x"#, "NotJson"),
+    (r#"{"Name":"A","Probe":"TRUE",}"#, "NotJson"),
+    (r#"{'Name':'A'}"#, "NotJson"),
+    (r#"{"Name":"A","Probe":"TRUE","x":1e400}"#, "NotJson"),
+    (r#"{"Name":"A","Probe":"TRUE","x":01}"#, "NotJson"),
+    ("\u{FEFF}{\"Name\":\"A\",\"Probe\":\"TRUE\"}", "NotJson"),
+    // numbers that are not whole, which come before all other rules but JSON
+    ("0.5", "Fraction"),
+    ("[0.5]", "Fraction"),
+    (r#"{"x":-0}"#, "Fraction"),
+    (r#"{"x":1e2}"#, "Fraction"),
+    (r#"{"x":1.0}"#, "Fraction"),
+    (r#"{"Name":0.5,"Probe":"TRUE"}"#, "Fraction"),
+    (
+        r#"{"Name":"A","Probe":"TRUE","x":[[{"y":[0.5]}]]}"#,
+        "Fraction",
+    ),
+    (r#"{"x":18446744073709551616}"#, "Fraction"),
+    (r#"{"x":-9223372036854775809}"#, "Fraction"),
+    (r#"{"x":1,"x":0.5,"Name":"A","Probe":"TRUE"}"#, "Fraction"),
+    (r#"{"x":0.5,} "#, "NotJson"),
+    // what is no object
+    ("null", "WrongKind"),
+    ("true", "WrongKind"),
+    ("7", "WrongKind"),
+    (r#""Name""#, "WrongKind"),
+    ("[]", "WrongKind"),
+    (r#"[{"Name":"A","Probe":"TRUE"}]"#, "WrongKind"),
+    // names
+    ("{}", "MissingKey"),
+    (r#"{"Probe":"TRUE"}"#, "MissingKey"),
+    (r#"{"name":"A","Probe":"TRUE"}"#, "MissingKey"),
+    (r#"{"Name":null}"#, "WrongKind"),
+    (r#"{"Name":7,"Probe":"TRUE"}"#, "WrongKind"),
+    (r#"{"Name":["A"],"Probe":"TRUE"}"#, "WrongKind"),
+    (r#"{"Name":"","Probe":"TRUE"}"#, "OutOfRange"),
+    (r#"{"Name":"A","Name":"","Probe":"TRUE"}"#, "OutOfRange"),
+    // a name comes before a probe, and a probe before exposes
+    (r#"{"Probe":5}"#, "MissingKey"),
+    (r#"{"Name":5}"#, "WrongKind"),
+    (r#"{"Name":"","Probe":5}"#, "OutOfRange"),
+    (r#"{"Name":"","Probe":"AND"}"#, "OutOfRange"),
+    (r#"{"Name":"A","Exposes":5}"#, "MissingKey"),
+    (r#"{"Name":"A","Probe":5,"Exposes":[{}]}"#, "WrongKind"),
+    (r#"{"Name":"A","Probe":[],"Exposes":5}"#, "OutOfRange"),
+    // probes that are no texts
+    (r#"{"Name":"A"}"#, "MissingKey"),
+    (r#"{"Name":"A","Probe":null}"#, "WrongKind"),
+    (r#"{"Name":"A","Probe":5}"#, "WrongKind"),
+    (r#"{"Name":"A","Probe":true}"#, "WrongKind"),
+    (r#"{"Name":"A","Probe":{}}"#, "WrongKind"),
+    (r#"{"Name":"A","Probe":[]}"#, "OutOfRange"),
+    (r#"{"Name":"A","Probe":["TRUE",5]}"#, "WrongKind"),
+    (r#"{"Name":"A","Probe":["?",null]}"#, "WrongKind"),
+    (r#"{"Name":"A","Probe":[["TRUE"]]}"#, "WrongKind"),
+    // probes that the grammar does not read
+    (r#"{"Name":"A","Probe":""}"#, "ProbeSyntax(0)"),
+    (r#"{"Name":"A","Probe":"true"}"#, "ProbeSyntax(0)"),
+    (r#"{"Name":"A","Probe":"AND"}"#, "ProbeSyntax(0)"),
+    (r#"{"Name":"A","Probe":["TRUE","AND"]}"#, "ProbeSyntax(2)"),
+    (r#"{"Name":"A","Probe":["TRUE","TRUE"]}"#, "ProbeSyntax(1)"),
+    (
+        r#"{"Name":"A","Probe":["TRUE","MATCH_ONE","TRUE"]}"#,
+        "ProbeSyntax(1)",
+    ),
+    (
+        r#"{"Name":"A","Probe":["TRUE","XOR","?"]}"#,
+        "ProbeSyntax(1)",
+    ),
+    (
+        r#"{"Name":"A","Probe":"TRUE","Probe":"AND"}"#,
+        "ProbeSyntax(0)",
+    ),
+    // the grammar comes before exposes, and exposes come before patterns
+    (
+        r#"{"Name":"A","Probe":"AND","Exposes":5}"#,
+        "ProbeSyntax(0)",
+    ),
+    (
+        r#"{"Name":"A","Probe":"xyz.openbmc_project.FruDevice({'BUS': '('})","Exposes":5}"#,
+        "WrongKind",
+    ),
+    // exposes as a whole
+    (r#"{"Name":"A","Probe":"TRUE","Exposes":null}"#, "WrongKind"),
+    (r#"{"Name":"A","Probe":"TRUE","Exposes":{}}"#, "WrongKind"),
+    (
+        r#"{"Name":"A","Probe":"TRUE","Exposes":"Mux"}"#,
+        "WrongKind",
+    ),
+    (r#"{"Name":"A","Probe":"TRUE","Exposes":[5]}"#, "WrongKind"),
+    (
+        r#"{"Name":"A","Probe":"TRUE","Exposes":[null]}"#,
+        "WrongKind",
+    ),
+    (
+        r#"{"Name":"A","Probe":"TRUE","Exposes":[{}]}"#,
+        "MissingKey",
+    ),
+    (
+        r#"{"Name":"A","Probe":"TRUE","Exposes":[{"Name":"M","Type":"Mux","Channels":[1]},5]}"#,
+        "WrongKind",
+    ),
+    (
+        r#"{"Name":"A","Probe":"TRUE","Exposes":[{},5]}"#,
+        "MissingKey",
+    ),
+];
+
+// The members of an expose that is not read.
+const EXPOSES: [(&str, &str); 30] = [
+    (r#""Type":"Mux","Channels":[1]"#, "MissingKey"),
+    (r#""Name":5,"Type":"Mux","Channels":[1]"#, "WrongKind"),
+    (r#""Name":null,"Type":"Mux","Channels":[1]"#, "WrongKind"),
+    (r#""Name":"","Type":"Mux","Channels":[1]"#, "OutOfRange"),
+    (
+        r#""Name":"M $bus","Type":"Mux","Channels":[1]"#,
+        "ExposeForm",
+    ),
+    (r#""Name":"$","Type":"Mux","Channels":[1]"#, "ExposeForm"),
+    (r#""Name":"M","Channels":[1]"#, "MissingKey"),
+    (r#""Name":"M","Type":5,"Channels":[1]"#, "WrongKind"),
+    (r#""Name":"M","Type":"","Channels":[1]"#, "OutOfRange"),
+    (r#""Name":"M","Type":"EEPROM","Channels":[1]"#, "ExposeForm"),
+    (r#""Name":"M","Type":"mux","Channels":[1]"#, "ExposeForm"),
+    (r#""Name":"M","Type":"Mux ","Channels":[1]"#, "ExposeForm"),
+    (r#""Name":"M","Type":"Mux""#, "MissingKey"),
+    (r#""Name":"M","Type":"Mux","Channels":null"#, "WrongKind"),
+    (r#""Name":"M","Type":"Mux","Channels":1"#, "WrongKind"),
+    (r#""Name":"M","Type":"Mux","Channels":"1""#, "WrongKind"),
+    (r#""Name":"M","Type":"Mux","Channels":[]"#, "OutOfRange"),
+    (
+        r#""Name":"M","Type":"Mux","Channels":[0,1,2,3,4,5,6,7,8,9,10,11,12,13,14,15,16]"#,
+        "OutOfRange",
+    ),
+    (r#""Name":"M","Type":"Mux","Channels":[256]"#, "OutOfRange"),
+    (r#""Name":"M","Type":"Mux","Channels":[-1]"#, "OutOfRange"),
+    (
+        r#""Name":"M","Type":"Mux","Channels":["$bus"]"#,
+        "ExposeForm",
+    ),
+    (r#""Name":"M","Type":"Mux","Channels":["1"]"#, "ExposeForm"),
+    (r#""Name":"M","Type":"Mux","Channels":[null]"#, "WrongKind"),
+    (r#""Name":"M","Type":"Mux","Channels":[[1]]"#, "WrongKind"),
+    // the first rule counts
+    (r#""Name":"$","Type":5"#, "ExposeForm"),
+    (r#""Name":5,"Type":5,"Channels":5"#, "WrongKind"),
+    (r#""Name":"","Type":5"#, "OutOfRange"),
+    (r#""Name":"M","Type":"EEPROM","Channels":5"#, "ExposeForm"),
+    (
+        r#""Name":"M","Type":"Mux","Channels":[1,"2",256]"#,
+        "ExposeForm",
+    ),
+    (
+        r#""Name":"M","Type":"Mux","Channels":[256,"2",null]"#,
+        "OutOfRange",
+    ),
+];
+
+#[test]
+fn first_rules(rt: HostRuntime) -> Result<(), Fail> {
+    answers_are_verdicts();
+    for (document, fault) in FAULTS {
+        assert_fault(&rt, rt.alloc(), document, fault)?;
+    }
+    Ok(())
+}
+
+#[test]
+fn first_rules_of_exposes(rt: HostRuntime) -> Result<(), Fail> {
+    let alloc = rt.alloc();
+    for (members, fault) in EXPOSES {
+        let document = format!(in alloc;
+            r#"{{"Name":"A","Probe":"TRUE","Exposes":[{{{members}}}]}}"#
+        )?;
+        assert_fault(&rt, alloc, document.as_str(), fault)?;
+    }
+    Ok(())
+}
+
+#[test]
+fn texts_in_utf8(rt: HostRuntime) -> Result<(), Fail> {
+    let bytes: [&[u8]; 3] = [
+        b"\xFF",
+        b"{\"Name\":\"\xC3\",\"Probe\":\"TRUE\"}",
+        b"{\"Name\":\"A\",\"Probe\":\"TRUE\"}\x00",
+    ];
+    for document in bytes {
+        let given = fault_of(rt.alloc(), document, &mut RegexMaker::new(rt.alloc()))?;
+        assert_eq!(rt; given.as_str(), "NotJson", "{document:?}");
+    }
+    Ok(())
+}
+
+// Documents in three parts: the second may stand so often, and the fault when it stands once more.
+const LIMITS: [(&str, &str, &str, usize, &str); 5] = [
+    (
+        r#"{"Name":""#,
+        "a",
+        r#"","Probe":"TRUE"}"#,
+        64,
+        "OutOfRange",
+    ),
+    (
+        r#"{"Name":"A","Probe":["TRUE""#,
+        r#","OR","TRUE""#,
+        "]}",
+        16,
+        "OutOfRange",
+    ),
+    (
+        r#"{"Name":"A","Probe":"TRUE","Exposes":[{"Type":"Mux","Channels":[1],"Name":""#,
+        "a",
+        r#""}]}"#,
+        128,
+        "OutOfRange",
+    ),
+    (
+        r#"{"Name":"A","Probe":"TRUE","Exposes":[{"Name":"M","Type":"Mux","Channels":[0"#,
+        ",255",
+        "]}]}",
+        15,
+        "OutOfRange",
+    ),
+    (
+        r#"{"Name":"A","Probe":"TRUE","Exposes":[{"Name":"M","Type":"Mux","Channels":[1]}"#,
+        r#",{"Name":"M","Type":"Mux","Channels":[1]}"#,
+        "]}",
+        255,
+        "OutOfRange",
+    ),
+];
+
+// A text again and again.
+fn repeated(alloc: Global, text: &str, times: usize) -> Result<String, Fail> {
+    let mut out = String::new(alloc);
+    for _ in 0..times {
+        out.push_str(text)?;
+    }
+    Ok(out)
+}
+
+#[test]
+fn limits(rt: HostRuntime) -> Result<(), Fail> {
+    let alloc = rt.alloc();
+    for (head, part, tail, most, fault) in LIMITS {
+        let parts = repeated(alloc, part, most)?;
+        let document = format!(in alloc; "{head}{parts}{tail}")?;
+        assert_fault(&rt, alloc, document.as_str(), "Ok")?;
+        let document = format!(in alloc; "{head}{part}{parts}{tail}")?;
+        assert_fault(&rt, alloc, document.as_str(), fault)?;
+    }
+    Ok(())
+}
+
+#[test]
+fn nesting(rt: HostRuntime) -> Result<(), Fail> {
+    let alloc = rt.alloc();
+    for (times, fault) in [(126, "Ok"), (127, "NotJson"), (10_000, "NotJson")] {
+        let opened = repeated(alloc, "[", times)?;
+        let closed = repeated(alloc, "]", times)?;
+        let document = format!(in alloc; r#"{{"Name":"A","Probe":"TRUE","x":{opened}{closed}}}"#)?;
+        assert_fault(&rt, alloc, document.as_str(), fault)?;
+    }
+    Ok(())
+}
+
+// Documents with the name, the number of patterns, and whether the probe ends with `MATCH_ONE`.
+const PROBES: [(&str, &str, usize, bool); 10] = [
+    (r#"{"Name":"A","Probe":"TRUE"}"#, "A", 0, false),
+    (
+        " { \"Probe\" : \"FALSE\" ,\n\"Name\" : \"A B\" }\r\n",
+        "A B",
+        0,
+        false,
+    ),
+    (
+        r#"{"Name":"\u00e9\n","Probe":"FOUND('B')"}"#,
+        "é\n",
+        0,
+        false,
+    ),
+    (
+        r#"{"Name":"A","Probe":"TRUE","x":[18446744073709551615,-9223372036854775808,0,null]}"#,
+        "A",
+        0,
+        false,
+    ),
+    (
+        r#"{"x":0.5,"x":1,"Name":"A","Probe":"TRUE"}"#,
+        "A",
+        0,
+        false,
+    ),
+    (
+        r#"{"Name":0.5,"Name":"","Name":"B","Probe":5,"Probe":"TRUE","Exposes":5,"Exposes":[]}"#,
+        "B",
+        0,
+        false,
+    ),
+    (
+        r#"{"Name":"A","Probe":"TRUE","exposes":5,"Type":5}"#,
+        "A",
+        0,
+        false,
+    ),
+    (r#"{"Name":"A","Probe":["TRUE","MATCH_ONE"]}"#, "A", 0, true),
+    (
+        r#"{"Name":"A","Probe":"xyz.openbmc_project.FruDevice({'BOARD_PRODUCT_NAME': '^RSR[12]$', 'BUS': 5})"}"#,
+        "A",
+        1,
+        false,
+    ),
+    (
+        r#"{"Name":"A","Probe":["xyz.openbmc_project.FruDevice({'BUS': 1})","OR","xyz.openbmc_project.FruDevice({'BUS': '2'})","MATCH_ONE"]}"#,
+        "A",
+        2,
+        true,
+    ),
+];
+
+fn assert_expose(rt: &impl Abort, expose: &Expose, name: &str, fixed: &[u8]) {
+    assert_eq!(rt; expose.name.as_str(), name);
+    assert_eq!(rt; expose.kind.as_str(), "Mux");
+    let Body::Mux(part) = &expose.body;
+    assert_eq!(rt; part.fixed.as_slice(), fixed);
+}
+
+#[test]
+fn configurations(rt: HostRuntime) -> Result<(), Fail> {
+    for (document, name, patterns, match_one) in PROBES {
+        let config = read(rt.alloc(), document.as_bytes())?;
+        assert_eq!(rt; config.name().as_str(), name, "{document}");
+        assert_eq!(rt; config.patterns().len(), patterns, "{document}");
+        assert_eq!(rt; config.probe().match_one(), match_one, "{document}");
+        assert!(rt; config.exposes().is_empty(), "{document}");
+    }
+    Ok(())
+}
+
+#[test]
+fn exposes(rt: HostRuntime) -> Result<(), Fail> {
+    let document = br#"{"Name":"A","Probe":"TRUE","Exposes":[
+        {"Name":"Upper","Type":"Mux","Channels":[0,255],"Address":"0x70"},
+        {"Channels":[16,16,3],"Type":"Mux","Name":"Lower"}]}"#;
+    let config = read(rt.alloc(), document)?;
+    match config.exposes() {
+        [upper, lower] => {
+            assert_expose(&rt, upper, "Upper", &[0, 255]);
+            assert_expose(&rt, lower, "Lower", &[16, 16, 3]);
+        }
+        _ => assert!(rt; false, "two exposes"),
+    }
+    Ok(())
+}
+
+// The members of two patterns, the fault of a document that has both, and the text that is too large.
+const PATTERNS: [(&str, &str, &str, &str); 9] = [
+    ("'B': 'RSR'", "'B': 1", "Ok", ""),
+    (
+        "'B': '('",
+        "'B': 'RSR'",
+        r#"PatternSyntax(Text { text: "(" })"#,
+        "",
+    ),
+    (
+        "'B': 'RSR'",
+        "'B': '['",
+        r#"PatternSyntax(Text { text: "[" })"#,
+        "",
+    ),
+    (
+        "'B': 'HUGE'",
+        "'B': 'RSR'",
+        r#"PatternTooLarge(Text { text: "HUGE" })"#,
+        "HUGE",
+    ),
+    (
+        "'B': 'RSR'",
+        "'B': 'WIDE'",
+        r#"PatternTooLarge(Text { text: "WIDE" })"#,
+        "WIDE",
+    ),
+    // the first text counts: by the order of the probe, and by the keys of one pattern
+    (
+        "'B': '('",
+        "'B': 'HUGE'",
+        r#"PatternSyntax(Text { text: "(" })"#,
+        "",
+    ),
+    (
+        "'B': 'HUGE'",
+        "'B': '('",
+        r#"PatternTooLarge(Text { text: "HUGE" })"#,
+        "HUGE",
+    ),
+    (
+        "'B': '(', 'A': 'HUGE'",
+        "'B': 1",
+        r#"PatternTooLarge(Text { text: "HUGE" })"#,
+        "HUGE",
+    ),
+    (
+        "'B': 'HUGE', 'A': '('",
+        "'B': 1",
+        r#"PatternSyntax(Text { text: "(" })"#,
+        "",
+    ),
+];
+
+// A document with two patterns of these members.
+fn with_patterns(alloc: Global, first: &str, second: &str) -> Result<String, Fail> {
+    let head = "xyz.openbmc_project.FruDevice";
+    Ok(format!(in alloc;
+        r#"{{"Name":"A","Probe":["{head}({{{first}}})","OR","{head}({{{second}}})"]}}"#
+    )?)
+}
+
+// Whether this text alone was refused, or none where it is empty.
+fn is_refused(refused: &[Text], wanted: &str) -> bool {
+    match refused {
+        [] => wanted.is_empty(),
+        [text] => text.as_str() == wanted,
+        _ => false,
+    }
+}
+
+#[test]
+fn patterns(rt: HostRuntime) -> Result<(), Fail> {
+    let alloc = rt.alloc();
+    for (first, second, fault, refused) in PATTERNS {
+        let mut maker = ListMaker::new(alloc, &["HUGE", "WIDE"])?;
+        let document = with_patterns(alloc, first, second)?;
+        let given = fault_of(alloc, document.as_bytes(), &mut maker)?;
+        assert_eq!(rt; given.as_str(), fault, "{document}");
+        assert!(rt; is_refused(maker.refused(), refused), "{document}");
+    }
+    Ok(())
+}
+
+// The configuration of this number, put on the shelf.
+fn add(
+    rt: &impl Abort,
+    alloc: Global,
+    shelf: &mut Shelf<Silent>,
+    number: usize,
+) -> Result<(), Fail> {
+    let document = format!(in alloc; r#"{{"Name":"Board {number}","Probe":"TRUE"}}"#)?;
+    let config = read(alloc, document.as_bytes())?;
+    assert!(rt; shelf.position(&config.name()).is_none());
+    assert_eq!(rt; shelf.len(), number);
+    assert!(rt; shelf.len() < MOST_CONFIGS);
+    shelf.add(alloc, config)?;
+    Ok(())
+}
+
+#[test]
+fn shelves(rt: HostRuntime) -> Result<(), Fail> {
+    let mut shelf = Shelf::new(rt.alloc())?;
+    assert_eq!(rt; shelf.len(), 0);
+    assert!(rt; shelf.at(0).is_none());
+    for number in 0..MOST_CONFIGS {
+        add(&rt, rt.alloc(), &mut shelf, number)?;
+    }
+    assert_eq!(rt; shelf.len(), MOST_CONFIGS);
+    for number in 0..MOST_CONFIGS {
+        let text = format!(in rt.alloc(); "Board {number}")?;
+        let name = Name::new(text.as_str())?;
+        assert_eq!(rt; shelf.position(&name), Some(number));
+        match shelf.at(number) {
+            Some(config) => assert_eq!(rt; config.name().as_str(), text.as_str()),
+            None => assert!(rt; false, "{number}"),
+        }
+    }
+    assert!(rt; shelf.at(MOST_CONFIGS).is_none());
+    assert_eq!(rt; shelf.position(&Name::new("Board")?), None);
+    Ok(())
+}
