@@ -119,6 +119,10 @@ unfolding board_places
 boards_there configs found reach moment number config is =
     sym (ap (λ (each : Option Config). unwrap_or (option_map (config_places found reach (map entry_sight moment.entries) number) each) []) is)
 
+-- where there were no keys yet
+pub from_none : (start keys now : List BoardKey) → now ≡ start ++ keys → start ≡ [] → now ≡ keys
+from_none start keys now e none = e ∙ ap (λ (before : List BoardKey). before ++ keys) none
+
 -- ---- one configuration more
 
 left_alike : (from count : ℕ) (here there one other : ℕ → List (Option Place)) → ((n : ℕ) → n < from + count → here n ≡ one n)
