@@ -16,22 +16,9 @@ use Rattle.inventory.specs.Boards.{has_board, board_places, config_places}
 use Rattle.inventory.specs.Indexes.{except}
 use Rattle.inventory.specs.Differences.{Moment, IsMarkedBy, boards_at, key_of, keys_left}
 use Rattle.inventory.specs.Moments.{boards_now, left, plus_keys}
-use Rattle.inventory.proofs.BoardLemmas.{and_first, and_second, board_itself, board_same, except_none, pass_all}
+use Rattle.inventory.proofs.BoardLemmas.{and_first, and_second, board_same, board_swap, except_none, pass_all}
 
 -- ---- one configuration
-
-board_swap : (place other : Option Place) → option_eq place_eq place other ≡ option_eq place_eq other place
-board_swap place other = by (option_eq place_eq place other) refl (option_eq place_eq other place) refl
-  where
-    by : (b : Bool) → option_eq place_eq place other ≡ b → (a : Bool) → option_eq place_eq other place ≡ a → b ≡ a
-    by true same true back = refl
-    by true same false back =
-        let here : place ≡ other = board_same place other same in
-        absurd (let yes : option_eq place_eq other place ≡ true = ap (option_eq place_eq other) here ∙ board_itself other in cc)
-    by false same true back =
-        let here : other ≡ place = board_same other place back in
-        absurd (let yes : option_eq place_eq place other ≡ true = ap (option_eq place_eq place) here ∙ board_itself place in cc)
-    by false same false back = refl
 
 pub has_board_by : (place : Option Place) (boards : List (Option Place)) → list_any (λ (other : Option Place). option_eq place_eq other place) boards ≡ has_board boards place
 has_board_by place [] = refl
