@@ -1,5 +1,5 @@
 -- The boards of a configuration ascend by place.
-use Rattle.std.proofs.Common.{◌≡◌, ℕ, List, [], ◌∷◌, Bool, true, false, cond, Option, Some, None, map, filter, refl, subst, option_map, slice_get}
+use Rattle.std.proofs.Common.{◌≡◌, ℕ, List, [], ◌∷◌, Bool, true, false, cond, Option, Some, None, map, refl, subst, option_map, slice_get}
 use Rattle.std.specs.Option.{option_eq, option_cmp, unwrap_or}
 use Rattle.std.specs.Ordering.{is_eq}
 use Rattle.std.specs.List.{IsDistinct}

@@ -1,9 +1,9 @@
 -- What changes from one moment to the next.
-use Rattle.std.proofs.Common.{◌≡◌, ◌≢◌, ℕ, zero, suc, ◌+◌, ◌<◌, ◌≤◌, List, [], ◌∷◌, ◌++◌, Bool, true, false, not, cond, ◌||◌, ◌&&◌, length, take, map, filter, get_or, Option, Some, None, refl, sym, ap, ap₂, subst, ◌∙◌}
+use Rattle.std.proofs.Common.{◌≡◌, ℕ, zero, suc, ◌+◌, ◌<◌, List, [], ◌∷◌, ◌++◌, Bool, true, false, not, cond, ◌||◌, length, take, map, get_or, Option, Some, None, refl, sym, ap, ap₂, ◌∙◌}
 use Rattle.std.proofs.Common.{arith, append_assoc, length-append, slice_get, option_map, option_to_list}
 use lib.Pointwise.{pointwise}
 use Rattle.std.specs.Option.{option_eq, unwrap_or}
-use Rattle.std.specs.List.{list_any, list_all, flat_map, range_with_len}
+use Rattle.std.specs.List.{list_any, flat_map, range_with_len}
 use Rattle.std.proofs.lemmas.List.{map-append, append-nil, take_more}
 use Rattle.std.proofs.lemmas.List.Elements.{filter-append}
 use Rattle.std.proofs.lemmas.Option.{slice_get_past}
@@ -14,7 +14,7 @@ use Rattle.cfg_json.specs.Configs.{Config}
 use Rattle.inventory.specs.declared.board.BoardKey.{BoardKey}
 use Rattle.inventory.specs.Boards.{has_board, board_places, config_places}
 use Rattle.inventory.specs.Indexes.{except}
-use Rattle.inventory.specs.Differences.{Moment, IsMarkedBy, boards_at, key_of, keys_left}
+use Rattle.inventory.specs.Differences.{Moment, boards_at, key_of, keys_left}
 use Rattle.inventory.specs.Moments.{boards_now, left, plus_keys}
 use Rattle.inventory.proofs.BoardLemmas.{and_first, and_second, board_same, board_swap, except_none, pass_all}
 

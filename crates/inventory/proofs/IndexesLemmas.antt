@@ -1,13 +1,13 @@
 -- Boards that are kept, and their indexes.
 use Rattle.std.proofs.Common.{◌≡◌, ℕ, ◌+◌, List, [], ◌∷◌, ◌++◌, Bool, true, false, not, cond, ◌||◌, Option, Some, None, refl, sym, ap, ap₂, ◌∙◌, append_assoc}
 use Rattle.std.specs.Option.{option_eq}
-use Rattle.std.specs.List.{AllByRecursion, IsDistinct, position_or_len}
+use Rattle.std.specs.List.{IsDistinct, position_or_len}
 use Rattle.std.proofs.lemmas.Bool.{or_left}
 use Rattle.std.proofs.lemmas.List.{append-nil}
 use Rattle.std.proofs.lemmas.List.Folds.{list_any-append}
 use Rattle.bmc_base.specs.Places.{Place, place_eq}
 use Rattle.inventory.specs.Boards.{has_board}
-use Rattle.inventory.specs.Indexes.{except, with_board, with_boards, index_of}
+use Rattle.inventory.specs.Indexes.{except, with_boards, index_of}
 use Rattle.inventory.specs.Laws.{KeepsNew, IndexStays}
 use Rattle.inventory.proofs.BoardLemmas.{board_swap}
 use Rattle.inventory.proofs.ListLemmas.{all_weaker, filter_alike}

@@ -2,29 +2,37 @@ use crate::{BoardKey, IndexKeep};
 use bmc_base::Place;
 use std::test::Fail;
 
+// No bus, so that a key has no place.
+const NOWHERE: u32 = 256;
+
+// The key of a board of a configuration on a bus.
+fn key(config: u32, bus: u32) -> BoardKey {
+    BoardKey {
+        config,
+        place: Place::new(bus, 80),
+    }
+}
+
 #[test]
 fn boards_keep_their_indexes(rt: HostRuntime) -> Result<(), Fail> {
+    let first = [key(0, 1), key(3, NOWHERE), key(0, 20), key(0, 1)];
+    let second = [key(0, NOWHERE), key(0, 20), key(3, 1)];
     let mut keep = IndexKeep::new(rt.alloc())?;
-    let (low, high) = (Place::new(1, 80), Place::new(20, 81));
-    let key = |config, place| BoardKey { config, place };
-    keep.extend(
-        rt.alloc(),
-        &[key(0, low), key(3, None), key(0, high), key(0, low)],
-    )?;
-    keep.extend(rt.alloc(), &[key(0, None), key(0, high), key(3, low)])?;
+    keep.extend(rt.alloc(), &first)?;
+    keep.extend(rt.alloc(), &second)?;
     let rows = [
-        (key(0, low), Some(1)),
-        (key(0, high), Some(2)),
-        (key(0, None), Some(3)),
-        (key(3, None), Some(1)),
-        (key(3, low), Some(2)),
+        (0, 1, Some(1)),
+        (0, 20, Some(2)),
+        (0, NOWHERE, Some(3)),
+        (3, NOWHERE, Some(1)),
+        (3, 1, Some(2)),
         // not there
-        (key(3, high), None),
-        (key(1, low), None),
-        (key(4, None), None),
+        (3, 20, None),
+        (1, 1, None),
+        (4, NOWHERE, None),
     ];
-    for (key, index) in rows {
-        assert_eq!(rt; keep.index_of(&key), index);
+    for (config, bus, index) in rows {
+        assert_eq!(rt; keep.index_of(&key(config, bus)), index);
     }
     Ok(())
 }

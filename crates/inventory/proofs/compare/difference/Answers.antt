@@ -1,6 +1,5 @@
-use Rattle.std.proofs.Common.{◌≡◌, ◌∙◌, ◌++◌, List, [], Option, option_map, ap}
+use Rattle.std.proofs.Common.{◌∙◌, ◌++◌, Option, option_map, ap}
 use Rattle.cfg_json.specs.Configs.{Config}
-use Rattle.inventory.specs.declared.board.BoardKey.{BoardKey}
 use Rattle.inventory.specs.Moments.{plus_keys}
 use Rattle.inventory.proofs.DifferencesLemmas.{from_none, gone_all, come_all}
 use Rattle.inventory.proofs.compare.difference.Goals as goal
