@@ -50,6 +50,20 @@ board_same None (Some other) same = absurd (cc)
 board_same (Some place) None same = absurd (cc)
 board_same (Some place) (Some other) same = ap Some (place_same place other same)
 
+-- boards are told apart either way round
+pub board_swap : (place other : Option Place) → option_eq place_eq place other ≡ option_eq place_eq other place
+board_swap place other = by (option_eq place_eq place other) refl (option_eq place_eq other place) refl
+  where
+    by : (b : Bool) → option_eq place_eq place other ≡ b → (a : Bool) → option_eq place_eq other place ≡ a → b ≡ a
+    by true same true back = refl
+    by true same false back =
+        let here : place ≡ other = board_same place other same in
+        absurd (let yes : option_eq place_eq other place ≡ true = ap (option_eq place_eq other) here ∙ board_itself other in cc)
+    by false same true back =
+        let here : other ≡ place = board_same other place back in
+        absurd (let yes : option_eq place_eq place other ≡ true = ap (option_eq place_eq place) here ∙ board_itself place in cc)
+    by false same false back = refl
+
 -- a board in a list passes a test that all in it pass
 pub all_pass : (test : Option Place → Bool) (boards : List (Option Place)) → list_all test boards ≡ true
     → (place : Option Place) → has_board boards place ≡ true → test place ≡ true

@@ -1,9 +1,9 @@
 -- What changes from one moment to the next.
-use Rattle.std.proofs.Common.{◌≡◌, ◌≢◌, ℕ, zero, suc, ◌+◌, ◌<◌, ◌≤◌, List, [], ◌∷◌, ◌++◌, Bool, true, false, not, cond, ◌||◌, ◌&&◌, length, take, map, filter, get_or, Option, Some, None, refl, sym, ap, ap₂, subst, ◌∙◌}
+use Rattle.std.proofs.Common.{◌≡◌, ℕ, zero, suc, ◌+◌, ◌<◌, List, [], ◌∷◌, ◌++◌, Bool, true, false, not, cond, ◌||◌, length, take, map, get_or, Option, Some, None, refl, sym, ap, ap₂, ◌∙◌}
 use Rattle.std.proofs.Common.{arith, append_assoc, length-append, slice_get, option_map, option_to_list}
 use lib.Pointwise.{pointwise}
 use Rattle.std.specs.Option.{option_eq, unwrap_or}
-use Rattle.std.specs.List.{list_any, list_all, flat_map, range_with_len}
+use Rattle.std.specs.List.{list_any, flat_map, range_with_len}
 use Rattle.std.proofs.lemmas.List.{map-append, append-nil, take_more}
 use Rattle.std.proofs.lemmas.List.Elements.{filter-append}
 use Rattle.std.proofs.lemmas.Option.{slice_get_past}
@@ -14,24 +14,11 @@ use Rattle.cfg_json.specs.Configs.{Config}
 use Rattle.inventory.specs.declared.board.BoardKey.{BoardKey}
 use Rattle.inventory.specs.Boards.{has_board, board_places, config_places}
 use Rattle.inventory.specs.Indexes.{except}
-use Rattle.inventory.specs.Differences.{Moment, IsMarkedBy, boards_at, key_of, keys_left}
+use Rattle.inventory.specs.Differences.{Moment, boards_at, key_of, keys_left}
 use Rattle.inventory.specs.Moments.{boards_now, left, plus_keys}
-use Rattle.inventory.proofs.BoardLemmas.{and_first, and_second, board_itself, board_same, except_none, pass_all}
+use Rattle.inventory.proofs.BoardLemmas.{and_first, and_second, board_same, board_swap, except_none, pass_all}
 
 -- ---- one configuration
-
-board_swap : (place other : Option Place) → option_eq place_eq place other ≡ option_eq place_eq other place
-board_swap place other = by (option_eq place_eq place other) refl (option_eq place_eq other place) refl
-  where
-    by : (b : Bool) → option_eq place_eq place other ≡ b → (a : Bool) → option_eq place_eq other place ≡ a → b ≡ a
-    by true same true back = refl
-    by true same false back =
-        let here : place ≡ other = board_same place other same in
-        absurd (let yes : option_eq place_eq other place ≡ true = ap (option_eq place_eq other) here ∙ board_itself other in cc)
-    by false same true back =
-        let here : other ≡ place = board_same other place back in
-        absurd (let yes : option_eq place_eq place other ≡ true = ap (option_eq place_eq place) here ∙ board_itself place in cc)
-    by false same false back = refl
 
 pub has_board_by : (place : Option Place) (boards : List (Option Place)) → list_any (λ (other : Option Place). option_eq place_eq other place) boards ≡ has_board boards place
 has_board_by place [] = refl
@@ -118,6 +105,10 @@ pub boards_there : (configs : List Config) (found reach : ℕ → Bool) (moment 
 unfolding board_places
 boards_there configs found reach moment number config is =
     sym (ap (λ (each : Option Config). unwrap_or (option_map (config_places found reach (map entry_sight moment.entries) number) each) []) is)
+
+-- where there were no keys yet
+pub from_none : (start keys now : List BoardKey) → now ≡ start ++ keys → start ≡ [] → now ≡ keys
+from_none start keys now e none = e ∙ ap (λ (before : List BoardKey). before ++ keys) none
 
 -- ---- one configuration more
 

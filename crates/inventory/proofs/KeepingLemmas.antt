@@ -1,14 +1,14 @@
 -- Lists of boards that grow.
-use Rattle.std.proofs.Common.{◌≡◌, ◌≢◌, ℕ, ◌+◌, ◌<◌, ◌≤◌, List, [], ◌∷◌, ◌++◌, Bool, true, false, not, cond, length, take, drop, map, filter, get_or, refl, sym, ap, ap₂, subst, ◌∙◌}
-use Rattle.std.proofs.Common.{arith, append_assoc, length-append, Option, Some, None, Result, Ok, Err, IfOk, IsOk, position, eq-eqb}
+use Rattle.std.proofs.Common.{◌≡◌, ◌≢◌, ℕ, ◌+◌, ◌<◌, ◌≤◌, List, [], ◌∷◌, ◌++◌, Bool, true, false, not, cond, length, take, drop, map, filter, get_or, refl, sym, ap, subst, ◌∙◌}
+use Rattle.std.proofs.Common.{arith, length-append, Option, Some, None, Result, Ok, Err, IfOk, IsOk, eq-eqb}
 use Rattle.std.specs.Prelude.{nat_eq, nat_lt, slice_set, slice_index_or, ◌==◌, if◌then◌else◌}
 use Rattle.std.specs.Option.{option_eq}
 use Rattle.std.specs.Ordering.{ord_max, nat_cmp}
-use Rattle.std.specs.List.{All, position_or_len, list_any}
+use Rattle.std.specs.List.{position_or_len}
 use Rattle.std.proofs.lemmas.Bool.{eqb-true, or_parts}
 use Rattle.std.proofs.lemmas.Bool.Decides.{nat_tests}
-use Rattle.std.proofs.lemmas.List.{length-map, map-set, map-append, get_or-set_same, get_or-set_other, get_or_past, take_all, take-append-drop, append-nil, take_more, get_or-map}
-use Rattle.std.proofs.lemmas.List.Elements.{All-more, filter_more, filter-append}
+use Rattle.std.proofs.lemmas.List.{length-map, map-set, map-append, get_or-set_same, get_or-set_other, get_or_past, take-append-drop, take_more, get_or-map}
+use Rattle.std.proofs.lemmas.List.Elements.{All-more, filter-append}
 use Rattle.std.proofs.Math.Seq.{take-append_seam}
 use Rattle.indexmap.specs.IndexSet.{IndexSet, spare}
 use Rattle.bmc_base.specs.Places.{Place, place_eq}
@@ -16,7 +16,7 @@ use Rattle.inventory.specs.declared.board.BoardKey.{BoardKey}
 use Rattle.inventory.specs.Boards.{has_board}
 use Rattle.inventory.specs.Indexes.{kept_of, with_board, with_boards, index_of, index_in}
 use Rattle.inventory.specs.Differences.{places_of}
-use Rattle.inventory.specs.Keeping.{AreListed, AreFew, IsReady, keys_of, room_of, most_boards}
+use Rattle.inventory.specs.Keeping.{AreListed, IsReady, keys_of, room_of, most_boards}
 
 -- ---- keys of one configuration
 

@@ -1,5 +1,7 @@
 pub mod ListLemmas
 pub mod BoardLemmas
+pub mod BoardsLemmas
+pub mod IndexesLemmas
 pub mod MomentsLemmas
 pub mod KeepingLemmas
 pub mod DifferencesLemmas

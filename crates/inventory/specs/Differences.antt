@@ -1,5 +1,5 @@
 -- What changes from one moment to the next: the boards that go, and those that come.
-use Rattle.std.specs.Prelude.{ℕ, ◌≡◌, Bool, nat_eq, List, filter, map, length, Option, Result}
+use Rattle.std.specs.Prelude.{ℕ, Bool, nat_eq, List, filter, map, Option}
 use Rattle.std.specs.List.{flat_map, range_with_len}
 use Rattle.bmc_base.specs.Places.{Place}
 use Rattle.probe_lang.specs.Sights.{entry_sight}

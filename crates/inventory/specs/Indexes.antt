@@ -1,5 +1,5 @@
 -- The index of a board: its number among all boards that its configuration ever had, from 1.
-use Rattle.std.specs.Prelude.{ℕ, ◌≡◌, ◌+◌, Bool, not, ◌==◌, if◌then◌else◌, List, [], ◌∷◌, ◌++◌, filter, map, Option, Some, None}
+use Rattle.std.specs.Prelude.{ℕ, ◌+◌, Bool, not, if◌then◌else◌, List, [], ◌∷◌, ◌++◌, filter, Option, Some, None}
 use Rattle.std.specs.Option.{option_eq}
 use Rattle.std.specs.List.{position_or_len, slice_index_or}
 use Rattle.bmc_base.specs.Places.{Place, place_eq}

@@ -3,3 +3,4 @@ pub mod Indexes
 pub mod Differences
 pub mod Keeping
 pub mod Moments
+pub mod Laws

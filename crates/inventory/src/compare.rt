@@ -69,14 +69,7 @@ fn push_shelf<L: Ledger>(
             unreachable!()
         };
         let match_one = config.probe().match_one();
-        push_config(
-            alloc,
-            comparison,
-            before,
-            after,
-            number as u32,
-            match_one,
-        )?;
+        push_config(alloc, comparison, before, after, number as u32, match_one)?;
     }
     Ok(())
 }
@@ -97,13 +90,7 @@ fn push_plus<L: Ledger>(
     if let Some(config) = plus {
         let match_one = config.probe().match_one();
         list_boards(&mut comparison.after, after, number, match_one)?;
-        push_left(
-            alloc,
-            &mut comparison.come,
-            number,
-            &comparison.after,
-            &[],
-        )?;
+        push_left(alloc, &mut comparison.come, number, &comparison.after, &[])?;
     }
     Ok(())
 }

@@ -8,7 +8,10 @@ mod changed;
 mod compare;
 mod hits;
 mod index_keep;
+pub mod law;
 mod moment;
+#[cfg(test)]
+mod tests;
 
 pub use board::{Board, BoardKey, BoardKeys};
 pub use changed::Difference;

@@ -1,19 +1,18 @@
-use Rattle.std.proofs.Common.{◌≡◌, ◌∙◌, ◌++◌, List, [], Option, option_map, ap}
+use Rattle.std.proofs.Common.{◌∙◌, ◌++◌, Option, option_map, ap}
 use Rattle.cfg_json.specs.Configs.{Config}
-use Rattle.inventory.specs.declared.board.BoardKey.{BoardKey}
 use Rattle.inventory.specs.Moments.{plus_keys}
-use Rattle.inventory.proofs.DifferencesLemmas.{gone_all, come_all}
+use Rattle.inventory.proofs.DifferencesLemmas.{from_none, gone_all, come_all}
 use Rattle.inventory.proofs.compare.difference.Goals as goal
 
 pub returns : goal.returns
 returns g c =
     let plus : Option Config = option_map (λ config. config.now) c.args.plus in
     let configs = c.args.shelf.now in
-    λ found reach found_after reach_after marked marked_after.
-    (gone_all configs found reach found_after reach_after c.args.before.now c.args.after.now plus c.push_plus.new.comparison.gone
-    (c.push_plus.ensures.gone ∙ c.in_ok-push_shelf.ensures.gone found reach found_after reach_after marked marked_after
-    ∙ ap (λ (keys : List BoardKey). keys ++ _) c.in_ok-new.ensures),
-    come_all configs found reach found_after reach_after c.args.before.now c.args.after.now plus c.push_shelf.new.comparison.come c.push_plus.new.comparison.come
-    (c.in_ok-push_shelf.ensures.come found reach found_after reach_after marked marked_after ∙ ap (λ (keys : List BoardKey). keys ++ _) c.in_ok-new-2.ensures)
-    (c.in_ok-push_plus.ensures.come found_after reach_after marked_after
-    ∙ ap (λ n. c.push_shelf.new.comparison.come ++ plus_keys found_after reach_after c.args.after.now n plus) c.len.ensures.value))
+    λ found reach found_after reach_after marked marked_after. (
+      gone_all configs found reach found_after reach_after c.args.before.now c.args.after.now plus c.push_plus.new.comparison.gone
+          (c.push_plus.ensures.gone ∙ from_none _ _ _ (c.in_ok-push_shelf.ensures.gone found reach found_after reach_after marked marked_after) c.in_ok-new.ensures),
+      come_all configs found reach found_after reach_after c.args.before.now c.args.after.now plus c.push_shelf.new.comparison.come c.push_plus.new.comparison.come
+          (from_none _ _ _ (c.in_ok-push_shelf.ensures.come found reach found_after reach_after marked marked_after) c.in_ok-new-2.ensures)
+          (c.in_ok-push_plus.ensures.come found_after reach_after marked_after
+          ∙ ap (λ n. c.push_shelf.new.comparison.come ++ plus_keys found_after reach_after c.args.after.now n plus) c.len.ensures.value),
+    )

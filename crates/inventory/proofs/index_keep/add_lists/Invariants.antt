@@ -1,4 +1,4 @@
-use Rattle.std.proofs.Common.{◌≡◌, ℕ, ◌+◌, length}
+use Rattle.std.proofs.Common.{◌≡◌, ℕ, length}
 use Rattle.inventory.specs.Indexes.{kept_of}
 use Rattle.inventory.specs.Keeping.{keys_of}
 use Rattle.inventory.proofs.index_keep.add_lists.Given as goal

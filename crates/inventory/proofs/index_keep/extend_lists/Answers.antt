@@ -1,4 +1,4 @@
-use Rattle.std.proofs.Common.{arith, length, ◌<◌, ◌≡◌}
+use Rattle.std.proofs.Common.{arith, length, ◌≡◌}
 use Rattle.inventory.proofs.KeepingLemmas.{few_now}
 use Rattle.inventory.proofs.index_keep.extend_lists.Goals as goal
 

@@ -1,4 +1,4 @@
-use Rattle.std.proofs.Common.{arith, ◌+◌, length, take, ◌≤◌, subst}
+use Rattle.std.proofs.Common.{arith, ◌+◌, length, ◌≤◌, subst}
 use Rattle.std.proofs.lemmas.List.{take_all}
 use Rattle.inventory.specs.Keeping.{AreListed}
 use Rattle.inventory.proofs.KeepingLemmas.{listed_more, max_first, max_second}
