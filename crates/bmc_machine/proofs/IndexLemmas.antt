@@ -13,7 +13,7 @@ use Rattle.bmc_machine.specs.Boards.{boards}
 use Rattle.bmc_machine.specs.Histories.{Step, standing}
 use Rattle.bmc_machine.specs.Indexes.{had_board, kept}
 use Rattle.bmc_machine.specs.Meetings.{position_of}
-use Rattle.bmc_machine.proofs.BoardLemmas.{board_same, kept_all, except_none}
+use Rattle.inventory.proofs.BoardLemmas.{board_same, kept_all, except_none}
 
 -- ---- what is kept
 

@@ -1,5 +1,3 @@
-pub mod ListLemmas
-pub mod BoardLemmas
 pub mod IndexLemmas
 pub mod StandingLemmas
 pub mod HistoryLemmas

@@ -1,23 +1,20 @@
 -- The index of a board is one more than the number of boards of its configuration that were first met before it.
 use Rattle.std.proofs.Common.{◌≡◌, ℕ, suc, ◌+◌, ◌≤◌, List, [], ◌∷◌, ◌++◌, Bool, true, false, not, cond, ◌&&◌, ◌||◌, nat_lt, Option, Some, None}
-use Rattle.std.proofs.Common.{filter, map, refl, sym, ap, ap₂, ◌∙◌, arith, subst, inl, inr, slice_get, option_map}
+use Rattle.std.proofs.Common.{filter, map, refl, sym, ap, ap₂, ◌∙◌, arith, subst, inl, inr}
 use mathlib.Core.List.{map-map}
 use Rattle.std.specs.Prelude.{length}
-use Rattle.std.specs.Option.{option_eq, option_cmp, unwrap_or}
-use Rattle.std.specs.Ordering.{is_eq}
+use Rattle.std.specs.Option.{option_eq, option_cmp}
 use Rattle.std.specs.List.{AllByRecursion, IsDistinct}
 use Rattle.std.specs.List.Sorted.{IsStrictlySortedBy}
 use Rattle.std.proofs.lemmas.Bool.{eq-eqb, not-true, false_from_ne_true, both_ways, or_cases, or_left, or_right}
 use Rattle.std.proofs.lemmas.Bool.Decides.{nat_tests}
 use Rattle.std.proofs.lemmas.List.{length-append}
 use Rattle.std.proofs.lemmas.List.Elements.{filter-append}
-use Rattle.std.proofs.lemmas.Map.Keys.{IsDistinct-from_sorted}
 use Rattle.bmc_base.specs.Places.{Place, place_cmp, place_eq}
 use Rattle.cfg_json.specs.Configs.{Config}
 use Rattle.probe_lang.specs.Sights.{Sight}
-use Rattle.found_set.specs.Found.{is_found, is_reached, on_buses}
 use Rattle.match_rows.specs.Matching.{sight_of}
-use Rattle.inventory.specs.Boards.{places_or_none, hit_places, config_places, board_places, boards_in, rules_of, has_board}
+use Rattle.inventory.specs.Boards.{boards_in, has_board}
 use Rattle.inventory.specs.Indexes.{except, index_in}
 use Rattle.bmc_machine.specs.Standings.{Fru, fields_of}
 use Rattle.bmc_machine.specs.Boards.{sights_of, boards}
@@ -25,50 +22,13 @@ use Rattle.bmc_machine.specs.Histories.{Step, standing}
 use Rattle.bmc_machine.specs.Indexes.{had_board, kept}
 use Rattle.bmc_machine.specs.Meetings.{Meeting, position_of, first_met, is_earlier, met_before}
 use Rattle.bmc_machine.specs.Refusals.{IsLegal}
-use Rattle.bmc_machine.proofs.BoardLemmas.{board_itself, board_same, place_cmp_eq}
+use Rattle.inventory.proofs.BoardLemmas.{board_itself, board_same}
+use Rattle.inventory.proofs.BoardsLemmas.{ascending_differ, board_places_ascend}
 use Rattle.bmc_machine.proofs.IndexLemmas.{kept_had, position_front}
-use Rattle.bmc_machine.proofs.ListLemmas.{all_weaker, all_passes, ascending_map, ascending_filter, distinct_filter, distinct_append, filter_alike}
-use Rattle.bmc_machine.proofs.ListLemmas.{filter_none, filter_all}
+use Rattle.inventory.proofs.ListLemmas.{all_weaker, all_passes, distinct_filter, distinct_append, filter_alike}
+use Rattle.inventory.proofs.ListLemmas.{filter_none, filter_all}
 use Rattle.bmc_machine.proofs.StandingLemmas.{places, frus_ascend}
 use Rattle.bmc_machine.proofs.PositionLemmas.{position_behind, is_before, count_before}
-
--- ---- the boards of one configuration ascend
-
-board_cmp_eq : (place other : Option Place) → is_eq (option_cmp place_cmp place other) ≡ option_eq place_eq place other
-board_cmp_eq None None = refl
-board_cmp_eq None (Some other) = refl
-board_cmp_eq (Some place) None = refl
-board_cmp_eq (Some place) (Some other) = place_cmp_eq place other
-
-option_places_ascend : (places : List Place) → IsStrictlySortedBy place_cmp places → IsStrictlySortedBy (option_cmp place_cmp) (map Some places)
-option_places_ascend places ascend = ascending_map place_cmp (option_cmp place_cmp) Some (λ place other less. less) places ascend
-
-places_or_none_ascend : (match_one : Bool) (places : List Place) → IsStrictlySortedBy place_cmp places
-    → IsStrictlySortedBy (option_cmp place_cmp) (places_or_none match_one places)
-unfolding IsStrictlySortedBy
-places_or_none_ascend match_one [] ascend = (tt, tt)
-places_or_none_ascend true (place ∷ places) ascend = (tt, tt)
-places_or_none_ascend false (place ∷ places) ascend = option_places_ascend (place ∷ places) ascend
-
--- the boards of a configuration ascend by place, where the FRUs do that are seen
-pub config_places_ascend : (found reach : ℕ → Bool) (sights : List Sight) (number : ℕ) (config : Config)
-    → IsStrictlySortedBy place_cmp (map (λ (sight : Sight). sight.place) sights)
-    → IsStrictlySortedBy (option_cmp place_cmp) (config_places found reach sights number config)
-unfolding IsStrictlySortedBy
-config_places_ascend found reach sights number config ascend = by (found number)
-  where
-    place_of : Sight → Place
-    place_of sight = sight.place
-
-    hits_ascend : IsStrictlySortedBy place_cmp (hit_places reach sights number)
-    hits_ascend =
-        ascending_filter place_of place_cmp (λ (sight : Sight). sight.hit number) (on_buses reach sights)
-        (ascending_filter place_of place_cmp (λ (sight : Sight). reach sight.place.bus) sights ascend)
-
-    by : (is_found : Bool)
-        → IsStrictlySortedBy (option_cmp place_cmp) (cond is_found (places_or_none config.probe.match_one (hit_places reach sights number)) [])
-    by true = places_or_none_ascend config.probe.match_one (hit_places reach sights number) hits_ascend
-    by false = tt
 
 -- ---- the boards of one moment differ
 
@@ -80,30 +40,13 @@ sights_ascend configs frus ascend =
 
 -- they ascend by place
 pub boards_ascend : (past : List Step) (number : ℕ) → IsLegal past → IsStrictlySortedBy (option_cmp place_cmp) (boards (standing past) number)
-unfolding boards boards_in board_places IsStrictlySortedBy
-boards_ascend past number legal = by (slice_get configs number)
-  where
-    configs : List Config
-    configs = (standing past).configs
-
-    seen : List Sight
-    seen = sights_of configs (standing past).frus
-
-    found : ℕ → Bool
-    found = is_found (rules_of configs) seen
-
-    reach : ℕ → Bool
-    reach = is_reached (rules_of configs) seen
-
-    by : (config : Option Config)
-        → IsStrictlySortedBy (option_cmp place_cmp) (unwrap_or (option_map (config_places found reach seen number) config) [])
-    by None = tt
-    by (Some config) = config_places_ascend found reach seen number config (sights_ascend configs (standing past).frus (frus_ascend past legal))
+unfolding boards boards_in
+boards_ascend past number legal =
+    board_places_ascend (standing past).configs _ _ (sights_of (standing past).configs (standing past).frus) number
+    (sights_ascend (standing past).configs (standing past).frus (frus_ascend past legal))
 
 pub boards_differ : (past : List Step) (number : ℕ) → IsLegal past → IsDistinct (option_eq place_eq) (boards (standing past) number)
-boards_differ past number legal =
-    subst (λ (same : Option Place → Option Place → Bool). IsDistinct same (boards (standing past) number)) (λ i place other. board_cmp_eq place other i)
-    (IsDistinct-from_sorted (option_cmp place_cmp) (boards (standing past) number) (boards_ascend past number legal))
+boards_differ past number legal = ascending_differ (boards (standing past) number) (boards_ascend past number legal)
 
 -- ---- when boards were met
 

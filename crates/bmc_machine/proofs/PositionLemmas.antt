@@ -9,8 +9,8 @@ use Rattle.bmc_base.specs.Places.{Place, place_eq}
 use Rattle.inventory.specs.Boards.{has_board}
 use Rattle.inventory.specs.Indexes.{except}
 use Rattle.bmc_machine.specs.Meetings.{position_of}
-use Rattle.bmc_machine.proofs.BoardLemmas.{board_itself, board_same}
-use Rattle.bmc_machine.proofs.ListLemmas.{all_any, all_filter, all_weaker, filter_alike, filter_none}
+use Rattle.inventory.proofs.BoardLemmas.{board_itself, board_same}
+use Rattle.inventory.proofs.ListLemmas.{all_any, all_filter, all_weaker, filter_alike, filter_none}
 
 -- a board that is not among the first stands behind all of them
 pub position_behind : (place : Option Place) (front back : List (Option Place)) → has_board front place ≡ false

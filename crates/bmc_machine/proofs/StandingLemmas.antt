@@ -14,8 +14,8 @@ use Rattle.bmc_report.specs.declared.refusal.Refusal.TheVariants.{Occupied}
 use Rattle.bmc_machine.specs.Standings.{Fru, is_at, is_present, put}
 use Rattle.bmc_machine.specs.Histories.{Step, Configure, Plug, RefusedPlug, Unplug, after_step, standing}
 use Rattle.bmc_machine.specs.Refusals.{refusal_of, IsLegalStep, IsLegal}
-use Rattle.bmc_machine.proofs.BoardLemmas.{place_cmp_eq}
-use Rattle.bmc_machine.proofs.ListLemmas.{all_weaker, ascending_filter}
+use Rattle.inventory.proofs.BoardLemmas.{place_cmp_eq}
+use Rattle.inventory.proofs.ListLemmas.{all_weaker, ascending_filter}
 
 pub place_total : IsTotalOrder place_cmp
 place_total = then_total (on_total (λ (place : Place). place.bus) nat_cmp_total) (on_total (λ (place : Place). place.address) nat_cmp_total)
