@@ -1,14 +1,16 @@
 -- Entries with one more among them, and without one.
-use Rattle.std.proofs.Common.{◌≡◌, ℕ, suc, ◌+◌, ◌-◌, ◌<◌, ◌≤◌, List, [], ◌∷◌, ◌++◌, Bool, true, false, not, cond, ◌&&◌, Option, Some, None, length, take, drop, filter, map, get_or, position}
-use Rattle.std.proofs.Common.{refl, sym, ap, ap₂, ◌∙◌, arith, length-drop, append_assoc}
-use Rattle.std.specs.Prelude.{nat_lt}
+use Rattle.std.proofs.Common.{◌≡◌, ℕ, zero, suc, ◌+◌, ◌-◌, ◌<◌, ◌≤◌, List, [], ◌∷◌, ◌++◌, Bool, true, false, not, cond, ◌&&◌, Option, Some, None, length, take, drop, filter, map, get_or, position}
+use Rattle.std.proofs.Common.{refl, sym, ap, ap₂, ◌∙◌, arith, length-drop, append_assoc, subst, inl, inr}
+use Rattle.std.specs.Prelude.{nat_lt, slice_get}
+use mathlib.Core.Bool.{beq}
+use Rattle.found_set.specs.Marks.{AreMarked, is_marked}
 use Rattle.std.specs.Option.{unwrap_or}
 use Rattle.std.specs.Ordering.{is_lt, is_eq}
 use Rattle.std.specs.declared.cmp.Ordering.{Ordering}
 use Rattle.std.specs.declared.cmp.Ordering.TheVariants.{Less, Equal, Greater}
 use Rattle.std.specs.List.{list_all, position_or_len, AllByRecursion}
 use Rattle.std.proofs.lemmas.Bool.Decides.{nat_tests}
-use Rattle.std.proofs.lemmas.List.{take_all, append-nil, map-append, take_more}
+use Rattle.std.proofs.lemmas.List.{take_all, take-append-drop, append-nil, map-append, take_more}
 use Rattle.std.proofs.lemmas.List.Elements.{filter-append}
 use Rattle.std.proofs.lemmas.List.Sums.{prefix_len-le-length}
 use Rattle.bmc_base.specs.Places.{Place, place_cmp}
@@ -17,9 +19,9 @@ use Rattle.probe_lang.specs.Sights.{Sight, entry_sight, has_config}
 use Rattle.found_set.specs.Found.{on_buses}
 use Rattle.probe_lang.specs.Presents.{is_entry_at, are_by_place, with_entry, without_entry}
 use Rattle.inventory.specs.Boards.{hit_places}
-use Rattle.inventory.specs.Moments.{is_behind, hits_in}
+use Rattle.inventory.specs.Moments.{is_behind, hits_in, AreSeenAlike, IsAmong, IsApartBy}
 use Rattle.inventory.proofs.BoardLemmas.{and_first, and_second, place_cmp_eq, place_same}
-use Rattle.inventory.proofs.ListLemmas.{filter_all}
+use Rattle.inventory.proofs.ListLemmas.{all_append, all_map, filter_all, filter_alike}
 
 -- ---- positions
 
@@ -123,15 +125,20 @@ without_none place entries ordered e =
 
 -- ---- the places of hits
 
+places_append : (reach : ℕ → Bool) (number : ℕ) (front back : List Entry) → hit_places reach (map entry_sight (front ++ back)) number ≡ hit_places reach
+    (map entry_sight front) number ++ hit_places reach (map entry_sight back) number
+places_append reach number front back =
+    ap (λ (sights : List Sight). hit_places reach sights number) (map-append entry_sight front back)
+    ∙ ap (λ (sights : List Sight). map (λ (sight : Sight). sight.place) (filter (λ (sight : Sight). sight.hit number) sights))
+    (filter-append (λ (sight : Sight). reach sight.place.bus) (map entry_sight front) (map entry_sight back))
+    ∙ ap (map (λ (sight : Sight). sight.place))
+    (filter-append (λ (sight : Sight). sight.hit number) (on_buses reach (map entry_sight front)) (on_buses reach (map entry_sight back)))
+    ∙ map-append (λ (sight : Sight). sight.place) (filter (λ (sight : Sight). sight.hit number) (on_buses reach (map entry_sight front)))
+    (filter (λ (sight : Sight). sight.hit number) (on_buses reach (map entry_sight back)))
+
 pub hits_append : (reach : ℕ → Bool) (number : ℕ) (front back : List Entry) → hits_in reach (front ++ back) number ≡ hits_in reach front number ++ hits_in reach back number
 hits_append reach number front back =
-    ap (λ (sights : List Sight). map Some (hit_places reach sights number)) (map-append entry_sight front back)
-    ∙ ap (λ (sights : List Sight). map Some (map (λ (sight : Sight). sight.place) (filter (λ (sight : Sight). sight.hit number) sights)))
-    (filter-append (λ (sight : Sight). reach sight.place.bus) (map entry_sight front) (map entry_sight back))
-    ∙ ap (λ (sights : List Sight). map Some (map (λ (sight : Sight). sight.place) sights))
-    (filter-append (λ (sight : Sight). sight.hit number) (on_buses reach (map entry_sight front)) (on_buses reach (map entry_sight back)))
-    ∙ ap (map Some) (map-append (λ (sight : Sight). sight.place) (filter (λ (sight : Sight). sight.hit number) (on_buses reach (map entry_sight front)))
-    (filter (λ (sight : Sight). sight.hit number) (on_buses reach (map entry_sight back))))
+    ap (map Some) (places_append reach number front back)
     ∙ map-append Some (hit_places reach (map entry_sight front) number) (hit_places reach (map entry_sight back) number)
 
 pub hit_one : (reach : ℕ → Bool) (number : ℕ) (entry : Entry)
@@ -165,3 +172,118 @@ hits_parts reach number front middle back start one two three first second third
     ∙ append_assoc start (hits_in reach front number ++ hits_in reach middle number) (hits_in reach back number)
     ∙ ap (λ (places : List (Option Place)). start ++ places) (sym (hits_append reach number (front ++ middle) back
     ∙ ap (λ (places : List (Option Place)). places ++ hits_in reach back number) (hits_append reach number front middle)))
+
+-- ---- one entry comes or goes
+
+same_answer : (one other : Bool) → not (beq one other) ≡ false → one ≡ other
+same_answer true true same = refl
+same_answer true false same = absurd (cc)
+same_answer false true same = absurd (cc)
+same_answer false false same = refl
+
+pub alike_bus : (reach reach_after : ℕ → Bool) (marks marks_after : List Bool) (bus at : ℕ) (one other : Bool) → AreMarked marks reach → AreMarked marks_after reach_after
+    → bus < 256 → bus ≡ at → one ≡ is_marked marks bus → other ≡ is_marked marks_after bus → not (beq one other) ≡ false → reach at ≡ reach_after at
+alike_bus reach reach_after marks marks_after bus at one other marked marked_after small is e f same =
+    subst (λ n. reach n ≡ reach_after n) is (sym (marked bus small) ∙ sym e ∙ same_answer one other same ∙ f ∙ marked_after bus small)
+
+pub alike_more : (reach reach_after : ℕ → Bool) (entries : List Entry) (i : ℕ) (entry : Entry) → i < length entries → entry ≡ get_or entries i entry
+    → AreSeenAlike reach reach_after (take i entries) → reach entry.place.bus ≡ reach_after entry.place.bus → AreSeenAlike reach reach_after (take (i + 1) entries)
+alike_more reach reach_after entries i entry within is before now =
+    subst (AreSeenAlike reach reach_after) (ap (λ (last : Entry). take i entries ++ last ∷ []) is ∙ sym (take_more entries i entry within))
+    (all_append (λ (each : Entry). reach each.place.bus ≡ reach_after each.place.bus) (take i entries) (entry ∷ []) before (now, tt))
+
+pub alike_parts : (reach reach_after : ℕ → Bool) (front middle back : List Entry) → AreSeenAlike reach reach_after front → AreSeenAlike reach reach_after middle
+    → AreSeenAlike reach reach_after back → AreSeenAlike reach reach_after (front ++ middle ++ back)
+alike_parts reach reach_after front middle back one two three =
+    all_append (λ (each : Entry). reach each.place.bus ≡ reach_after each.place.bus) (front ++ middle) back
+    (all_append (λ (each : Entry). reach each.place.bus ≡ reach_after each.place.bus) front middle one two) three
+
+alike_places : (reach reach_after : ℕ → Bool) (number : ℕ) (entries : List Entry) → AreSeenAlike reach reach_after entries
+    → hit_places reach (map entry_sight entries) number ≡ hit_places reach_after (map entry_sight entries) number
+alike_places reach reach_after number entries alike =
+    ap (λ (sights : List Sight). map (λ (sight : Sight). sight.place) (filter (λ (sight : Sight). sight.hit number) sights))
+    (filter_alike (λ (sight : Sight). reach sight.place.bus) (λ (sight : Sight). reach_after sight.place.bus) (map entry_sight entries)
+    (all_map (λ (sight : Sight). reach sight.place.bus ≡ reach_after sight.place.bus) entry_sight entries alike))
+
+no_hit : (reach : ℕ → Bool) (number : ℕ) (entry : Entry) (entries : List Entry) → has_config entry.hits number ≡ false
+    → hit_places reach (map entry_sight (entry ∷ entries)) number ≡ hit_places reach (map entry_sight entries) number
+no_hit reach number entry entries none = by (reach entry.place.bus)
+  where
+    rest : List Sight
+    rest = on_buses reach (map entry_sight entries)
+
+    by : (b : Bool) → map (λ (sight : Sight). sight.place) (filter (λ (sight : Sight). sight.hit number) (cond b (entry_sight entry ∷ rest) rest))
+        ≡ map (λ (sight : Sight). sight.place) (filter (λ (sight : Sight). sight.hit number) rest)
+    by true =
+        ap (λ (is : Bool). map (λ (sight : Sight). sight.place) (cond is (entry_sight entry ∷ filter (λ (sight : Sight). sight.hit number) rest)
+        (filter (λ (sight : Sight). sight.hit number) rest))) none
+    by false = refl
+
+among_places : (reach : ℕ → Bool) (number : ℕ) (entry : Entry) (others entries : List Entry) → IsAmong entry others entries → has_config entry.hits number ≡ false
+    → hit_places reach (map entry_sight others) number ≡ hit_places reach (map entry_sight entries) number
+among_places reach number entry others entries among none =
+    ap (λ (them : List Entry). hit_places reach (map entry_sight them) number) among.without ∙ places_append reach number among.front among.back
+    ∙ ap (λ (places : List Place). hit_places reach (map entry_sight among.front) number ++ places) (sym (no_hit reach number entry among.back none))
+    ∙ sym (places_append reach number among.front (entry ∷ among.back))
+    ∙ ap (λ (them : List Entry). hit_places reach (map entry_sight them) number) (sym among.with)
+
+pub hits_stay : (reach reach_after : ℕ → Bool) (number : ℕ) (entry : Entry) (before after : List Entry) → IsApartBy entry before after
+    → AreSeenAlike reach reach_after before → has_config entry.hits number ≡ false
+    → hit_places reach (map entry_sight before) number ≡ hit_places reach_after (map entry_sight after) number
+hits_stay reach reach_after number entry before after apart alike none =
+    alike_places reach reach_after number before alike ∙ elim apart [
+      | inl comes ↦ among_places reach_after number entry before after comes none
+      | inr goes ↦ sym (among_places reach_after number entry after before goes none)
+    ]
+
+-- an entry that is put in comes alone
+pub with_among : (entry : Entry) (entries : List Entry) → IsAmong entry entries (with_entry entry entries)
+with_among entry entries = record {
+  front = take (position_or_len (is_behind entry.place) entries) entries;
+  back = drop (position_or_len (is_behind entry.place) entries) entries;
+  without = sym (take-append-drop (position_or_len (is_behind entry.place) entries) entries);
+  with = sym (put_in entry entries);
+}
+
+before_it : (place : Place) (other entry : Entry) → is_lt (place_cmp other.place entry.place) ≡ true → is_entry_at place entry ≡ true → is_entry_at place other ≡ false
+before_it place other entry less at = by (is_entry_at place other) refl
+  where
+    by : (b : Bool) → is_entry_at place other ≡ b → b ≡ false
+    by false is = refl
+    by true is =
+        let here : place ≡ entry.place = place_same place entry.place (sym (place_cmp_eq place entry.place) ∙ at) in
+        let there : place ≡ other.place = place_same place other.place (sym (place_cmp_eq place other.place) ∙ is) in
+        let equal : is_eq (place_cmp other.place entry.place) ≡ true = ap (λ (it : Place). is_eq (place_cmp it entry.place)) (sym there) ∙ at in
+        let differs : is_eq (place_cmp other.place entry.place) ≡ false = less_differs _ less in
+        absurd (cc)
+
+later_at : (test : Entry → Bool) (entries : List Entry) (at : ℕ) (entry : Entry) → list_all test entries ≡ true → slice_get entries at ≡ Some entry → test entry ≡ true
+later_at test [] at entry all is = absurd (cc)
+later_at test (first ∷ entries) zero entry all is = let same : first ≡ entry = cc in ap test (sym same) ∙ and_first _ _ all
+later_at test (first ∷ entries) (suc at) entry all is = later_at test entries at entry (and_second _ _ all) is
+
+-- an entry that is taken out goes alone
+pub without_among : (place : Place) (entries : List Entry) (at : ℕ) (entry : Entry) → are_by_place entries ≡ true → slice_get entries at ≡ Some entry
+    → is_entry_at place entry ≡ true → IsAmong entry (without_entry place entries) entries
+without_among place [] at entry ordered is here = absurd (cc)
+without_among place (first ∷ entries) zero entry ordered is here =
+    let same : first ≡ entry = cc in
+    let stands : is_entry_at place first ≡ true = ap (is_entry_at place) same ∙ here in
+    record {
+      front = [];
+      back = entries;
+      without = ap (λ (b : Bool). cond (not b) (first ∷ without_entry place entries) (without_entry place entries)) stands
+          ∙ filter_all (λ (each : Entry). not (is_entry_at place each)) entries (none_later place first entries stands (and_first _ _ ordered));
+      with = ap (λ (each : Entry). each ∷ entries) same;
+    }
+without_among place (first ∷ entries) (suc at) entry ordered is here =
+    let rest = without_among place entries at entry (and_second _ _ ordered) is here in
+    let less : is_lt (place_cmp first.place entry.place) ≡ true =
+    later_at (λ (later : Entry). is_lt (place_cmp first.place later.place)) entries at entry (and_first _ _ ordered) is in
+    record {
+      front = first ∷ rest.front;
+      back = rest.back;
+      without = ap (λ (b : Bool). cond (not b) (first ∷ without_entry place entries) (without_entry place entries)) (before_it place first entry less here)
+          ∙ ap (λ (them : List Entry). first ∷ them) rest.without;
+      with = ap (λ (them : List Entry). first ∷ them) rest.with;
+    }
