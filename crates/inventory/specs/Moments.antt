@@ -52,5 +52,7 @@ AreSeenAlike reach reach_after entries = AllByRecursion (λ (entry : Entry). rea
 -- the hits of a configuration are the same at both moments, where this entry has none of them
 abbrev pub HitsStayBut : Option Entry → Moment → Moment → Type 0
 HitsStayBut None before after = ⊤
-HitsStayBut (Some entry) before after = (reach reach_after : ℕ → Bool) → AreMarked before.facts.reach reach → AreMarked after.facts.reach reach_after → (number : ℕ)
-    → has_config entry.hits number ≡ false → hit_places reach (map entry_sight before.entries) number ≡ hit_places reach_after (map entry_sight after.entries) number
+HitsStayBut (Some entry) before after =
+    (reach reach_after : ℕ → Bool) → AreMarked before.facts.reach reach → AreMarked after.facts.reach reach_after → (number : ℕ)
+    → has_config entry.hits number ≡ false
+    → hit_places reach (map entry_sight before.entries) number ≡ hit_places reach_after (map entry_sight after.entries) number
