@@ -12,7 +12,8 @@ use Rattle.std.proofs.lemmas.Option.{slice_get_past}
 use Rattle.bmc_base.specs.Places.{Place}
 use Rattle.probe_lang.specs.Sights.{Sight}
 use Rattle.cfg_json.specs.Configs.{Config}
-use Rattle.inventory.specs.Boards.{boards_in, board_places, has_board}
+use Rattle.found_set.specs.Found.{is_found, is_reached}
+use Rattle.inventory.specs.Boards.{boards_in, board_places, config_places, rules_of, has_board}
 use Rattle.inventory.specs.Indexes.{kept_of, except, with_boards, index_in}
 use Rattle.inventory.specs.Differences.{key_of, keys_left, places_of}
 use Rattle.inventory.specs.declared.board.BoardKey.{BoardKey}
@@ -70,22 +71,21 @@ module _ (number : ℕ) where
       → places_of number (keys_by places from count) ≡ places number
   places_within places from zero low high = absurd (omega (arith, low, high))
   places_within places from (suc count) low high =
-      places_append (map (key_of from) (places from)) (keys_by places (from + 1) count) ∙ by (nat_eq from number) refl
+      places_append (map (key_of from) (places from)) (keys_by places (from + 1) count)
+      ∙ by (nat_eq from number) refl (λ later. places_within places (from + 1) count later (omega (arith, high)))
     where
       by : (same : Bool) → nat_eq from number ≡ same
+          → (from + 1 ≤ number → places_of number (keys_by places (from + 1) count) ≡ places number)
           → places_of number (map (key_of from) (places from)) ++ places_of number (keys_by places (from + 1) count) ≡ places number
-      by true is =
+      by true is rest =
           let here : from ≡ number = eqb-true from number is in
           ap₂ (λ (front back : List (Option Place)). front ++ back)
           (ap (λ each. places_of number (map (key_of each) (places each))) here ∙ places_own (places number))
           (places_outside places (from + 1) count (omega (arith, here)))
           ∙ append-nil (places number)
-      by false is =
-          ap₂ (λ (front back : List (Option Place)). front ++ back) (places_other from (places from) is)
-          (places_within places (from + 1) count (omega (arith, low, apart is)) (omega (arith, high)))
-        where
-          apart : nat_eq from number ≡ false → from ≢ number
-          apart differ same = absurd (let yes = eq-eqb from number same in cc)
+      by false is rest =
+          let apart : from ≢ number = λ same. absurd (let equal = eq-eqb from number same in cc) in
+          ap₂ (λ (front back : List (Option Place)). front ++ back) (places_other from (places from) is) (rest (omega (arith, low, apart)))
 
 -- of each configuration those are left that are here and not there
 pub places_left : (number count : ℕ) (here there : ℕ → List (Option Place)) → (count ≤ number → here number ≡ [])
@@ -103,12 +103,12 @@ places_left number count here there none = by (nat_lt number count) refl
 
 within_own : (number count : ℕ) (places : List (Option Place)) → number < count → AreWithin (map (key_of number) places) count
 within_own number count [] few = All-nil _
-within_own number count (place ∷ places) few = All-cons _ (key_of number place) (map (key_of number) places) few (within_own number count places few)
+within_own number count (place ∷ places) few = All-cons (λ (key : BoardKey). key.config < count) (key_of number place) (map (key_of number) places) few (within_own number count places few)
 
 within_by : (places : ℕ → List (Option Place)) (from n count : ℕ) → from + n ≤ count → AreWithin (keys_by places from n) count
 within_by places from zero count few = All-nil _
 within_by places from (suc n) count few =
-    All-append _ (map (key_of from) (places from)) (keys_by places (from + 1) n) (within_own from count (places from) (omega (arith, few)))
+    All-append (λ (key : BoardKey). key.config < count) (map (key_of from) (places from)) (keys_by places (from + 1) n) (within_own from count (places from) (omega (arith, few)))
     (within_by places (from + 1) n count (omega (arith, few)))
 
 pub keys_within : (count : ℕ) (here there : ℕ → List (Option Place)) → AreWithin (keys_left count here there) count
@@ -129,7 +129,9 @@ name_front (config ∷ configs) more (suc number) few = name_front configs more 
 -- where there is no configuration there is no board
 no_boards : (configs : List Config) (sights : List Sight) (number : ℕ) → length configs ≤ number → boards_in configs sights number ≡ []
 unfolding boards_in board_places
-no_boards configs sights number few = ap (λ (config : Option Config). unwrap_or (option_map (λ config. _) config) []) (slice_get_past configs number few)
+no_boards configs sights number few =
+    ap (λ (config : Option Config). unwrap_or (option_map (config_places (is_found (rules_of configs) sights) (is_reached (rules_of configs) sights) sights number)
+    config) []) (slice_get_past configs number few)
 
 -- what was staged is taken over
 pub moves : (old new : View) (more : List Config) (gone fresh : List BoardKey) (kept kept_now : List (List (Option Place))) (changes : List Change)

@@ -1,8 +1,10 @@
 pub mod SoFar
 pub mod StatesLemmas
 pub mod StepsLemmas
+pub mod ChangesLemmas
 pub mod KeysLemmas
 pub mod RowsLemmas
+pub mod EventsLemmas
 pub mod RunsLemmas
 pub mod GatheringLemmas
 pub mod Along

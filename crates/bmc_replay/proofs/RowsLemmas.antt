@@ -55,20 +55,20 @@ AreHitsBelow count hits = All (λ (hit : Hit). hit.config < count) hits
 
 hit_below : (count config pattern : ℕ) (is_match : Bool) → config < count → AreHitsBelow count (hit_if is_match config pattern)
 hit_below count config pattern false few = All-nil _
-hit_below count config pattern true few = All-cons _ (record { config = config; pattern = pattern }) [] few (All-nil _)
+hit_below count config pattern true few = All-cons (λ (hit : Hit). hit.config < count) (record { config = config; pattern = pattern }) [] few (All-nil _)
 
 patterns_below : (count config pattern : ℕ) (place : Place) (fields : List Field) (patterns : List (List Member)) → config < count
     → AreHitsBelow count (pattern_hits place fields config pattern patterns)
 patterns_below count config pattern place fields [] few = All-nil _
 patterns_below count config pattern place fields (members ∷ patterns) few =
-    All-append _ (hit_if (matches members place fields) config pattern) (pattern_hits place fields config (pattern + 1) patterns)
+    All-append (λ (hit : Hit). hit.config < count) (hit_if (matches members place fields) config pattern) (pattern_hits place fields config (pattern + 1) patterns)
     (hit_below count config pattern (matches members place fields) few) (patterns_below count config (pattern + 1) place fields patterns few)
 
 configs_below : (count number : ℕ) (place : Place) (fields : List Field) (configs : List Config) → number + length configs ≤ count
     → AreHitsBelow count (config_hits place fields number configs)
 configs_below count number place fields [] few = All-nil _
 configs_below count number place fields (config ∷ configs) few =
-    All-append _ (pattern_hits place fields number 0 config.patterns) (config_hits place fields (number + 1) configs)
+    All-append (λ (hit : Hit). hit.config < count) (pattern_hits place fields number 0 config.patterns) (config_hits place fields (number + 1) configs)
     (patterns_below count number 0 place fields config.patterns (omega (arith, few)))
     (configs_below count (number + 1) place fields configs (omega (arith, few)))
 

@@ -140,7 +140,7 @@ block_answer line past bytes rule refusal maker maker_now gives is = of rule (co
     of (faults.PatternTooLarge text) (Err other) gives is = absurd gives.0
     of faults.OutOfMemory read gives is = absurd (cc)
 
-known_rule : (rule : ConfigFault) (refusal : Refusal) → config_refusal rule ≡ Some refusal → Result.Err {Config} rule ≢ Err faults.OutOfMemory
+known_rule : (rule : ConfigFault) (refusal : Refusal) → config_refusal rule ≡ Some refusal → (let result : Result Config ConfigFault = Err rule in result) ≢ Err faults.OutOfMemory
 known_rule rule refusal is same = absurd (let no = ap (λ (result : Result Config ConfigFault). reason_of result) same in cc)
   where
     reason_of : Result Config ConfigFault → Option Refusal

@@ -58,15 +58,12 @@ inventory_is view past configs same held =
 except_twice : (test other : Option Place → Bool) (places : List (Option Place)) → ((place : Option Place) → other place ≡ true → test place ≡ true)
     → except test (except other places) ≡ except test places
 except_twice test other [] passes = refl
-except_twice test other (place ∷ places) passes = by (other place) (test place) (passes place) (except_twice test other places passes)
+except_twice test other (place ∷ places) passes = by (other place) (passes place) (except_twice test other places passes)
   where
-    by : (is_other passes_test : Bool) → (is_other ≡ true → passes_test ≡ true) → except test (except other places) ≡ except test places
-        → cond (not is_other) (cond (not passes_test) (place ∷ except test (except other places)) (except test (except other places)))
-        (except test (except other places)) ≡ cond (not passes_test) (place ∷ except test places) (except test places)
-    by true true both rest = rest
-    by true false both rest = absurd (let no = both refl in cc)
-    by false true both rest = rest
-    by false false both rest = ap (λ (places : List (Option Place)). place ∷ places) rest
+    by : (is_other : Bool) → (is_other ≡ true → test place ≡ true) → except test (except other places) ≡ except test places
+        → except test (cond (not is_other) (place ∷ except other places) (except other places)) ≡ except test (place ∷ places)
+    by true passes rest = rest ∙ sym (ap (λ (left : Bool). cond (not left) (place ∷ except test places) (except test places)) (passes refl))
+    by false passes rest = ap (λ (later : List (Option Place)). cond (not (test place)) (place ∷ later) later) rest
 
 -- the boards that are new are kept behind the others
 kept_after : (old new : View) (past : List Step) (step : Step) → IsLegal (step ∷ past)

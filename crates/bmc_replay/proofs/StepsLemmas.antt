@@ -117,7 +117,7 @@ unplugged old new place held configs entries same moves = record {
 -- ---- configurations
 
 -- why a configuration is refused where this stands
-by_tests : Bool → Bool → Bool → Option Refusal
+abbrev by_tests : Bool → Bool → Bool → Option Refusal
 by_tests after_plug duplicate full = cond after_plug (Some ConfigAfterPlug) (cond duplicate (Some DuplicateName) (cond full (Some ConfigLimit) None))
 
 tests_are : (view : View) (past : List Step) (config : Config) → Stands view past
@@ -131,7 +131,8 @@ pub after_plug : (old new : View) (config : Config) → old.plugged ≡ true →
     → Tries old (Configure config) (Some ConfigAfterPlug) new
 after_plug old new config is left =
     refused old new (Configure config) ConfigAfterPlug
-    (λ past stood. tests_are old past config stood ∙ ap (λ (test : Bool). by_tests test _ _) is) left
+    (λ past stood. tests_are old past config stood
+    ∙ ap (λ (test : Bool). by_tests test (is_some (number_of old.configs config.name)) (nat_le most_configs (length old.configs))) is) left
 
 pub duplicate : (old new : View) (config : Config) → old.plugged ≡ false → is_some (number_of old.configs config.name) ≡ true
     → new ≡ record old { changes = [] } → Tries old (Configure config) (Some DuplicateName) new

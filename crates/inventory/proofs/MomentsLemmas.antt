@@ -1,6 +1,6 @@
 -- Entries with one more among them, and without one.
 use Rattle.std.proofs.Common.{◌≡◌, ℕ, zero, suc, ◌+◌, ◌-◌, ◌<◌, ◌≤◌, List, [], ◌∷◌, ◌++◌, Bool, true, false, not, cond, ◌&&◌, Option, Some, None, length}
-use Rattle.std.proofs.Common.{take, drop, filter, map, get_or, position}
+use Rattle.std.proofs.Common.{take, drop, filter, find, map, get_or, position}
 use Rattle.std.proofs.Common.{refl, sym, ap, ap₂, ◌∙◌, arith, length-drop, append_assoc, subst, inl, inr}
 use Rattle.std.specs.Prelude.{nat_lt, slice_get}
 use mathlib.Core.Bool.{beq}
@@ -313,12 +313,13 @@ without_among place (first ∷ entries) (suc at) entry ordered is here =
 entry_at : (place : Place) (entries : List Entry) (entry : Entry) → find (is_entry_at place) entries ≡ Some entry
     → (at : ℕ) × (slice_get entries at ≡ Some entry) × (is_entry_at place entry ≡ true)
 entry_at place [] entry found = absurd (cc)
-entry_at place (first ∷ entries) entry found = by (is_entry_at place first) refl found
+entry_at place (first ∷ entries) entry found = by (is_entry_at place first) refl found (entry_at place entries entry)
   where
     by : (here : Bool) → is_entry_at place first ≡ here → cond here (Some first) (find (is_entry_at place) entries) ≡ Some entry
+        → (find (is_entry_at place) entries ≡ Some entry → (at : ℕ) × (slice_get entries at ≡ Some entry) × (is_entry_at place entry ≡ true))
         → (at : ℕ) × (slice_get (first ∷ entries) at ≡ Some entry) × (is_entry_at place entry ≡ true)
-    by true is same = let first_is : first ≡ entry = cc in (0, same, sym (ap (is_entry_at place) first_is) ∙ is)
-    by false is later = let rest = entry_at place entries entry later in (suc rest.0, rest.1, rest.2)
+    by true is same rest = let first_is : first ≡ entry = cc in (0, same, sym (ap (is_entry_at place) first_is) ∙ is)
+    by false is later rest = let there = rest later in (suc there.0, there.1, there.2)
 
 -- the entry that is found at a place is apart from the others
 pub found_apart : (place : Place) (entries : List Entry) (entry : Entry) → are_by_place entries ≡ true → find (is_entry_at place) entries ≡ Some entry

@@ -15,6 +15,6 @@ mod tests;
 
 pub use board::{Board, BoardKey, BoardKeys};
 pub use changed::Difference;
-pub use compare::difference;
+pub use compare::{difference, difference_by};
 pub use index_keep::IndexKeep;
 pub use moment::Moment;

@@ -1,0 +1,40 @@
+-- Lists that grow by one element at a time.
+use Rattle.std.proofs.Common.{◌≡◌, ℕ, ◌+◌, ◌<◌, List, [], ◌∷◌, ◌++◌, map, take, length, get_or, Bool, Option, Some, refl, ap, sym, ◌∙◌, append_assoc, append-nil, slice_get, option_map}
+use Rattle.std.specs.Option.{unwrap_or}
+use Rattle.std.specs.List.{flat_map}
+use Rattle.std.proofs.lemmas.List.{take_more, map-append}
+use Rattle.std.proofs.lemmas.Grind.{flat_map-append}
+use Rattle.bmc_base.specs.Places.{Place}
+use Rattle.cfg_json.specs.Configs.{Config, fixed_in}
+use Rattle.cfg_json.specs.declared.expose.Expose.{Expose}
+use Rattle.inventory.specs.Indexes.{index_in}
+use Rattle.inventory.specs.declared.board.BoardKey.{BoardKey}
+use Rattle.bmc_report.specs.declared.change.Change.{Change}
+use Rattle.bmc_report.specs.declared.change.Change.TheVariants.{Board}
+use Rattle.bmc_machine.specs.Boards.{name_of}
+use Rattle.bmc_machine.specs.Changes.{board_change}
+
+-- what each element adds
+pub flat_map_one : {X Y : Type 0} (what : X → List Y) (xs : List X) (i : ℕ) (x : X) (so_far now added : List Y) → i < length xs → x ≡ get_or xs i x
+    → what x ≡ added → so_far ≡ flat_map what (take i xs) → now ≡ so_far ++ added → now ≡ flat_map what (take (i + 1) xs)
+flat_map_one {X} what xs i x so_far now added within is adds before grown =
+    grown ∙ ap (λ (front : List _). front ++ added) before
+    ∙ ap (λ (more : List _). flat_map what (take i xs) ++ more) (sym (append-nil (what x) ∙ adds))
+    ∙ sym (flat_map-append what (take i xs) (x ∷ []))
+    ∙ ap (λ (items : List X). flat_map what items) (sym (take_more xs i x within ∙ ap (λ (last : X). take i xs ++ last ∷ []) (sym is)))
+
+-- a change more
+pub change_more : (gone : Bool) (configs : List Config) (kept : ℕ → List (Option Place)) (keys : List BoardKey) (i : ℕ) (key : BoardKey) (config : Config)
+    (start so_far now : List Change) → i < length keys → key ≡ get_or keys i key → Some config ≡ slice_get configs key.config
+    → so_far ≡ start ++ map (board_change gone configs kept) (take i keys)
+    → now ≡ so_far ++ Board gone config.name (index_in (kept key.config) key.place) key.place ∷ []
+    → now ≡ start ++ map (board_change gone configs kept) (take (i + 1) keys)
+change_more gone configs kept keys i key config start so_far now within is found before grown =
+    let same : Board gone config.name (index_in (kept key.config) key.place) key.place ≡ board_change gone configs kept key =
+    ap (λ (config : Option Config). Board gone (unwrap_or (option_map (λ config. config.name) config) []) (index_in (kept key.config) key.place) key.place) found in
+    grown ∙ ap (λ (front : List Change). front ++ _) before
+    ∙ append_assoc start (map (board_change gone configs kept) (take i keys)) _
+    ∙ ap (λ (changes : List Change). start ++ changes)
+      (ap (λ (change : Change). map (board_change gone configs kept) (take i keys) ++ change ∷ []) same
+      ∙ sym (map-append (board_change gone configs kept) (take i keys) (key ∷ []))
+      ∙ ap (map (board_change gone configs kept)) (sym (take_more keys i key within ∙ ap (λ (last : BoardKey). take i keys ++ last ∷ []) (sym is))))

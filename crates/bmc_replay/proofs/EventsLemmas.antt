@@ -1,0 +1,168 @@
+-- What each event leaves of the parts of a state.
+use Rattle.std.proofs.Common.{◌≡◌, ℕ, arith, List, [], ◌∷◌, ◌++◌, map, length, ◌+◌, ◌≤◌, Bool, true, false, Option, Some, None, Result, Ok, Err, refl, ap, ap₂, sym, subst, ◌∙◌, append-nil, find}
+use Rattle.std.specs.Prelude.{IsSomeAnd, IfSome, OnErr, ◌||◌, ◌==◌}
+use Rattle.std.proofs.lemmas.List.FromFn.{get_or-map-range_with_len}
+use Rattle.std.proofs.lemmas.Bool.{eqb-true}
+use Rattle.bmc_base.specs.Places.{Place}
+use Rattle.fru_area.specs.declared.field.Field.{Field}
+use Rattle.probe_lang.specs.Sights.{Sight, entry_sight}
+use Rattle.probe_lang.specs.Presents as presents
+use Rattle.probe_lang.specs.Presents.{with_entry, without_entry, is_entry_at, are_by_place}
+use Rattle.probe_lang.specs.declared.rows.Entry.{Entry}
+use Rattle.cfg_json.specs.Configs.{Config}
+use Rattle.match_rows.specs.Matching.{entry_of}
+use Rattle.found_set.specs.declared.facts.Facts.{Facts}
+use Rattle.found_set.specs.declared.row.Row.{Row}
+use Rattle.found_set.specs.Found.{Rule, facts, is_found, is_reached}
+use Rattle.found_set.specs.Marks.{AreMarked, marks, mark_count}
+use Rattle.found_set.specs.Rows as rows
+use Rattle.found_set.specs.Rows.{row_of, sights_of, IsKnown}
+use Rattle.found_set.specs.Events.{Event, ConfigEvent, PlugEvent, UnplugEvent, rules_after, rows_after}
+use Rattle.found_set.specs.Sets.{SetView, after, as_staged, committed}
+use Rattle.inventory.specs.Boards.{rule_of, rules_of, boards_in}
+use Rattle.inventory.specs.Differences.{Moment, IsMarkedBy, boards_at, keys_left}
+use Rattle.inventory.specs.Moments.{IsAmong}
+use Rattle.inventory.specs.declared.board.BoardKey.{BoardKey}
+use Rattle.inventory.proofs.MomentsLemmas.{with_among, found_apart}
+use Rattle.bmc_report.specs.declared.change.Change.{Change}
+use Rattle.bmc_replay.specs.Changes.{IsDifference, AreWithin, Tells}
+use Rattle.bmc_replay.proofs.KeysLemmas.{keys_within}
+use Rattle.bmc_replay.proofs.RowsLemmas.{rows_sights, rows_hold, rows_with, rows_without, entry_is_known}
+
+pub on_err : {T E P : Type 0} (result : Result T E) → P → OnErr result P
+on_err (Ok value) fact = tt
+on_err (Err fault) fact = fact
+
+-- ---- what the set asks for
+
+pub new_place : (set_rows : List Row) (entries : List Entry) (entry : Entry) (configs : List Config) (place : Place) (fields : List Field)
+    → set_rows ≡ map row_of entries → entry ≡ entry_of configs place fields → presents.holds_place entries place ≡ false
+    → rows.holds_place set_rows entry.place ≡ false
+new_place set_rows entries entry configs place fields same is free =
+    ap₂ (λ (set_rows : List Row) (entry : Entry). rows.holds_place set_rows entry.place) same is ∙ rows_hold entries place ∙ free
+
+pub held_place : (set_rows : List Row) (entries : List Entry) (place : Place) (held : Bool) → set_rows ≡ map row_of entries
+    → presents.holds_place entries place ≡ held → rows.holds_place set_rows place ≡ held
+held_place set_rows entries place held same is =
+    ap (λ (set_rows : List Row). rows.holds_place set_rows place) same ∙ rows_hold entries place ∙ is
+
+pub known_entry : (rules : List Rule) (configs : List Config) (entry : Entry) (place : Place) (fields : List Field) → rules ≡ rules_of configs
+    → entry ≡ entry_of configs place fields → IsKnown rules (row_of entry)
+known_entry rules configs entry place fields same is =
+    subst (λ (entry : Entry). IsKnown rules (row_of entry)) (sym is)
+    (subst (λ (rules : List Rule). IsKnown rules (row_of (entry_of configs place fields))) (sym same) (entry_is_known configs place fields))
+
+-- ---- the two moments
+
+pub plug_among : (entry : Entry) (entries before behind : List Entry) → before ≡ entries → behind ≡ with_entry entry entries → IsAmong entry before behind
+plug_among entry entries before behind same with =
+    subst (λ (before : List Entry). IsAmong entry before behind) (sym same)
+    (subst (λ (behind : List Entry). IsAmong entry entries behind) (sym with) (with_among entry entries))
+
+pub unplug_among : (place : Place) (entry : Entry) (entries before behind : List Entry) → are_by_place entries ≡ true
+    → find (is_entry_at place) entries ≡ Some entry → before ≡ entries → behind ≡ without_entry place entries → IsAmong entry behind before
+unplug_among place entry entries before behind ordered found same without =
+    subst (λ (before : List Entry). IsAmong entry behind before) (sym same)
+    (subst (λ (behind : List Entry). IsAmong entry behind entries) (sym without) (found_apart place entries entry ordered found))
+
+-- the marks of a test are marked as it says
+are_marked : (test : ℕ → Bool) → AreMarked (marks test) test
+are_marked test number few = get_or-map-range_with_len test 0 mark_count number number false few (omega arith)
+
+marked_by : (held : Facts) (rules : List Rule) (sights : List Sight) → held ≡ facts rules sights → IsMarkedBy held (is_found rules sights) (is_reached rules sights)
+marked_by held rules sights same =
+    subst (λ (held : Facts). IsMarkedBy held (is_found rules sights) (is_reached rules sights)) (sym same)
+    (record { found = are_marked (is_found rules sights); reach = are_marked (is_reached rules sights) })
+
+boards_same : (configs : List Config) (moment : Moment) (entries : List Entry) → moment.entries ≡ entries → (number : ℕ)
+    → boards_at configs (is_found (rules_of configs) (map entry_sight entries)) (is_reached (rules_of configs) (map entry_sight entries)) moment number
+    ≡ boards_in configs (map entry_sight entries) number
+unfolding boards_in
+boards_same configs moment entries same number =
+    ap (λ (there : List Entry). boards_at configs (is_found (rules_of configs) (map entry_sight entries))
+    (is_reached (rules_of configs) (map entry_sight entries)) (record { facts = moment.facts; entries = there }) number) same
+
+facts_same : (held : Facts) (configs : List Config) (rules : List Rule) (set_rows : List Row) (entries : List Entry) → held ≡ facts rules (sights_of set_rows)
+    → rules ≡ rules_of configs → set_rows ≡ map row_of entries → held ≡ facts (rules_of configs) (map entry_sight entries)
+facts_same held configs rules set_rows entries is same rows_same =
+    is ∙ ap₂ (λ (rules : List Rule) (set_rows : List Row). facts rules (sights_of set_rows)) same rows_same
+    ∙ ap (facts (rules_of configs)) (rows_sights entries)
+
+-- what comparing the two moments gives, over what is known at each
+pub difference_is : (configs configs_after : List Config) (before behind : Moment) (rules rules_behind : List Rule) (entries entries_after : List Entry)
+    (set_rows rows_behind : List Row) (gone new : List BoardKey)
+    → rules ≡ rules_of configs → set_rows ≡ map row_of entries → before.facts ≡ facts rules (sights_of set_rows) → before.entries ≡ entries
+    → rules_behind ≡ rules_of configs_after → rows_behind ≡ map row_of entries_after → behind.facts ≡ facts rules_behind (sights_of rows_behind)
+    → behind.entries ≡ entries_after
+    → ((found reach found_after reach_after : ℕ → Bool) → IsMarkedBy before.facts found reach → IsMarkedBy behind.facts found_after reach_after
+        → (gone ≡ keys_left (length configs) (boards_at configs found reach before) (boards_at configs_after found_after reach_after behind))
+        × (new ≡ keys_left (length configs_after) (boards_at configs_after found_after reach_after behind) (boards_at configs found reach before)))
+    → IsDifference (length configs) (length configs_after) (boards_in configs (map entry_sight entries)) (boards_in configs_after (map entry_sight entries_after))
+    gone new
+difference_is configs configs_after before behind rules rules_behind entries entries_after set_rows rows_behind gone new same rows_same facts_are entries_are
+    same_after rows_after facts_after entries_behind differs =
+    let both = differs _ _ _ _
+    (marked_by before.facts (rules_of configs) (map entry_sight entries)
+    (facts_same before.facts configs rules set_rows entries facts_are same rows_same))
+    (marked_by behind.facts (rules_of configs_after) (map entry_sight entries_after)
+    (facts_same behind.facts configs_after rules_behind rows_behind entries_after facts_after same_after rows_after)) in
+    record {
+      those_gone = both.0 ∙ ap₂ (keys_left (length configs)) (λ i number. boards_same configs before entries entries_are number i)
+          (λ i number. boards_same configs_after behind entries_after entries_behind number i);
+      those_new = both.1 ∙ ap₂ (keys_left (length configs_after)) (λ i number. boards_same configs_after behind entries_after entries_behind number i)
+          (λ i number. boards_same configs before entries entries_are number i);
+    }
+
+-- the keys that are told have configurations
+pub gone_within : (count count_after : ℕ) (boards boards_after : ℕ → List (Option Place)) (gone new told : List BoardKey)
+    → IsDifference count count_after boards boards_after gone new → told ≡ gone → AreWithin told count
+gone_within count count_after boards boards_after gone new told differs same =
+    subst (λ (keys : List BoardKey). AreWithin keys count) (sym (same ∙ differs.those_gone)) (keys_within count boards boards_after)
+
+pub staged_within : (count count_after : ℕ) (boards boards_after : ℕ → List (Option Place)) (gone new : List BoardKey) (staged : Option (List BoardKey))
+    → IsDifference count count_after boards boards_after gone new → staged ≡ Some new → IsSomeAnd staged (λ new. AreWithin new count_after)
+staged_within count count_after boards boards_after gone new staged differs same =
+    subst (λ (staged : Option (List BoardKey)). IsSomeAnd staged (λ new. AreWithin new count_after)) (sym same)
+    (subst (λ (keys : List BoardKey). AreWithin keys count_after) (sym differs.those_new) (keys_within count_after boards_after boards))
+
+pub room_for : (gone new told : List BoardKey) (staged : Option (List BoardKey)) (room : ℕ) → told ≡ gone → staged ≡ Some new
+    → length gone + length new ≤ room → IsSomeAnd staged (λ new. length told + length new ≤ room)
+room_for gone new told staged room same is fits =
+    subst (λ (staged : Option (List BoardKey)). IsSomeAnd staged (λ new. length told + length new ≤ room)) (sym is)
+    (subst (λ (keys : List BoardKey). length keys + length new ≤ room) (sym same) fits)
+
+pub tells_those : (configs : List Config) (gone new told : List BoardKey) (staged : Option (List BoardKey)) (kept kept_now : List (List (Option Place)))
+    (changes : List Change) → told ≡ gone → staged ≡ Some new → IfSome staged (λ new. Tells configs told new kept kept_now changes)
+    → Tells configs gone new kept kept_now changes
+tells_those configs gone new told staged kept kept_now changes same is tells =
+    subst (λ (keys : List BoardKey). Tells configs keys new kept kept_now changes) same
+    (subst (λ (staged : Option (List BoardKey)). IfSome staged (λ new. Tells configs told new kept kept_now changes)) is tells)
+
+-- ---- what the set has afterwards
+
+pub set_after : (event : Event) (set staged_set now : SetView) → staged_set ≡ as_staged set (Some (after event set)) → now ≡ committed staged_set
+    → (now.rules ≡ rules_after event set.rules) × (now.rows ≡ rows_after event set.rows)
+set_after event set staged_set now staged commits =
+    let is = commits ∙ ap committed staged in (ap (λ (set : SetView). set.rules) is, ap (λ (set : SetView). set.rows) is)
+
+pub rows_plugged : (set_rows : List Row) (entries entries_now : List Entry) (entry : Entry) → set_rows ≡ map row_of entries → entries_now ≡ with_entry entry entries
+    → rows_after (PlugEvent (row_of entry)) set_rows ≡ map row_of entries_now
+rows_plugged set_rows entries entries_now entry same now =
+    ap (rows.with_row (row_of entry)) same ∙ rows_with entry entries ∙ ap (map row_of) (sym now)
+
+pub rows_unplugged : (set_rows : List Row) (entries entries_now : List Entry) (place : Place) → set_rows ≡ map row_of entries
+    → entries_now ≡ without_entry place entries → rows_after (UnplugEvent place) set_rows ≡ map row_of entries_now
+rows_unplugged set_rows entries entries_now place same now =
+    ap (rows.without_row place) same ∙ rows_without place entries ∙ ap (map row_of) (sym now)
+
+-- no FRU is left where none was ever plugged
+pub none_left : (plugged : Bool) (entries entries_now : List Entry) (place : Place) → (plugged || (length entries == 0)) ≡ true
+    → entries_now ≡ without_entry place entries → (plugged || (length entries_now == 0)) ≡ true
+none_left true entries entries_now place none now = refl
+none_left false [] entries_now place none now = ap (λ (entries : List Entry). length entries == 0) now
+none_left false (entry ∷ entries) entries_now place none now = absurd (omega (arith, eqb-true (length (entry ∷ entries)) 0 none))
+
+pub no_entries : (plugged : Bool) (entries : List Entry) → plugged ≡ false → (plugged || (length entries == 0)) ≡ true → entries ≡ []
+no_entries true entries never none = absurd (cc)
+no_entries false [] never none = refl
+no_entries false (entry ∷ entries) never none = absurd (omega (arith, eqb-true (length (entry ∷ entries)) 0 none))
