@@ -98,15 +98,15 @@ returns-clause-tried g c =
     subst (λ (view : View). Tries view (Unplug c.args.place) None new) c.self.view_is
     (unplugged old new c.args.place (sym c.in-Some.ensures.held) refl c.unplug.ensures.entries refl
     (moves old new [] _ _ _ _ _ (sym (append-nil c.self.inside.shelf)) (difference_is c.self.inside.shelf c.self.inside.shelf c.of-before.result c.without-after.result c.self.inside.set.rules c.self.inside.set.rules
-    c.self.inside.rows.entries (without_entry c.args.place c.self.inside.rows.entries) c.self.inside.set.rows _
+    c.self.inside.rows.entries c.unplug.new.self.entries c.self.inside.set.rows _
     c.in_ok-difference.difference.gone_boards c.in_ok-difference.difference.new_boards c.self.invariant.rules c.self.invariant.rows
     (c.of-before.ensures.facts ∙ c.facts.ensures.current
     ∙ ap (λ (set : SetView). facts set.rules (sights_of set.rows)) c.in_ok-next.ensures.ok)
     (c.of-before.ensures.entries ∙ c.entries.ensures.value) c.self.invariant.rules
-    (rows_unplugged c.self.inside.set.rows c.self.inside.rows.entries (without_entry c.args.place c.self.inside.rows.entries) c.args.place
-    c.self.invariant.rows refl)
+    (rows_unplugged c.self.inside.set.rows c.self.inside.rows.entries c.unplug.new.self.entries c.args.place
+    c.self.invariant.rows c.unplug.ensures.entries)
     (c.without-after.ensures.facts ∙ c.facts-2.ensures ∙ ap (λ (next : NextFacts). next.facts) c.in_ok-next.ensures.next)
-    (c.without-after.ensures.entries ∙ ap (without_entry c.args.place) c.entries-2.ensures.value)
+    (c.without-after.ensures.entries ∙ ap (without_entry c.args.place) c.entries-2.ensures.value ∙ sym c.unplug.ensures.entries)
     c.in_ok-difference.ensures) c.stage_changes.ensures.kept
     (tells_those c.self.inside.shelf c.in_ok-difference.difference.gone_boards c.in_ok-difference.difference.new_boards c.in_ok-gone.gone
     c.stage_changes.new.keep.staged _ _ _ c.in_ok-gone.ensures.gone c.in_ok-gone.ensures.staged c.tell_changes.ensures) refl refl))
