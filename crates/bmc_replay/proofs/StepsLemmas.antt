@@ -3,9 +3,10 @@ use Rattle.std.proofs.Common.{◌≡◌, ℕ, List, [], ◌∷◌, ◌++◌, map
 use Rattle.std.specs.Prelude.{Result, nat_le, is_some, ◌||◌, ◌==◌}
 use Rattle.std.specs.Ordering.{is_lt, is_eq}
 use Rattle.bmc_base.specs.Places.{Place, place_cmp}
-use Rattle.fru_area.specs.Readings.{checked}
+use Rattle.fru_area.specs.Readings.{GivesFault, checked}
 use Rattle.fru_area.specs.declared.field.Field.{Field}
 use Rattle.fru_area.specs.declared.fault.FruFault.{FruFault}
+use Rattle.fru_area.specs.declared.fault.FruFault.TheVariants as rules
 use Rattle.fru_record.specs.Records.{record_of}
 use Rattle.probe_lang.specs.Presents.{with_entry, without_entry, holds_place}
 use Rattle.probe_lang.specs.declared.rows.Entry.{Entry}
@@ -64,13 +65,28 @@ occupied old new place bytes held left =
     refused old new (Plug place bytes) Occupied
     (λ past stood. ap (λ (there : Bool). cond there (Some Occupied) (broken_rule (record_of bytes))) (is_known old past place true stood held)) left
 
+-- a fault that is a rule's is what reading gives
+breaks_by : {X : Type 0} (rule : FruFault) (refusal : Refusal) (read : Result X FruFault) → record_refusal rule ≡ Some refusal → GivesFault rule read
+    → read ≡ Err rule
+breaks_by rules.OutOfMemory refusal read is gives = absurd (cc)
+breaks_by rules.FruShort refusal read is gives = gives
+breaks_by rules.FruTooLong refusal read is gives = gives
+breaks_by rules.HeaderVersion refusal read is gives = gives
+breaks_by rules.HeaderChecksum refusal read is gives = gives
+breaks_by (rules.AreaOutside area) refusal read is gives = gives
+breaks_by (rules.AreaVersion area) refusal read is gives = gives
+breaks_by (rules.AreaLength area) refusal read is gives = gives
+breaks_by (rules.AreaChecksum area) refusal read is gives = gives
+breaks_by (rules.FieldOutside area) refusal read is gives = gives
+breaks_by (rules.NoEnd area) refusal read is gives = gives
+
 -- bytes that break a rule are refused by it
 pub broken : (old new : View) (place : Place) (bytes : List ℕ) (rule : FruFault) (refusal : Refusal) → holds_place old.entries place ≡ false
-    → record_of bytes ≡ Err rule → record_refusal rule ≡ Some refusal → new ≡ record old { changes = [] } → Tries old (Plug place bytes) (Some refusal) new
+    → GivesFault rule (record_of bytes) → record_refusal rule ≡ Some refusal → new ≡ record old { changes = [] } → Tries old (Plug place bytes) (Some refusal) new
 broken old new place bytes rule refusal free breaks is left =
     refused old new (Plug place bytes) refusal
     (λ past stood. ap (λ (there : Bool). cond there (Some Occupied) (broken_rule (record_of bytes))) (is_known old past place false stood free)
-    ∙ ap broken_rule breaks ∙ is) left
+    ∙ ap broken_rule (breaks_by rule refusal (record_of bytes) is breaks) ∙ is) left
 
 -- a FRU is added whose record is whole
 pub plugged : (old new : View) (place : Place) (bytes : List ℕ) (fields : List Field) → holds_place old.entries place ≡ false

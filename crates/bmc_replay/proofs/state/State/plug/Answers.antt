@@ -1,18 +1,29 @@
-use Rattle.std.proofs.Common.{rules, ◌≡◌, [], false, IfOk, OnOk, OnErr, Some, ℕ, ◌+◌, ◌-◌, ◌*◌, ◌<◌, ◌≤◌, length, ◌/◌, ◌%◌, Bool, true, nat_eq, nat_lt, List, ◌∷◌, ◌++◌, slice_index_or, slice_set, bit_and, bit_or, Fits, w8, w32, w64, Bor, MutBor}
-use Rattle.bmc_machine.specs.Histories as histories
-use Rattle.bmc_replay.specs.States.{no_view, IsSame}
+use Rattle.std.proofs.Common.{◌≡◌, ◌∙◌, Option, None, true, false, ap, sym, subst}
 use Rattle.probe_lang.specs.Presents.{holds_place}
-use Rattle.bmc_replay.specs.Steps.{AddsFru, Tries}
+use Rattle.bmc_report.specs.declared.refusal.Refusal.{Refusal}
+use Rattle.bmc_machine.specs.Histories.{Plug}
+use Rattle.bmc_replay.specs.States.{View}
+use Rattle.bmc_replay.specs.Steps.{Tries}
+use Rattle.bmc_replay.proofs.StepsLemmas.{occupied, broken, plugged}
 use Rattle.bmc_replay.proofs.state.State.plug.Goals as goal
 
--- src/state.rt:136:13
 pub returns-then-is_some-clause-tried : goal.returns-then-is_some-clause-tried
-returns-then-is_some-clause-tried g c = ?
+returns-then-is_some-clause-tried g c =
+    subst (λ (refusal : Option Refusal). Tries c.args.self.now (Plug c.args.place c.args.bytes.now) refusal c.refuse.new.self) (sym c.refuse.ensures.reason)
+    (occupied c.args.self.now c.refuse.new.self c.args.place c.args.bytes.now
+    (ap (λ (view : View). holds_place view.entries c.args.place) (sym c.self.view_is) ∙ sym c.entry.ensures.held ∙ sym c.is_some.ensures ∙ c.if-is_some.true)
+    c.refuse.ensures.left)
 
--- src/state.rt:125:5
 pub returns-in_ok-add_fru-in-Ok-clause-tried : goal.returns-in_ok-add_fru-in-Ok-clause-tried
-returns-in_ok-add_fru-in-Ok-clause-tried g c = ?
+returns-in_ok-add_fru-in-Ok-clause-tried g c =
+    plugged c.args.self.now c.add_fru.new.self c.args.place c.args.bytes.now c.in-Ok.fru
+    (ap (λ (view : View). holds_place view.entries c.args.place) (sym c.self.view_is) ∙ sym c.entry.ensures.held ∙ sym c.is_some.ensures ∙ c.if-is_some.false)
+    c.in-Ok.ensures c.in_ok-add_fru-in-Ok.ensures.ok
 
--- src/state.rt:125:5
 pub returns-in_ok-refusal-in-Err-clause-tried : goal.returns-in_ok-refusal-in-Err-clause-tried
-returns-in_ok-refusal-in-Err-clause-tried g c = ?
+returns-in_ok-refusal-in-Err-clause-tried g c =
+    subst (λ (refusal : Option Refusal). Tries c.args.self.now (Plug c.args.place c.args.bytes.now) refusal c.refuse-in-Err.new.self)
+    (sym c.refuse-in-Err.ensures.reason)
+    (broken c.args.self.now c.refuse-in-Err.new.self c.args.place c.args.bytes.now c.in-Err.rule c.in_ok-refusal-in-Err.refusal
+    (ap (λ (view : View). holds_place view.entries c.args.place) (sym c.self.view_is) ∙ sym c.entry.ensures.held ∙ sym c.is_some.ensures ∙ c.if-is_some.false)
+    c.in-Err.ensures c.in_ok-refusal-in-Err.ensures.refusal c.refuse-in-Err.ensures.left)
