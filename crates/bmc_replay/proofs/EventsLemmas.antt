@@ -1,25 +1,30 @@
 -- What each event leaves of the parts of a state.
-use Rattle.std.proofs.Common.{◌≡◌, ℕ, arith, List, [], ◌∷◌, ◌++◌, map, length, ◌+◌, ◌≤◌, Bool, true, false, Option, Some, None, Result, Ok, Err, refl, ap, ap₂, sym, subst, ◌∙◌, append-nil, find}
-use Rattle.std.specs.Prelude.{IsSomeAnd, IfSome, OnErr, ◌||◌, ◌==◌}
+use Rattle.std.proofs.Common.{◌≡◌, ℕ, arith, List, [], ◌∷◌, ◌++◌, map, length, not, cond, ◌+◌, ◌≤◌, Bool, true, false, Option, Some, None, Result, Ok, Err, refl, ap, ap₂, sym, subst, ◌∙◌, append-nil, find}
+use Rattle.std.specs.List.{position_or_len}
+use Rattle.std.specs.Prelude.{is_some, nat_lt, bytes_eq, IsSomeAnd, IfSome, OnErr, ◌||◌, ◌==◌}
 use Rattle.std.proofs.lemmas.List.FromFn.{get_or-map-range_with_len}
 use Rattle.std.proofs.lemmas.Bool.{eqb-true}
+use Rattle.std.proofs.lemmas.List.{map-append, length-map, length-append}
 use Rattle.bmc_base.specs.Places.{Place}
 use Rattle.fru_area.specs.declared.field.Field.{Field}
 use Rattle.probe_lang.specs.Sights.{Sight, entry_sight}
+use Rattle.probe_lang.specs.Values.{Probe}
 use Rattle.probe_lang.specs.Presents as presents
 use Rattle.probe_lang.specs.Presents.{with_entry, without_entry, is_entry_at, are_by_place}
 use Rattle.probe_lang.specs.declared.rows.Entry.{Entry}
-use Rattle.cfg_json.specs.Configs.{Config}
+use Rattle.cfg_json.specs.Configs.{Config, fixed_of}
+use Rattle.cfg_json.specs.Shelves as shelves
 use Rattle.match_rows.specs.Matching.{entry_of}
 use Rattle.found_set.specs.declared.facts.Facts.{Facts}
 use Rattle.found_set.specs.declared.row.Row.{Row}
-use Rattle.found_set.specs.Found.{Rule, facts, is_found, is_reached}
+use Rattle.found_set.specs.Found.{Rule, rule_of, has_name, number_of, facts, is_found, is_reached}
 use Rattle.found_set.specs.Marks.{AreMarked, marks, mark_count}
 use Rattle.found_set.specs.Rows as rows
 use Rattle.found_set.specs.Rows.{row_of, sights_of, IsKnown}
 use Rattle.found_set.specs.Events.{Event, ConfigEvent, PlugEvent, UnplugEvent, rules_after, rows_after}
 use Rattle.found_set.specs.Sets.{SetView, after, as_staged, committed}
-use Rattle.inventory.specs.Boards.{rule_of, rules_of, boards_in}
+use Rattle.inventory.specs.Boards as of_configs
+use Rattle.inventory.specs.Boards.{rules_of, boards_in}
 use Rattle.inventory.specs.Differences.{Moment, IsMarkedBy, boards_at, keys_left}
 use Rattle.inventory.specs.Moments.{IsAmong}
 use Rattle.inventory.specs.declared.board.BoardKey.{BoardKey}
@@ -51,6 +56,39 @@ pub known_entry : (rules : List Rule) (configs : List Config) (entry : Entry) (p
 known_entry rules configs entry place fields same is =
     subst (λ (entry : Entry). IsKnown rules (row_of entry)) (sym is)
     (subst (λ (rules : List Rule). IsKnown rules (row_of (entry_of configs place fields))) (sym same) (entry_is_known configs place fields))
+
+place_is : (configs : List Config) (name : List ℕ) → position_or_len (has_name name) (rules_of configs) ≡ position_or_len (shelves.has_name name) configs
+place_is [] name = refl
+place_is (config ∷ configs) name =
+    ap (λ (later : ℕ). cond (not (bytes_eq name config.name)) (1 + later) 0) (place_is configs name)
+
+number_is : (configs : List Config) (name : List ℕ) → number_of (rules_of configs) name ≡ shelves.number_of configs name
+number_is configs name =
+    ap₂ (λ (place count : ℕ). cond (nat_lt place count) (Some place) None) (place_is configs name) (length-map configs of_configs.rule_of)
+
+-- a name that no configuration has
+pub no_number : (configs : List Config) (name : List ℕ) (config : Config) (number : Option ℕ) → number ≡ shelves.number_of configs name → name ≡ config.name
+    → is_some number ≡ false → shelves.number_of configs config.name ≡ None
+no_number configs name config number at named lacks =
+    let none : number ≡ None = none_is number lacks in
+    sym (ap (shelves.number_of configs) named) ∙ sym at ∙ none
+  where
+    none_is : (number : Option ℕ) → is_some number ≡ false → number ≡ None
+    none_is None lacks = refl
+    none_is (Some number) lacks = absurd (cc)
+
+pub new_name : (rules : List Rule) (configs : List Config) (name : List ℕ) (config : Config) → rules ≡ rules_of configs → name ≡ config.name
+    → shelves.number_of configs config.name ≡ None → number_of rules name ≡ None
+new_name rules configs name config same named none = ap₂ number_of same named ∙ number_is configs config.name ∙ none
+
+-- the rules with that of one more configuration
+pub rules_more : (rules : List Rule) (configs : List Config) (config : Config) (name : List ℕ) (probe : Probe) (fixed : List ℕ) → rules ≡ rules_of configs
+    → name ≡ config.name → probe ≡ config.probe → fixed ≡ fixed_of config
+    → rules ++ rule_of name probe fixed ∷ [] ≡ rules_of (configs ++ config ∷ [])
+rules_more rules configs config name probe fixed same named by leads =
+    ap₂ (λ (rules : List Rule) (rule : Rule). rules ++ rule ∷ []) same
+    (ap (λ (name : List ℕ). rule_of name probe fixed) named ∙ ap₂ (rule_of config.name) by leads)
+    ∙ sym (map-append of_configs.rule_of configs (config ∷ []))
 
 -- ---- the two moments
 
@@ -118,6 +156,12 @@ pub gone_within : (count count_after : ℕ) (boards boards_after : ℕ → List 
     → IsDifference count count_after boards boards_after gone new → told ≡ gone → AreWithin told count
 gone_within count count_after boards boards_after gone new told differs same =
     subst (λ (keys : List BoardKey). AreWithin keys count) (sym (same ∙ differs.those_gone)) (keys_within count boards boards_after)
+
+pub within_more : (keys : List BoardKey) (configs : List Config) (config : Config) → AreWithin keys (length configs)
+    → AreWithin keys (length (configs ++ config ∷ []))
+within_more keys configs config within = λ k d few.
+    let here = within k d few in
+    let more = length-append configs (config ∷ []) in omega (arith, here, more)
 
 pub staged_within : (count count_after : ℕ) (boards boards_after : ℕ → List (Option Place)) (gone new : List BoardKey) (staged : Option (List BoardKey))
     → IsDifference count count_after boards boards_after gone new → staged ≡ Some new → IsSomeAnd staged (λ new. AreWithin new count_after)
