@@ -157,6 +157,140 @@ spends_item None feed feed_now piece ended going taken read = absurd (let no = t
 spends_item (Some item) feed feed_now piece true going taken read = absurd (cc)
 spends_item (Some item) feed feed_now piece false going taken read = omega (arith, taken.shorter, read, length-append feed.waiting piece)
 
+-- what is printed of the bytes that were taken is the front of what is printed of the script, whatever later verdicts are
+abbrev pub Begins : Option (List ℕ) → List Verdict → List ℕ → Type 0
+Begins script verdicts total =
+    WhereTold script (λ script. (later : List Verdict) → (rest : List ℕ) × (out (verdicts ++ later) script ≡ total ++ rest))
+
+-- all that is printed after an answer
+printed_after : (so_far later : Answer) → with_list (and_then so_far later) ≡ so_far.text ++ (later.text ++ final_list (standing later.past).frus)
+printed_after so_far later = append_assoc so_far.text later.text (final_list (standing later.past).frus)
+
+so_far_begins : (left left_now : Option (List ℕ)) (taken waiting : List ℕ) (verdicts : List Verdict) (number : ℕ) (so_far : Answer)
+    → Consumes left left_now taken → SoFar taken waiting verdicts number so_far → Begins left verdicts so_far.text
+so_far_begins None left_now taken waiting verdicts number so_far consumed machine = tt
+so_far_begins (Some script) None taken waiting verdicts number so_far consumed machine = absurd consumed
+so_far_begins (Some script) (Some rest) taken waiting verdicts number so_far consumed machine = λ later_verdicts.
+    let later : Answer = answers number so_far.past later_verdicts (items_of (waiting ++ rest)) in
+    (later.text ++ final_list (standing later.past).frus,
+    ap (out (verdicts ++ later_verdicts)) consumed ∙ ap with_list (machine.all rest later_verdicts) ∙ printed_after so_far later)
+
+-- the script was what was taken, where the source was read to its end
+taken_all : (script taken rest : List ℕ) → script ≡ taken ++ rest → rest ≡ [] → script ≡ taken
+taken_all script taken rest consumed at_end = consumed ∙ ap (λ (rest : List ℕ). taken ++ rest) at_end ∙ append-nil taken
+
+ended_begins : (left left_now : Option (List ℕ)) (taken : List ℕ) (verdicts : List Verdict) (so_far : Answer)
+    → Consumes left left_now taken → IsAtEnd left_now → HasEnded taken verdicts so_far → Begins left verdicts (with_list so_far)
+ended_begins None left_now taken verdicts so_far consumed at_end machine = tt
+ended_begins (Some script) None taken verdicts so_far consumed at_end machine = absurd consumed
+ended_begins (Some script) (Some rest) taken verdicts so_far consumed at_end machine = λ later.
+    ([], ap (out (verdicts ++ later)) (taken_all script taken rest consumed at_end) ∙ ap with_list (machine.all later) ∙ sym (append-nil (with_list so_far)))
+
+drop_more : (script : Option (List ℕ)) (verdicts : List Verdict) (total more : List ℕ) → Begins script verdicts (total ++ more)
+    → Begins script verdicts total
+drop_more None verdicts total more begins = tt
+drop_more (Some script) verdicts total more begins =
+    λ later. (more ++ (begins later).0, (begins later).1 ∙ append_assoc total more (begins later).0)
+
+-- what was written of it is a front
+begins_front : (script : Option (List ℕ)) (verdicts : List Verdict) (old now : Told) (text total : List ℕ) → Begins script verdicts total
+    → Printed old now text total → IsFront script verdicts old now
+begins_front None verdicts old now text total begins printed = tt
+begins_front (Some script) verdicts old now text total begins printed = λ later.
+    front_so_far old now printed.written (text ++ (begins later).0) (out (verdicts ++ later) script) printed.told
+    ((begins later).1 ∙ ap (λ (front : List ℕ). front ++ (begins later).0) (sym printed.parts) ∙ append_assoc printed.written text (begins later).0)
+
+-- and so it is where a write of what was gathered, and of more, stops
+begins_stopped : (script : Option (List ℕ)) (verdicts : List Verdict) (old now new : Told) (text more total : List ℕ)
+    → Begins script verdicts (total ++ more) → Printed old now text total → AppendsFront now new (text ++ more) → IsFront script verdicts old new
+begins_stopped None verdicts old now new text more total begins printed front = tt
+begins_stopped (Some script) verdicts old now new text more total begins printed front = λ later.
+    front_after old now new printed.written (text ++ more) (out (verdicts ++ later) script) (begins later).0 printed.told front
+    ((begins later).1 ∙ ap (λ (whole : List ℕ). (whole ++ more) ++ (begins later).0) (sym printed.parts)
+    ∙ ap (λ (whole : List ℕ). whole ++ (begins later).0) (append_assoc printed.written text more)
+    ∙ append_assoc printed.written (text ++ more) (begins later).0)
+
+begins_cut : (script : Option (List ℕ)) (verdicts : List Verdict) (old now new : Told) (text total : List ℕ)
+    → Begins script verdicts total → Printed old now text total → AppendsFront now new text → IsFront script verdicts old new
+begins_cut script verdicts old now new text total begins printed front =
+    begins_stopped script verdicts old now new text [] total (subst (Begins script verdicts) (sym (append-nil total)) begins) printed
+    (subst (AppendsFront now new) (sym (append-nil text)) front)
+
+-- the verdicts are tied to the items of the script
+tied_by : (ended : Bool) (left left_now : Option (List ℕ)) (taken waiting : List ℕ) (verdicts : List Verdict) (number : ℕ) (so_far : Answer)
+    → Consumes left left_now taken → (ended ≡ true → IsAtEnd left_now) → HasCome ended taken waiting verdicts number so_far
+    → WhereTold left (λ script. AreTied (items_of script) verdicts)
+tied_by ended None left_now taken waiting verdicts number so_far consumed at_end machine = tt
+tied_by ended (Some script) None taken waiting verdicts number so_far consumed at_end machine = absurd consumed
+tied_by false (Some script) (Some rest) taken waiting verdicts number so_far consumed at_end machine =
+    subst₂ (λ (bytes : List ℕ) (all : List Verdict). AreTied (items_of bytes) all) (sym consumed) (append-nil verdicts) (machine.tied rest [] tt)
+tied_by true (Some script) (Some rest) taken waiting verdicts number so_far consumed at_end machine =
+    subst (λ (bytes : List ℕ). AreTied (items_of bytes) verdicts) (sym (taken_all script taken rest consumed (at_end refl))) machine.tied
+
+going : {A : Type 0} → false ≡ true → A
+going never = absurd (cc)
+
+-- verdicts on an item that was not taken are tied to the script, behind those before it
+left_tied : (ended : Bool) (left left_now : Option (List ℕ)) (taken waiting piece rest : List ℕ) (verdicts more : List Verdict) (number : ℕ)
+    (so_far : Answer) (item : Item) → Consumes left left_now (taken ++ piece) → (ended ≡ true → IsAtEnd left_now)
+    → SoFar taken waiting verdicts number so_far → IsTaken (Some item) ended (waiting ++ piece) rest → AreTied (item ∷ []) more
+    → WhereTold left (λ script. AreTied (items_of script) (verdicts ++ more))
+left_tied ended None left_now taken waiting piece rest verdicts more number so_far item consumed at_end machine came tied = tt
+left_tied ended (Some script) None taken waiting piece rest verdicts more number so_far item consumed at_end machine came tied = absurd consumed
+left_tied false (Some script) (Some behind) taken waiting piece rest verdicts more number so_far item consumed at_end machine came tied =
+    subst (λ (bytes : List ℕ). AreTied (items_of bytes) (verdicts ++ more)) (sym (consumed ∙ append_assoc taken piece behind))
+    (machine.tied (piece ++ behind) more
+    (subst (λ (items : List Item). AreTied items more) (sym (ap items_of (sym (append_assoc waiting piece behind)) ∙ came.all behind))
+    (first_tied item (items_of (rest ++ behind)) more tied)))
+  where
+    first_tied : (item : Item) (items : List Item) (more : List Verdict) → AreTied (item ∷ []) more → AreTied (item ∷ items) more
+    first_tied item items [] tied = tt
+    first_tied item items (verdict ∷ []) tied = (tied.0, tt)
+    first_tied item items (verdict ∷ other ∷ later) tied = absurd tied.1
+left_tied true (Some script) (Some behind) taken waiting piece rest verdicts more number so_far item consumed at_end machine came tied =
+    subst (λ (bytes : List ℕ). AreTied (items_of bytes) (verdicts ++ more)) (sym (taken_all script (taken ++ piece) behind consumed (at_end refl)))
+    (machine.tied piece more (subst (λ (items : List Item). AreTied items more) (sym came.all) tied))
+
+large_more : (maker now new : List (List ℕ)) (verdicts more : List Verdict) → now ≡ maker ++ large_texts verdicts → new ≡ now ++ large_texts more
+    → new ≡ maker ++ large_texts (verdicts ++ more)
+large_more maker now new verdicts more before later =
+    later ∙ ap (λ (texts : List (List ℕ)). texts ++ large_texts more) before ∙ append_assoc maker (large_texts verdicts) (large_texts more)
+    ∙ ap (λ (texts : List (List ℕ)). maker ++ texts) (sym (flat_map-append large_in verdicts more))
+
+-- the rows of the entries are those of the FRUs
+rows_are : (configs : List Config) (frus : List Fru) → entry_rows (map (fru_entry configs) frus) ≡ final_list frus
+unfolding final_list
+rows_are configs [] = refl
+rows_are configs (fru ∷ frus) = ap (λ (rows : List ℕ). fru_row fru.place (fields_of fru) ++ rows) (rows_are configs frus)
+
+-- a write in the final list stops for want of memory or by a fault of the sink
+stops_after : (stop : Stop) (verdicts : List Verdict) (before now : Outside) (calls calls_now : Calls)
+    → Takes before now (λ count. count ≤ longest_script) → WriteCause stop calls calls_now → Reaches (status_of (Err stop)) verdicts before now
+stops_after stops.OutOfMemory verdicts before now calls calls_now takes cause = takes
+stops_after stops.WriteFault verdicts before now calls calls_now takes cause = takes
+stops_after stops.ReadFault verdicts before now calls calls_now takes cause = absurd cause
+stops_after stops.TooLong verdicts before now calls calls_now takes cause = absurd cause
+
+writes_all : (refused : Bool) (script : List ℕ) (verdicts : List Verdict) (old new : Told) → WritesAll script verdicts refused old new
+    → Writes (status_of (Ok refused)) script verdicts old new
+writes_all true script verdicts old new writes = writes
+writes_all false script verdicts old new writes = writes
+
+all_written : (refused : Bool) (left left_now : Option (List ℕ)) (taken : List ℕ) (verdicts : List Verdict) (so_far : Answer) (old new : Told)
+    → Consumes left left_now taken → IsAtEnd left_now → HasEnded taken verdicts so_far → refused ≡ so_far.refused → new ≡ added old (with_list so_far)
+    → WhereTold left (λ script. Writes (status_of (Ok refused)) script verdicts old new)
+all_written refused None left_now taken verdicts so_far old new consumed at_end machine same text = tt
+all_written refused (Some script) None taken verdicts so_far old new consumed at_end machine same text = absurd consumed
+all_written refused (Some script) (Some rest) taken verdicts so_far old new consumed at_end machine same text =
+    let script_is : script ≡ taken = taken_all script taken rest consumed at_end in
+    let is : answer_of verdicts script ≡ so_far =
+    ap (answer_of verdicts) script_is ∙ ap (λ (all : List Verdict). answer_of all taken) (sym (append-nil verdicts)) ∙ machine.all [] in
+    writes_all refused script verdicts old new (record {
+      each = machine.each ∙ sym (ap (λ (bytes : List ℕ). length (items_of bytes)) script_is);
+      text = text ∙ ap (λ (answer : Answer). added old (with_list answer)) (sym is);
+      refusal = ap (λ (answer : Answer). answer.refused) is ∙ sym same;
+    })
+
 module _ {L : Type 0} where
   -- The bytes of the source that were read have taken the machine this far under these verdicts, and what it printed is written or gathered.
   pub record Along (ended : Bool) (before now : Outside) (maker maker_now : Maker) (feed : ItemFeed) (run : Run L) : Type 0 where
@@ -187,41 +321,6 @@ module _ {L : Type 0} where
     machine = rw (ap (λ (feed : ItemFeed). feed.waiting) none, new.number) so_far_none;
   }
 
-  -- what is printed of the bytes that were taken is the front of what is printed of the script, whatever later verdicts are
-  abbrev pub Begins : Option (List ℕ) → List Verdict → List ℕ → Type 0
-  Begins script verdicts total =
-      WhereTold script (λ script. (later : List Verdict) → (rest : List ℕ) × (out (verdicts ++ later) script ≡ total ++ rest))
-
-  -- all that is printed after an answer
-  printed_after : (so_far later : Answer) → with_list (and_then so_far later) ≡ so_far.text ++ (later.text ++ final_list (standing later.past).frus)
-  printed_after so_far later = append_assoc so_far.text later.text (final_list (standing later.past).frus)
-
-  so_far_begins : (left left_now : Option (List ℕ)) (taken waiting : List ℕ) (verdicts : List Verdict) (number : ℕ) (so_far : Answer)
-      → Consumes left left_now taken → SoFar taken waiting verdicts number so_far → Begins left verdicts so_far.text
-  so_far_begins None left_now taken waiting verdicts number so_far consumed machine = tt
-  so_far_begins (Some script) None taken waiting verdicts number so_far consumed machine = absurd consumed
-  so_far_begins (Some script) (Some rest) taken waiting verdicts number so_far consumed machine = λ later_verdicts.
-      let later : Answer = answers number so_far.past later_verdicts (items_of (waiting ++ rest)) in
-      (later.text ++ final_list (standing later.past).frus,
-      ap (out (verdicts ++ later_verdicts)) consumed ∙ ap with_list (machine.all rest later_verdicts) ∙ printed_after so_far later)
-
-  -- the script was what was taken, where the source was read to its end
-  taken_all : (script taken rest : List ℕ) → script ≡ taken ++ rest → rest ≡ [] → script ≡ taken
-  taken_all script taken rest consumed at_end = consumed ∙ ap (λ (rest : List ℕ). taken ++ rest) at_end ∙ append-nil taken
-
-  ended_begins : (left left_now : Option (List ℕ)) (taken : List ℕ) (verdicts : List Verdict) (so_far : Answer)
-      → Consumes left left_now taken → IsAtEnd left_now → HasEnded taken verdicts so_far → Begins left verdicts (with_list so_far)
-  ended_begins None left_now taken verdicts so_far consumed at_end machine = tt
-  ended_begins (Some script) None taken verdicts so_far consumed at_end machine = absurd consumed
-  ended_begins (Some script) (Some rest) taken verdicts so_far consumed at_end machine = λ later.
-      ([], ap (out (verdicts ++ later)) (taken_all script taken rest consumed at_end) ∙ ap with_list (machine.all later) ∙ sym (append-nil (with_list so_far)))
-
-  drop_more : (script : Option (List ℕ)) (verdicts : List Verdict) (total more : List ℕ) → Begins script verdicts (total ++ more)
-      → Begins script verdicts total
-  drop_more None verdicts total more begins = tt
-  drop_more (Some script) verdicts total more begins =
-      λ later. (more ++ (begins later).0, (begins later).1 ∙ append_assoc total more (begins later).0)
-
   along_begins : (ended : Bool) (before now : Outside) (maker maker_now : Maker) (feed : ItemFeed) (run : Run L)
       (along : Along ended before now maker maker_now feed run) → (ended ≡ true → IsAtEnd now.input.left)
       → Begins before.input.left along.verdicts along.so_far.text
@@ -230,41 +329,6 @@ module _ {L : Type 0} where
   along_begins true before now maker maker_now feed run along at_end =
       drop_more before.input.left along.verdicts along.so_far.text (final_list (standing along.so_far.past).frus)
       (ended_begins before.input.left now.input.left along.taken along.verdicts along.so_far along.consumed (at_end refl) along.machine)
-
-  -- what was written of it is a front
-  begins_front : (script : Option (List ℕ)) (verdicts : List Verdict) (old now : Told) (text total : List ℕ) → Begins script verdicts total
-      → Printed old now text total → IsFront script verdicts old now
-  begins_front None verdicts old now text total begins printed = tt
-  begins_front (Some script) verdicts old now text total begins printed = λ later.
-      front_so_far old now printed.written (text ++ (begins later).0) (out (verdicts ++ later) script) printed.told
-      ((begins later).1 ∙ ap (λ (front : List ℕ). front ++ (begins later).0) (sym printed.parts) ∙ append_assoc printed.written text (begins later).0)
-
-  -- and so it is where a write of what was gathered, and of more, stops
-  begins_stopped : (script : Option (List ℕ)) (verdicts : List Verdict) (old now new : Told) (text more total : List ℕ)
-      → Begins script verdicts (total ++ more) → Printed old now text total → AppendsFront now new (text ++ more) → IsFront script verdicts old new
-  begins_stopped None verdicts old now new text more total begins printed front = tt
-  begins_stopped (Some script) verdicts old now new text more total begins printed front = λ later.
-      front_after old now new printed.written (text ++ more) (out (verdicts ++ later) script) (begins later).0 printed.told front
-      ((begins later).1 ∙ ap (λ (whole : List ℕ). (whole ++ more) ++ (begins later).0) (sym printed.parts)
-      ∙ ap (λ (whole : List ℕ). whole ++ (begins later).0) (append_assoc printed.written text more)
-      ∙ append_assoc printed.written (text ++ more) (begins later).0)
-
-  begins_cut : (script : Option (List ℕ)) (verdicts : List Verdict) (old now new : Told) (text total : List ℕ)
-      → Begins script verdicts total → Printed old now text total → AppendsFront now new text → IsFront script verdicts old new
-  begins_cut script verdicts old now new text total begins printed front =
-      begins_stopped script verdicts old now new text [] total (subst (Begins script verdicts) (sym (append-nil total)) begins) printed
-      (subst (AppendsFront now new) (sym (append-nil text)) front)
-
-  -- the verdicts are tied to the items of the script
-  tied_by : (ended : Bool) (left left_now : Option (List ℕ)) (taken waiting : List ℕ) (verdicts : List Verdict) (number : ℕ) (so_far : Answer)
-      → Consumes left left_now taken → (ended ≡ true → IsAtEnd left_now) → HasCome ended taken waiting verdicts number so_far
-      → WhereTold left (λ script. AreTied (items_of script) verdicts)
-  tied_by ended None left_now taken waiting verdicts number so_far consumed at_end machine = tt
-  tied_by ended (Some script) None taken waiting verdicts number so_far consumed at_end machine = absurd consumed
-  tied_by false (Some script) (Some rest) taken waiting verdicts number so_far consumed at_end machine =
-      subst₂ (λ (bytes : List ℕ) (all : List Verdict). AreTied (items_of bytes) all) (sym consumed) (append-nil verdicts) (machine.tied rest [] tt)
-  tied_by true (Some script) (Some rest) taken waiting verdicts number so_far consumed at_end machine =
-      subst (λ (bytes : List ℕ). AreTied (items_of bytes) verdicts) (sym (taken_all script taken rest consumed (at_end refl))) machine.tied
 
   along_tied : (ended : Bool) (before now : Outside) (maker maker_now : Maker) (feed : ItemFeed) (run : Run L)
       (along : Along ended before now maker maker_now feed run) → (ended ≡ true → IsAtEnd now.input.left)
@@ -343,9 +407,6 @@ module _ {L : Type 0} where
             (so_far_whole along.taken feed.waiting gets.reading.piece along.verdicts run.number along.so_far along.machine gets.reading.bytes)));
       }
 
-  going : {A : Type 0} → false ≡ true → A
-  going no = absurd (cc)
-
   -- the run stops where an item is wanted
   pub along_stops : (stop : Stop) (before now new : Outside) (maker maker_now : Maker) (feed feed_now : ItemFeed) (run : Run L)
       → feed_now.read ≤ longest_script → Along false before now maker maker_now feed run → StopsAt stop feed feed_now now new (string_bytes run.text)
@@ -370,33 +431,6 @@ module _ {L : Type 0} where
       (along_cut false before now new maker maker_now feed run along going
       (front_all now.output.taken new.output.taken (string_bytes run.text) how.writing))
       (along_whole before now new maker maker_now feed feed_now run (λ count. count ≡ longest_script) along how)
-
-  -- verdicts on an item that was not taken are tied to the script, behind those before it
-  left_tied : (ended : Bool) (left left_now : Option (List ℕ)) (taken waiting piece rest : List ℕ) (verdicts more : List Verdict) (number : ℕ)
-      (so_far : Answer) (item : Item) → Consumes left left_now (taken ++ piece) → (ended ≡ true → IsAtEnd left_now)
-      → SoFar taken waiting verdicts number so_far → IsTaken (Some item) ended (waiting ++ piece) rest → AreTied (item ∷ []) more
-      → WhereTold left (λ script. AreTied (items_of script) (verdicts ++ more))
-  left_tied ended None left_now taken waiting piece rest verdicts more number so_far item consumed at_end machine came tied = tt
-  left_tied ended (Some script) None taken waiting piece rest verdicts more number so_far item consumed at_end machine came tied = absurd consumed
-  left_tied false (Some script) (Some behind) taken waiting piece rest verdicts more number so_far item consumed at_end machine came tied =
-      subst (λ (bytes : List ℕ). AreTied (items_of bytes) (verdicts ++ more)) (sym (consumed ∙ append_assoc taken piece behind))
-      (machine.tied (piece ++ behind) more
-      (subst (λ (items : List Item). AreTied items more) (sym (ap items_of (sym (append_assoc waiting piece behind)) ∙ came.all behind))
-      (first_tied item (items_of (rest ++ behind)) more tied)))
-    where
-      first_tied : (item : Item) (items : List Item) (more : List Verdict) → AreTied (item ∷ []) more → AreTied (item ∷ items) more
-      first_tied item items [] tied = tt
-      first_tied item items (verdict ∷ []) tied = (tied.0, tt)
-      first_tied item items (verdict ∷ other ∷ later) tied = absurd tied.1
-  left_tied true (Some script) (Some behind) taken waiting piece rest verdicts more number so_far item consumed at_end machine came tied =
-      subst (λ (bytes : List ℕ). AreTied (items_of bytes) (verdicts ++ more)) (sym (taken_all script (taken ++ piece) behind consumed (at_end refl)))
-      (machine.tied piece more (subst (λ (items : List Item). AreTied items more) (sym came.all) tied))
-
-  large_more : (maker now new : List (List ℕ)) (verdicts more : List Verdict) → now ≡ maker ++ large_texts verdicts → new ≡ now ++ large_texts more
-      → new ≡ maker ++ large_texts (verdicts ++ more)
-  large_more maker now new verdicts more before later =
-      later ∙ ap (λ (texts : List (List ℕ)). texts ++ large_texts more) before ∙ append_assoc maker (large_texts verdicts) (large_texts more)
-      ∙ ap (λ (texts : List (List ℕ)). maker ++ texts) (sym (flat_map-append large_in verdicts more))
 
   -- the run stops where what came is not taken for want of memory
   pub along_leaves : (item : Option Item) (ended : Bool) (before now new : Outside) (maker maker_now maker_new : Maker) (feed feed_now : ItemFeed)
@@ -532,26 +566,12 @@ module _ {L : Type 0} where
             along.machine;
       })
 
-  -- the rows of the entries are those of the FRUs
-  rows_are : (configs : List Config) (frus : List Fru) → entry_rows (map (fru_entry configs) frus) ≡ final_list frus
-  unfolding final_list
-  rows_are configs [] = refl
-  rows_are configs (fru ∷ frus) = ap (λ (rows : List ℕ). fru_row fru.place (fields_of fru) ++ rows) (rows_are configs frus)
-
   -- what is left to print at the end of the script
   list_of : (before now : Outside) (maker maker_now : Maker) (feed : ItemFeed) (run : Run L) (along : Along true before now maker maker_now feed run)
       → along.so_far.text ++ entry_rows run.state.entries ≡ with_list along.so_far
   list_of before now maker maker_now feed run along =
       ap (λ (rows : List ℕ). along.so_far.text ++ rows) (ap entry_rows along.stands.entries ∙ rows_are (standing along.so_far.past).configs
       (standing along.so_far.past).frus)
-
-  -- a write in the final list stops for want of memory or by a fault of the sink
-  stops_after : (stop : Stop) (verdicts : List Verdict) (before now : Outside) (calls calls_now : Calls)
-      → Takes before now (λ count. count ≤ longest_script) → WriteCause stop calls calls_now → Reaches (status_of (Err stop)) verdicts before now
-  stops_after stops.OutOfMemory verdicts before now calls calls_now takes cause = takes
-  stops_after stops.WriteFault verdicts before now calls calls_now takes cause = takes
-  stops_after stops.ReadFault verdicts before now calls calls_now takes cause = absurd cause
-  stops_after stops.TooLong verdicts before now calls calls_now takes cause = absurd cause
 
   -- it stops in the final list
   pub ended_cut : (stop : Stop) (before now new : Outside) (maker maker_now : Maker) (feed : ItemFeed) (run : Run L) (calls calls_now : Calls)
@@ -567,26 +587,6 @@ module _ {L : Type 0} where
       along.printed front)
       (stops_after stop along.verdicts before new calls calls_now
       (along_count true before now new maker maker_now feed run (λ count. count ≤ longest_script) along same limit) cause)
-
-  writes_all : (refused : Bool) (script : List ℕ) (verdicts : List Verdict) (old new : Told) → WritesAll script verdicts refused old new
-      → Writes (status_of (Ok refused)) script verdicts old new
-  writes_all true script verdicts old new writes = writes
-  writes_all false script verdicts old new writes = writes
-
-  all_written : (refused : Bool) (left left_now : Option (List ℕ)) (taken : List ℕ) (verdicts : List Verdict) (so_far : Answer) (old new : Told)
-      → Consumes left left_now taken → IsAtEnd left_now → HasEnded taken verdicts so_far → refused ≡ so_far.refused → new ≡ added old (with_list so_far)
-      → WhereTold left (λ script. Writes (status_of (Ok refused)) script verdicts old new)
-  all_written refused None left_now taken verdicts so_far old new consumed at_end machine same text = tt
-  all_written refused (Some script) None taken verdicts so_far old new consumed at_end machine same text = absurd consumed
-  all_written refused (Some script) (Some rest) taken verdicts so_far old new consumed at_end machine same text =
-      let script_is : script ≡ taken = taken_all script taken rest consumed at_end in
-      let is : answer_of verdicts script ≡ so_far =
-      ap (answer_of verdicts) script_is ∙ ap (λ (all : List Verdict). answer_of all taken) (sym (append-nil verdicts)) ∙ machine.all [] in
-      writes_all refused script verdicts old new (record {
-        each = machine.each ∙ sym (ap (λ (bytes : List ℕ). length (items_of bytes)) script_is);
-        text = text ∙ ap (λ (answer : Answer). added old (with_list answer)) (sym is);
-        refusal = ap (λ (answer : Answer). answer.refused) is ∙ sym same;
-      })
 
   -- all is written and was taken
   pub ended_all : (before now new : Outside) (maker maker_now : Maker) (feed : ItemFeed) (run : Run L) → IsAtEnd now.input.left

@@ -1,5 +1,6 @@
 -- Text that is gathered and written.
-use Rattle.std.proofs.Common.{◌≡◌, ℕ, List, [], ◌∷◌, ◌++◌, refl, ap, sym, ◌∙◌, append_assoc, append-nil}
+use Rattle.std.proofs.Common.{◌≡◌, ◌<◌, ◌+◌, ℕ, length, take, drop, get_or, List, [], ◌∷◌, ◌++◌, refl, ap, sym, ◌∙◌, append_assoc, append-nil}
+use Rattle.std.proofs.lemmas.List.{take_more, take-append-drop}
 use Rattle.bmc_io.specs.Told.{Told, added}
 use Rattle.bmc_io.specs.Sinks.{AppendsFront}
 use Rattle.bmc_io.proofs.ToldLemmas.{added_none, added_more}
@@ -49,62 +50,43 @@ gathers_cut old mid new text held added_first gathers front =
     front_after old mid new gathers.written held (text ++ added_first) [] gathers.told front
     (sym gathers.parts ∙ ap (λ (rest : List ℕ). gathers.written ++ rest) (sym (append-nil held)))
 
--- The rows of the entries that came before `rest` are gathered.
-pub record RowsGathered (entries rest : List Entry) (old new : Told) (text held : List ℕ) : Type 0 where
-  pub done : List Entry
-  pub parts : entries ≡ done ++ rest
-  pub rows : Gathers old new text held (entry_rows done)
-
--- no row yet
-pub rows_none : (entries rest : List Entry) (told : Told) (text : List ℕ) → rest ≡ entries → RowsGathered entries rest told told text text
-rows_none entries rest told text same = record { done = []; parts = sym same; rows = gathers_nothing told text }
-
 rows-append : (done rest : List Entry) → entry_rows (done ++ rest) ≡ entry_rows done ++ entry_rows rest
 rows-append [] rest = refl
 rows-append (entry ∷ done) rest =
     ap (λ (rows : List ℕ). entry_row entry ++ rows) (rows-append done rest)
     ∙ sym (append_assoc (entry_row entry) (entry_rows done) (entry_rows rest))
 
-rows-cons : (entry : Entry) (rest : List Entry)
-    → entry_rows (entry ∷ rest) ≡ entry_row entry ++ entry_rows rest
-rows-cons entry rest = refl
-
-rows-one : (entry : Entry) → entry_rows (entry ∷ []) ≡ entry_row entry
-rows-one entry = append-nil (entry_row entry)
+-- the rows of the entries up to the one at an index and with it
+rows_next : (entries : List Entry) (i : ℕ) (entry : Entry) → i < length entries → entry ≡ get_or entries i entry
+    → entry_rows (take (i + 1) entries) ≡ entry_rows (take i entries) ++ entry_row entry
+rows_next entries i entry within is =
+    ap (λ (done : List Entry). entry_rows done) (take_more entries i entry within ∙ ap (λ (last : Entry). take i entries ++ last ∷ []) (sym is))
+    ∙ rows-append (take i entries) (entry ∷ []) ∙ ap (λ (rows : List ℕ). entry_rows (take i entries) ++ rows) (append-nil (entry_row entry))
 
 -- all rows, by those that came before
-all_rows : (entries rest : List Entry) (old new : Told) (text held : List ℕ) (rows : RowsGathered entries rest old new text held)
-    → entry_rows entries ≡ entry_rows rows.done ++ entry_rows rest
-all_rows entries rest old new text held rows = ap (λ (entries : List Entry). entry_rows entries) rows.parts
-    ∙ rows-append rows.done rest
+rows_split : (entries : List Entry) (i : ℕ) → entry_rows entries ≡ entry_rows (take i entries) ++ entry_rows (drop i entries)
+rows_split entries i =
+    ap (λ (all : List Entry). entry_rows all) (sym (take-append-drop i entries)) ∙ rows-append (take i entries) (drop i entries)
 
 -- a row more
-pub rows_more : (entries waiting rest : List Entry) (entry : Entry) (old mid new : Told) (text held grown left : List ℕ)
-    → RowsGathered entries waiting old mid text held → waiting ≡ entry ∷ rest → grown ≡ held ++ entry_row entry → Gathers mid new grown left []
-    → RowsGathered entries rest old new text left
-rows_more entries waiting rest entry old mid new text held grown left rows steps row gathers = record {
-  done = rows.done ++ entry ∷ [];
-  parts = rows.parts ∙ ap (λ (rest : List Entry). rows.done ++ rest) steps ∙ sym (append_assoc rows.done (entry ∷ []) rest);
-  rows =
-      rw (rows-append rows.done (entry ∷ []), rows-one entry)
-      (gathers_more old mid new text held grown left (entry_rows rows.done) (entry_row entry) rows.rows row gathers);
-}
+pub rows_more : (entries : List Entry) (i : ℕ) (entry : Entry) (old mid new : Told) (text held grown left : List ℕ) → i < length entries
+    → entry ≡ get_or entries i entry → Gathers old mid text held (entry_rows (take i entries)) → grown ≡ held ++ entry_row entry
+    → Gathers mid new grown left [] → Gathers old new text left (entry_rows (take (i + 1) entries))
+rows_more entries i entry old mid new text held grown left within is rows row gathers =
+    rw (rows_next entries i entry within is)
+    (gathers_more old mid new text held grown left (entry_rows (take i entries)) (entry_row entry) rows row gathers)
 
 -- it stops before a row
-pub rows_front : (entries rest : List Entry) (old new : Told) (text held : List ℕ)
-    → RowsGathered entries rest old new text held → AppendsFront old new (text ++ entry_rows entries)
-rows_front entries rest old new text held rows =
-    rw (all_rows entries rest old new text held rows) (gathers_front old new text held (entry_rows rows.done) (entry_rows rest) rows.rows)
+pub rows_front : (entries : List Entry) (i : ℕ) (old new : Told) (text held : List ℕ) → Gathers old new text held (entry_rows (take i entries))
+    → AppendsFront old new (text ++ entry_rows entries)
+rows_front entries i old new text held rows =
+    rw (rows_split entries i) (gathers_front old new text held (entry_rows (take i entries)) (entry_rows (drop i entries)) rows)
 
 -- it stops where a row was gathered
-pub rows_stopped : (entries waiting rest : List Entry) (entry : Entry) (old mid new : Told) (text held grown : List ℕ)
-    → RowsGathered entries waiting old mid text held → waiting ≡ entry ∷ rest → grown ≡ held ++ entry_row entry → AppendsFront mid new grown
-    → AppendsFront old new (text ++ entry_rows entries)
-rows_stopped entries waiting rest entry old mid new text held grown rows steps row front =
-    rw (all_rows entries waiting old mid text held rows, steps, rows-cons entry rest)
-    (gathers_stopped old mid new text held grown (entry_rows rows.done) (entry_row entry) (entry_rows rest) rows.rows row front)
-
--- all rows are gathered
-pub rows_all : (entries rest : List Entry) (old new : Told) (text held : List ℕ)
-    → RowsGathered entries rest old new text held → rest ≡ [] → Gathers old new text held (entry_rows entries)
-rows_all entries rest old new text held rows none = rw (rows.parts, none, append-nil rows.done) rows.rows
+pub rows_stopped : (entries : List Entry) (i : ℕ) (entry : Entry) (old mid new : Told) (text held grown : List ℕ) → i < length entries
+    → entry ≡ get_or entries i entry → Gathers old mid text held (entry_rows (take i entries)) → grown ≡ held ++ entry_row entry
+    → AppendsFront mid new grown → AppendsFront old new (text ++ entry_rows entries)
+rows_stopped entries i entry old mid new text held grown within is rows row front =
+    rw (rows_split entries (i + 1) ∙ ap (λ (done : List ℕ). done ++ entry_rows (drop (i + 1) entries)) (rows_next entries i entry within is)
+    ∙ append_assoc (entry_rows (take i entries)) (entry_row entry) (entry_rows (drop (i + 1) entries)))
+    (gathers_stopped old mid new text held grown (entry_rows (take i entries)) (entry_row entry) (entry_rows (drop (i + 1) entries)) rows row front)

@@ -21,7 +21,7 @@ pub record SoFar (taken waiting : List ℕ) (verdicts : List Verdict) (number : 
 
 -- it begins
 pub so_far_none : SoFar [] [] [] 1 (silent [])
-so_far_none = record { all = λ more later. refl; whole = λ more later. refl; tied = λ more later tied. tied; each = λ more. refl }
+so_far_none = record { all = λ more later. refl; whole = λ more later. refl; tied = λ more later tied. tied; each = λ more. omega arith }
 
 or_assoc : (first second third : Bool) → ((first || second) || third) ≡ (first || (second || third))
 or_assoc true second third = refl
