@@ -14,7 +14,11 @@ mod limits;
 #[cfg(test)]
 mod lines;
 #[cfg(test)]
+mod muxes;
+#[cfg(test)]
 mod play;
+#[cfg(test)]
+mod probes;
 #[cfg(test)]
 mod records;
 #[cfg(test)]

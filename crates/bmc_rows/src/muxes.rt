@@ -1,0 +1,208 @@
+use crate::play::Part::{Config, Text};
+use crate::play::{Row, play_rows};
+use bmc_replay::Status::{Done, Refused};
+use std::test::Fail;
+
+// A multiplexer at address 112 that opens buses 20 and 21, and one at address 113 that opens bus 30.
+const MUX: &str = r#"{"Name":"M","Probe":"xyz.openbmc_project.FruDevice({'ADDRESS': 112})",
+    "Exposes":[{"Name":"Slots","Type":"Mux","Channels":[20,21]}]}"#;
+
+const OTHER_MUX: &str = r#"{"Name":"L","Probe":"xyz.openbmc_project.FruDevice({'ADDRESS': 113})",
+    "Exposes":[{"Name":"Slots","Type":"Mux","Channels":[30]}]}"#;
+
+// A board at address 80.
+const BOARD: &str = r#"{"Name":"R","Probe":"xyz.openbmc_project.FruDevice({'ADDRESS': 80, 'BOARD_PRODUCT_NAME': '^RSR1$'})"}"#;
+
+const SCRIPTS: [Row; 8] = [
+    // what was plugged before comes with the multiplexer, in the same event, and goes with it
+    (
+        &[
+            Config(MUX),
+            Config(BOARD),
+            Text("\nplug 20 80 $\nplug 1 112 $\nplug 21 80 $\nplug 22 80 $\nunplug 1 112\n"),
+            Text("plug 1 112 $\n"),
+        ],
+        Done,
+        r#"0 new board "M" 1 at 1 112
+0 new board "R" 1 at 20 80
+0 new board "R" 2 at 21 80
+0 gone board "M" 1 at 1 112
+0 gone board "R" 1 at 20 80
+0 gone board "R" 2 at 21 80
+0 new board "M" 1 at 1 112
+0 new board "R" 1 at 20 80
+0 new board "R" 2 at 21 80
+fru 1 112$
+fru 20 80$
+fru 21 80$
+fru 22 80$
+"#,
+    ),
+    // a bus stays open as long as one multiplexer of the configuration is there
+    (
+        &[
+            Config(BOARD),
+            Config(MUX),
+            Text("\nplug 1 112 $\nplug 15 112 $\nplug 20 80 $\nunplug 1 112\nunplug 15 112\n"),
+            Text("plug 16 112 $\n"),
+        ],
+        Done,
+        r#"0 new board "M" 1 at 1 112
+0 new board "M" 2 at 15 112
+0 new board "R" 1 at 20 80
+0 gone board "M" 1 at 1 112
+0 gone board "R" 1 at 20 80
+0 gone board "M" 2 at 15 112
+fru 16 112$
+fru 20 80$
+"#,
+    ),
+    // a multiplexer behind another one is found, and opens nothing; on a root bus it does
+    (
+        &[
+            Config(MUX),
+            Config(OTHER_MUX),
+            Config(BOARD),
+            Text("\nplug 1 112 $\nplug 20 113 $\nplug 30 80 $\nplug 2 113 $\nunplug 2 113\n"),
+            Text("unplug 1 112\n"),
+        ],
+        Done,
+        r#"0 new board "M" 1 at 1 112
+0 new board "L" 1 at 20 113
+0 new board "L" 2 at 2 113
+0 new board "R" 1 at 30 80
+0 gone board "L" 2 at 2 113
+0 gone board "R" 1 at 30 80
+0 gone board "M" 1 at 1 112
+0 gone board "L" 1 at 20 113
+fru 20 113$
+fru 30 80$
+"#,
+    ),
+    // so is a configuration that is found by another one, which is on an opened bus alone, and then on a root bus
+    (
+        &[
+            Config(MUX),
+            Config(r#"{"Name":"N","Probe":"xyz.openbmc_project.FruDevice({'ADDRESS': 114})"}"#),
+            Config(
+                r#"{"Name":"Q","Probe":"FOUND('N')","Exposes":[{"Name":"x","Type":"Mux","Channels":[30]}]}"#,
+            ),
+            Config(BOARD),
+            Text("\nplug 30 80 $\nplug 1 112 $\nplug 20 114 $\nplug 1 114 $\nunplug 1 114\n"),
+            Text("unplug 20 114\n"),
+        ],
+        Done,
+        r#"0 new board "M" 1 at 1 112
+0 new board "N" 1 at 20 114
+0 new board "Q" 1
+0 new board "N" 2 at 1 114
+0 new board "R" 1 at 30 80
+0 gone board "N" 2 at 1 114
+0 gone board "R" 1 at 30 80
+0 gone board "N" 1 at 20 114
+0 gone board "Q" 1
+fru 1 112$
+fru 30 80$
+"#,
+    ),
+    // a configuration that is always found opens its buses, also the last one and a root bus, through each expose
+    (
+        &[
+            Config(
+                r#"{"Name":"O","Probe":"TRUE","Exposes":[
+                    {"Name":"x","Type":"Mux","Channels":[16,3]},{"Channels":[255],"Name":"x","Type":"Mux","Address":"0x70"}]}"#,
+            ),
+            Config(BOARD),
+            Text("\nplug 255 80 $\nplug 16 80 $\nplug 17 80 $\nplug 3 80 $\nplug 254 80 $\n"),
+        ],
+        Done,
+        r#"0 new board "O" 1
+0 new board "R" 1 at 255 80
+0 new board "R" 2 at 16 80
+0 new board "R" 3 at 3 80
+fru 3 80$
+fru 16 80$
+fru 17 80$
+fru 254 80$
+fru 255 80$
+"#,
+    ),
+    // one that is not found opens none, and MATCH_ONE looks at opened buses too
+    (
+        &[
+            Config(
+                r#"{"Name":"O","Probe":"FALSE","Exposes":[{"Name":"x","Type":"Mux","Channels":[19]}]}"#,
+            ),
+            Config(MUX),
+            Config(
+                r#"{"Name":"F","Probe":["xyz.openbmc_project.FruDevice({'ADDRESS': 80})","MATCH_ONE"]}"#,
+            ),
+            Text("\nplug 19 80 $\nplug 21 80 $\nplug 20 80 $\nplug 0 112 $\nplug 15 80 $\n"),
+            Text("unplug 15 80\nunplug 0 112\n"),
+        ],
+        Done,
+        r#"0 new board "M" 1 at 0 112
+0 new board "F" 1 at 20 80
+0 gone board "F" 1 at 20 80
+0 new board "F" 2 at 15 80
+0 gone board "F" 2 at 15 80
+0 new board "F" 1 at 20 80
+0 gone board "M" 1 at 0 112
+0 gone board "F" 1 at 20 80
+fru 19 80$
+fru 20 80$
+fru 21 80$
+"#,
+    ),
+    // one that is refused opens none: its name is taken, its type is another one, its pattern is bad, and it is late
+    (
+        &[
+            Config(BOARD),
+            Config(
+                r#"{"Name":"R","Probe":"TRUE","Exposes":[{"Name":"x","Type":"Mux","Channels":[20]}]}"#,
+            ),
+            Config(
+                r#"{"Name":"O","Probe":"TRUE","Exposes":[{"Name":"x","Type":"Mux","Channels":[20]},{"Name":"x","Type":"Fan"}]}"#,
+            ),
+            Config(
+                r#"{"Name":"O","Probe":["TRUE","OR","xyz.openbmc_project.FruDevice({'BUS': '('})"],
+                    "Exposes":[{"Name":"x","Type":"Mux","Channels":[20]}]}"#,
+            ),
+            Text("plug 20 80 $\n"),
+            Config(
+                r#"{"Name":"O","Probe":"TRUE","Exposes":[{"Name":"x","Type":"Mux","Channels":[20]}]}"#,
+            ),
+        ],
+        Refused,
+        r#"line 2 refused DuplicateName
+line 3 refused ExposeForm
+line 4 refused PatternSyntax
+line 6 refused ConfigAfterPlug
+fru 20 80$
+"#,
+    ),
+    // a probe that is true on root buses is true for the FRUs behind the multiplexer as well
+    (
+        &[
+            Config(
+                r#"{"Name":"S","Probe":["xyz.openbmc_project.FruDevice({'ADDRESS': 112})","OR","xyz.openbmc_project.FruDevice({'BUS': 20})"],
+                    "Exposes":[{"Name":"x","Type":"Mux","Channels":[20]}]}"#,
+            ),
+            Text("\nplug 20 1 $\nplug 1 112 $\nplug 20 2 $\nunplug 1 112\nunplug 20 1\n"),
+        ],
+        Done,
+        r#"0 new board "S" 1 at 1 112
+0 new board "S" 2 at 20 1
+0 new board "S" 3 at 20 2
+0 gone board "S" 1 at 1 112
+0 gone board "S" 2 at 20 1
+0 gone board "S" 3 at 20 2
+fru 20 2$
+"#,
+    ),
+];
+
+#[test]
+fn muxes(rt: HostRuntime) -> Result<(), Fail> {
+    play_rows(&rt, rt.alloc(), &SCRIPTS)
+}
