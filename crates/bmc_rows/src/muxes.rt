@@ -11,7 +11,8 @@ const OTHER_MUX: &str = r#"{"Name":"L","Probe":"xyz.openbmc_project.FruDevice({'
     "Exposes":[{"Name":"Slots","Type":"Mux","Channels":[30]}]}"#;
 
 // A board at address 80.
-const BOARD: &str = r#"{"Name":"R","Probe":"xyz.openbmc_project.FruDevice({'ADDRESS': 80, 'BOARD_PRODUCT_NAME': '^RSR1$'})"}"#;
+const BOARD: &str =
+    r#"{"Name":"R","Probe":"xyz.openbmc_project.FruDevice({'ADDRESS': 80, 'BOARD_PRODUCT_NAME': '^RSR1$'})"}"#;
 
 const SCRIPTS: [Row; 8] = [
     // what was plugged before comes with the multiplexer, in the same event, and goes with it
@@ -79,7 +80,7 @@ fru 20 113$
 fru 30 80$
 "#,
     ),
-    // so is a configuration that is found by another one, which is on an opened bus alone, and then on a root bus
+    // a configuration that is found through FRUs on opened buses alone opens nothing; through one on a root bus it does
     (
         &[
             Config(MUX),

@@ -154,8 +154,9 @@ fn push_many(script: &mut Vec<u8>, alloc: Global, count: usize) -> Result<(), Ou
 fn push_numbered(script: &mut Vec<u8>, alloc: Global, count: usize) -> Result<(), OutOfMemory> {
     let head = "xyz.openbmc_project.FruDevice({'BOARD_SERIAL_NUMBER'";
     for number in 1..=count {
-        let document =
-            format!(in alloc; "{{\"Name\":\"{number}\",\"Probe\":\"{head}: '{number}'}})\"}}")?;
+        let document = format!(in alloc;
+            "{{\"Name\":\"{number}\",\"Probe\":\"{head}: '{number}'}})\"}}"
+        )?;
         push_block(script, alloc, document.as_bytes())?;
     }
     Ok(())

@@ -16,7 +16,9 @@ const PROBES: [Row; 13] = [
             Config(
                 r#"{"Name":"E","Probe":["TRUE","OR","xyz.openbmc_project.FruDevice({'BOARD_PRODUCT_NAME': '^RSR[12]$'})"]}"#,
             ),
-            Text("\nplug 1 80 $\nunplug 1 80\nplug 1 80 $\nplug 1 79 $\nunplug 1 80\nunplug 1 79\n"),
+            Text(
+                "\nplug 1 80 $\nunplug 1 80\nplug 1 80 $\nplug 1 79 $\nunplug 1 80\nunplug 1 79\n",
+            ),
         ],
         Done,
         r#"0 new board "E" 1
@@ -119,7 +121,8 @@ fru 11 18$
     (
         &[
             Config(
-                r#"{"Name":"T","Probe":["xyz.openbmc_project.FruDevice({'BOARD_MANUFACTURER': 'ACM'})","OR","xyz.openbmc_project.FruDevice({'BOARD_PRODUCT_NAME': 'RSR'})"]}"#,
+                r#"{"Name":"T","Probe":["xyz.openbmc_project.FruDevice({'BOARD_MANUFACTURER': 'ACM'})","OR",
+                    "xyz.openbmc_project.FruDevice({'BOARD_PRODUCT_NAME': 'RSR'})"]}"#,
             ),
             Text("\nplug 3 1 $\nplug 3 0 $\n"),
         ],
@@ -130,7 +133,8 @@ fru 11 18$
     (
         &[
             Config(
-                r#"{"Name":"Y","Probe":["xyz.openbmc_project.FruDevice({'BOARD_PRODUCT_NAME': 'RSR1'})","AND","xyz.openbmc_project.FruDevice({'ADDRESS': 80})"]}"#,
+                r#"{"Name":"Y","Probe":["xyz.openbmc_project.FruDevice({'BOARD_PRODUCT_NAME': 'RSR1'})","AND",
+                    "xyz.openbmc_project.FruDevice({'ADDRESS': 80})"]}"#,
             ),
             Text("\nplug 1 81 $\nplug 1 80 $\nunplug 1 80\n"),
         ],
@@ -164,7 +168,7 @@ fru 1 81$
 0 gone board "D" 1
 "#,
     ),
-    // FOUND of a configuration that comes later stays false, and of a name that only a refused one had
+    // FOUND of a configuration that comes later stays false once it is there
     (
         &[
             Config(r#"{"Name":"B","Probe":"FOUND('A')"}"#),
@@ -226,7 +230,9 @@ fru 1 81$
             Config(
                 r#"{"Name":"K","Probe":["TRUE","OR","xyz.openbmc_project.FruDevice({'ADDRESS': '^8'})","MATCH_ONE"]}"#,
             ),
-            Text("\nplug 1 79 $\nplug 1 81 $\nplug 1 80 $\nunplug 1 80\nunplug 1 81\nunplug 1 79\n"),
+            Text(
+                "\nplug 1 79 $\nplug 1 81 $\nplug 1 80 $\nunplug 1 80\nunplug 1 81\nunplug 1 79\n",
+            ),
         ],
         Done,
         r#"0 new board "K" 1
