@@ -91,7 +91,7 @@ class Reader:
             return atom
         if any(int(least) > int(most) for least, most in COUNTS.findall(found)):
             raise Bad
-        if atom.startswith("(") and re.search(r"[*+{]", atom):
+        if found != "?" and atom.startswith("(") and re.search(r"[*+{]", atom):
             raise Unknown
         found += "?" if self.next("?") else ""
         if self.at < len(self.text) and self.text[self.at] in "*+?{":
@@ -128,5 +128,5 @@ class Reader:
 
 
 def compiled(text):
-    """The pattern of a text, in which Python can search. Raises Bad where it is none, and Unknown where that is not said."""
+    """The pattern of a text, with which Python can search. Raises Bad where it is none, or Unknown."""
     return Reader(text).whole()
