@@ -519,7 +519,7 @@ const EXPOSE_FORMS: &[Part] = &[
 ];
 
 // Documents that are answered alike: how a script of one of them ends, and what is printed.
-const DOCUMENTS: [Row; 17] = [
+const DOCUMENTS: [Row; 18] = [
     (FOUND, Done, ALWAYS_BOARD),
     (PATTERNS, Done, ""),
     (
@@ -563,6 +563,13 @@ const DOCUMENTS: [Row; 17] = [
     (PROBE_SYNTAX, Refused, "line 1 refused ProbeSyntax\n"),
     (EXPOSE_FORMS, Refused, "line 1 refused ExposeForm\n"),
     (PATTERN_SYNTAX, Refused, "line 1 refused PatternSyntax\n"),
+    (
+        &[Config(
+            r#"{"Name":"R","Probe":"xyz.openbmc_project.FruDevice({'BUS': '(?:RSR[12]){4294967295}'})"}"#,
+        )],
+        Refused,
+        "line 1 refused PatternTooLarge\n",
+    ),
 ];
 
 #[test]
