@@ -75,35 +75,6 @@ abbrev pub HasCome : Bool → List ℕ → List ℕ → List Verdict → ℕ →
 HasCome false taken waiting verdicts number so_far = SoFar taken waiting verdicts number so_far
 HasCome true taken waiting verdicts number so_far = HasEnded taken verdicts so_far
 
--- The bytes of the source that were read have taken the machine this far under these verdicts, and what it printed is written or gathered.
-pub record Along (ended : Bool) (before now : Outside) (maker maker_now : Maker) (feed : ItemFeed) (run : Run) : Type 0 where
-  pub taken : List ℕ
-  pub verdicts : List Verdict
-  pub so_far : Answer
-  pub consumed : Consumes before.input.left now.input.left taken
-  pub read : length taken ≡ feed.read
-  pub large : maker_now.refused ≡ maker.refused ++ large_texts verdicts
-  pub printed : Printed before.output.taken now.output.taken (string_bytes run.text) so_far.text
-  pub stands : Stands run.state so_far.past
-  pub refused : run.refused ≡ so_far.refused
-  pub machine : HasCome ended taken feed.waiting verdicts run.number so_far
-
--- it begins
-pub along_none : (before : Outside) (maker : Maker) (feed : ItemFeed) (run : Run)
-    → feed ≡ record { line = []; block = []; waiting = []; read = 0; ended = false } → IsNew run → Along false before before maker maker feed run
-along_none before maker feed run none new = record {
-  taken = [];
-  verdicts = [];
-  so_far = silent [];
-  consumed = Consumes-nil before.input.left;
-  read = sym (ap (λ (feed : ItemFeed). feed.read) none);
-  large = sym (append-nil maker.refused);
-  printed = printed_none before.output.taken (string_bytes run.text) new.text;
-  stands = subst (λ (view : View). Stands view []) (sym new.state) stands_none;
-  refused = new.refused;
-  machine = rw (ap (λ (feed : ItemFeed). feed.waiting) none, new.number) so_far_none;
-}
-
 -- a front of what is printed for the script, where it is told
 abbrev pub IsFront : Option (List ℕ) → List Verdict → Told → Told → Type 0
 IsFront script verdicts old new = WhereTold script (λ script. WritesFront script verdicts old new)
@@ -178,430 +149,6 @@ stops_unbuffered fault old same new input input_now output output_now text as_be
     subst (λ (old : ItemFeed). StopsAt (stop_of fault) old new (outside input output) (outside input_now output_now) text) as_before
     (stops_reading fault same new input input_now output output_now text writing lacks cause)
 
--- what is printed of the bytes that were taken is the front of what is printed of the script, whatever later verdicts are
-abbrev pub Begins : Option (List ℕ) → List Verdict → List ℕ → Type 0
-Begins script verdicts total =
-    WhereTold script (λ script. (later : List Verdict) → (rest : List ℕ) × (out (verdicts ++ later) script ≡ total ++ rest))
-
--- all that is printed after an answer
-printed_after : (so_far later : Answer) → with_list (and_then so_far later) ≡ so_far.text ++ (later.text ++ final_list (standing later.past).frus)
-printed_after so_far later = append_assoc so_far.text later.text (final_list (standing later.past).frus)
-
-so_far_begins : (left left_now : Option (List ℕ)) (taken waiting : List ℕ) (verdicts : List Verdict) (number : ℕ) (so_far : Answer)
-    → Consumes left left_now taken → SoFar taken waiting verdicts number so_far → Begins left verdicts so_far.text
-so_far_begins None left_now taken waiting verdicts number so_far consumed machine = tt
-so_far_begins (Some script) None taken waiting verdicts number so_far consumed machine = absurd consumed
-so_far_begins (Some script) (Some rest) taken waiting verdicts number so_far consumed machine = λ later_verdicts.
-    let later : Answer = answers number so_far.past later_verdicts (items_of (waiting ++ rest)) in
-    (later.text ++ final_list (standing later.past).frus,
-    ap (out (verdicts ++ later_verdicts)) consumed ∙ ap with_list (machine.all rest later_verdicts) ∙ printed_after so_far later)
-
--- the script was what was taken, where the source was read to its end
-taken_all : (script taken rest : List ℕ) → script ≡ taken ++ rest → rest ≡ [] → script ≡ taken
-taken_all script taken rest consumed at_end = consumed ∙ ap (λ (rest : List ℕ). taken ++ rest) at_end ∙ append-nil taken
-
-ended_begins : (left left_now : Option (List ℕ)) (taken : List ℕ) (verdicts : List Verdict) (so_far : Answer)
-    → Consumes left left_now taken → IsAtEnd left_now → HasEnded taken verdicts so_far → Begins left verdicts (with_list so_far)
-ended_begins None left_now taken verdicts so_far consumed at_end machine = tt
-ended_begins (Some script) None taken verdicts so_far consumed at_end machine = absurd consumed
-ended_begins (Some script) (Some rest) taken verdicts so_far consumed at_end machine = λ later.
-    ([], ap (out (verdicts ++ later)) (taken_all script taken rest consumed at_end) ∙ ap with_list (machine.all later) ∙ sym (append-nil (with_list so_far)))
-
-drop_more : (script : Option (List ℕ)) (verdicts : List Verdict) (total more : List ℕ) → Begins script verdicts (total ++ more)
-    → Begins script verdicts total
-drop_more None verdicts total more begins = tt
-drop_more (Some script) verdicts total more begins =
-    λ later. (more ++ (begins later).0, (begins later).1 ∙ append_assoc total more (begins later).0)
-
-along_begins : (ended : Bool) (before now : Outside) (maker maker_now : Maker) (feed : ItemFeed) (run : Run)
-    (along : Along ended before now maker maker_now feed run) → (ended ≡ true → IsAtEnd now.input.left)
-    → Begins before.input.left along.verdicts along.so_far.text
-along_begins false before now maker maker_now feed run along at_end =
-    so_far_begins before.input.left now.input.left along.taken feed.waiting along.verdicts run.number along.so_far along.consumed along.machine
-along_begins true before now maker maker_now feed run along at_end =
-    drop_more before.input.left along.verdicts along.so_far.text (final_list (standing along.so_far.past).frus)
-    (ended_begins before.input.left now.input.left along.taken along.verdicts along.so_far along.consumed (at_end refl) along.machine)
-
--- what was written of it is a front
-begins_front : (script : Option (List ℕ)) (verdicts : List Verdict) (old now : Told) (text total : List ℕ) → Begins script verdicts total
-    → Printed old now text total → IsFront script verdicts old now
-begins_front None verdicts old now text total begins printed = tt
-begins_front (Some script) verdicts old now text total begins printed = λ later.
-    front_so_far old now printed.written (text ++ (begins later).0) (out (verdicts ++ later) script) printed.told
-    ((begins later).1 ∙ ap (λ (front : List ℕ). front ++ (begins later).0) (sym printed.parts) ∙ append_assoc printed.written text (begins later).0)
-
--- and so it is where a write of what was gathered, and of more, stops
-begins_stopped : (script : Option (List ℕ)) (verdicts : List Verdict) (old now new : Told) (text more total : List ℕ)
-    → Begins script verdicts (total ++ more) → Printed old now text total → AppendsFront now new (text ++ more) → IsFront script verdicts old new
-begins_stopped None verdicts old now new text more total begins printed front = tt
-begins_stopped (Some script) verdicts old now new text more total begins printed front = λ later.
-    front_after old now new printed.written (text ++ more) (out (verdicts ++ later) script) (begins later).0 printed.told front
-    ((begins later).1 ∙ ap (λ (whole : List ℕ). (whole ++ more) ++ (begins later).0) (sym printed.parts)
-    ∙ ap (λ (whole : List ℕ). whole ++ (begins later).0) (append_assoc printed.written text more)
-    ∙ append_assoc printed.written (text ++ more) (begins later).0)
-
-begins_cut : (script : Option (List ℕ)) (verdicts : List Verdict) (old now new : Told) (text total : List ℕ)
-    → Begins script verdicts total → Printed old now text total → AppendsFront now new text → IsFront script verdicts old new
-begins_cut script verdicts old now new text total begins printed front =
-    begins_stopped script verdicts old now new text [] total (subst (Begins script verdicts) (sym (append-nil total)) begins) printed
-    (subst (AppendsFront now new) (sym (append-nil text)) front)
-
--- the verdicts are tied to the items of the script
-tied_by : (ended : Bool) (left left_now : Option (List ℕ)) (taken waiting : List ℕ) (verdicts : List Verdict) (number : ℕ) (so_far : Answer)
-    → Consumes left left_now taken → (ended ≡ true → IsAtEnd left_now) → HasCome ended taken waiting verdicts number so_far
-    → WhereTold left (λ script. AreTied (items_of script) verdicts)
-tied_by ended None left_now taken waiting verdicts number so_far consumed at_end machine = tt
-tied_by ended (Some script) None taken waiting verdicts number so_far consumed at_end machine = absurd consumed
-tied_by false (Some script) (Some rest) taken waiting verdicts number so_far consumed at_end machine =
-    subst₂ (λ (bytes : List ℕ) (all : List Verdict). AreTied (items_of bytes) all) (sym consumed) (append-nil verdicts) (machine.tied rest [] tt)
-tied_by true (Some script) (Some rest) taken waiting verdicts number so_far consumed at_end machine =
-    subst (λ (bytes : List ℕ). AreTied (items_of bytes) verdicts) (sym (taken_all script taken rest consumed (at_end refl))) machine.tied
-
-along_tied : (ended : Bool) (before now : Outside) (maker maker_now : Maker) (feed : ItemFeed) (run : Run)
-    (along : Along ended before now maker maker_now feed run) → (ended ≡ true → IsAtEnd now.input.left)
-    → WhereTold before.input.left (λ script. AreTied (items_of script) along.verdicts)
-along_tied ended before now maker maker_now feed run along at_end =
-    tied_by ended before.input.left now.input.left along.taken feed.waiting along.verdicts run.number along.so_far along.consumed at_end along.machine
-
--- a run stops here: by this front, and having reached this
-along_replays : (stop : Stop) (ended : Bool) (before now new : Outside) (maker maker_now : Maker) (feed : ItemFeed) (run : Run)
-    (along : Along ended before now maker maker_now feed run) → (ended ≡ true → IsAtEnd now.input.left)
-    → IsFront before.input.left along.verdicts before.output.taken new.output.taken → Reaches (status_of (Err stop)) along.verdicts before new
-    → Replays (status_of (Err stop)) before new maker maker_now
-along_replays stop ended before now new maker maker_now feed run along at_end front reached = record {
-  verdicts = along.verdicts;
-  tied = along_tied ended before now maker maker_now feed run along at_end;
-  large = along.large;
-  text = stopped stop before.input.left along.verdicts before.output.taken new.output.taken front;
-  reached = reached;
-}
-
--- a write of what was gathered stops
-along_cut : (ended : Bool) (before now new : Outside) (maker maker_now : Maker) (feed : ItemFeed) (run : Run)
-    (along : Along ended before now maker maker_now feed run) → (ended ≡ true → IsAtEnd now.input.left)
-    → AppendsFront now.output.taken new.output.taken (string_bytes run.text)
-    → IsFront before.input.left along.verdicts before.output.taken new.output.taken
-along_cut ended before now new maker maker_now feed run along at_end front =
-    begins_cut before.input.left along.verdicts before.output.taken now.output.taken new.output.taken (string_bytes run.text) along.so_far.text
-    (along_begins ended before now maker maker_now feed run along at_end) along.printed front
-
--- an item was got and not taken
-along_front : (before now new : Outside) (maker maker_now : Maker) (feed : ItemFeed) (run : Run) (text : List ℕ)
-    (along : Along false before now maker maker_now feed run)
-    → Gathers now.output.taken new.output.taken (string_bytes run.text) text []
-    → IsFront before.input.left along.verdicts before.output.taken new.output.taken
-along_front before now new maker maker_now feed run text along gathers =
-    begins_front before.input.left along.verdicts before.output.taken new.output.taken text along.so_far.text
-    (along_begins false before now maker maker_now feed run along (λ no. absurd (cc)))
-    (printed_moved before.output.taken now.output.taken new.output.taken (string_bytes run.text) text along.so_far.text along.printed gathers)
-
--- so many bytes were taken by then, whatever is written after it
-along_count : (ended : Bool) (before now new : Outside) (maker maker_now : Maker) (feed : ItemFeed) (run : Run) (IsCount : ℕ → Type 0)
-    → Along ended before now maker maker_now feed run → now.input ≡ new.input → IsCount feed.read → Takes before new IsCount
-along_count ended before now new maker maker_now feed run IsCount along same count = record {
-  bytes = along.taken;
-  consumed = subst (λ (input : Input). Consumes before.input.left input.left along.taken) same along.consumed;
-  count = subst IsCount (sym along.read) count;
-}
-
--- and a piece more
-along_piece : (before now new : Outside) (maker maker_now : Maker) (feed feed_now : ItemFeed) (run : Run) (piece : List ℕ) (IsCount : ℕ → Type 0)
-    → Along false before now maker maker_now feed run → Consumes now.input.left new.input.left piece → feed_now.read ≡ feed.read + length piece
-    → IsCount feed_now.read → Takes before new IsCount
-along_piece before now new maker maker_now feed feed_now run piece IsCount along consumed read count = record {
-  bytes = along.taken ++ piece;
-  consumed = Consumes-trans before.input.left now.input.left new.input.left along.taken piece along.consumed consumed;
-  count = subst IsCount (read ∙ ap (λ n. n + length piece) (sym along.read) ∙ sym (length-append along.taken piece)) count;
-}
-
--- all that was printed is written, and it is what is printed of the items that are whole in the bytes taken
-along_whole : (before now new : Outside) (maker maker_now : Maker) (feed feed_now : ItemFeed) (run : Run) (IsCount : ℕ → Type 0)
-    (along : Along false before now maker maker_now feed run) → GetsNothing feed feed_now now new (string_bytes run.text) IsCount
-    → WritesWhole along.verdicts before new IsCount
-unfolding along_piece
-along_whole before now new maker maker_now feed feed_now run IsCount along gets =
-    let counted = along_piece before now new maker maker_now feed feed_now run gets.reading.piece IsCount along gets.reading.consumed
-    gets.reading.count gets.count in
-    record {
-      bytes = counted.bytes;
-      consumed = counted.consumed;
-      count = counted.count;
-      text =
-          gets.writing ∙ ap (λ (told : Told). added told (string_bytes run.text)) along.printed.told
-          ∙ added_more before.output.taken along.printed.written (string_bytes run.text)
-          ∙ ap (added before.output.taken) (along.printed.parts
-          ∙ sym (ap (λ (answer : Answer). answer.text)
-          (so_far_whole along.taken feed.waiting gets.reading.piece along.verdicts run.number along.so_far along.machine gets.reading.bytes)));
-    }
-
-going : {A : Type 0} → false ≡ true → A
-going no = absurd (cc)
-
--- the run stops where an item is wanted
-pub along_stops : (stop : Stop) (before now new : Outside) (maker maker_now : Maker) (feed feed_now : ItemFeed) (run : Run)
-    → feed_now.read ≤ longest_script → Along false before now maker maker_now feed run → StopsAt stop feed feed_now now new (string_bytes run.text)
-    → Replays (status_of (Err stop)) before new maker maker_now
-along_stops stops.OutOfMemory before now new maker maker_now feed feed_now run limit along how =
-    along_replays stops.OutOfMemory false before now new maker maker_now feed run along going
-    (along_cut false before now new maker maker_now feed run along going how.writing)
-    (along_piece before now new maker maker_now feed feed_now run how.reading.piece (λ count. count ≤ longest_script) along how.reading.consumed
-    how.reading.count limit)
-along_stops stops.WriteFault before now new maker maker_now feed feed_now run limit along how =
-    along_replays stops.WriteFault false before now new maker maker_now feed run along going
-    (along_cut false before now new maker maker_now feed run along going how.writing)
-    (along_piece before now new maker maker_now feed feed_now run how.reading.piece (λ count. count ≤ longest_script) along how.reading.consumed
-    how.reading.count limit)
-along_stops stops.ReadFault before now new maker maker_now feed feed_now run limit along how =
-    along_replays stops.ReadFault false before now new maker maker_now feed run along going
-    (along_cut false before now new maker maker_now feed run along going
-    (front_all now.output.taken new.output.taken (string_bytes run.text) how.writing))
-    (along_whole before now new maker maker_now feed feed_now run (λ count. count < longest_script) along how)
-along_stops stops.TooLong before now new maker maker_now feed feed_now run limit along how =
-    along_replays stops.TooLong false before now new maker maker_now feed run along going
-    (along_cut false before now new maker maker_now feed run along going
-    (front_all now.output.taken new.output.taken (string_bytes run.text) how.writing))
-    (along_whole before now new maker maker_now feed feed_now run (λ count. count ≡ longest_script) along how)
-
--- verdicts on an item that was not taken are tied to the script, behind those before it
-left_tied : (ended : Bool) (left left_now : Option (List ℕ)) (taken waiting piece rest : List ℕ) (verdicts more : List Verdict) (number : ℕ)
-    (so_far : Answer) (item : Item) → Consumes left left_now (taken ++ piece) → (ended ≡ true → IsAtEnd left_now)
-    → SoFar taken waiting verdicts number so_far → IsTaken (Some item) ended (waiting ++ piece) rest → AreTied (item ∷ []) more
-    → WhereTold left (λ script. AreTied (items_of script) (verdicts ++ more))
-left_tied ended None left_now taken waiting piece rest verdicts more number so_far item consumed at_end machine came tied = tt
-left_tied ended (Some script) None taken waiting piece rest verdicts more number so_far item consumed at_end machine came tied = absurd consumed
-left_tied false (Some script) (Some behind) taken waiting piece rest verdicts more number so_far item consumed at_end machine came tied =
-    subst (λ (bytes : List ℕ). AreTied (items_of bytes) (verdicts ++ more)) (sym (consumed ∙ append_assoc taken piece behind))
-    (machine.tied (piece ++ behind) more
-    (subst (λ (items : List Item). AreTied items more) (sym (ap items_of (sym (append_assoc waiting piece behind)) ∙ came.all behind))
-    (first_tied item (items_of (rest ++ behind)) more tied)))
-  where
-    first_tied : (item : Item) (items : List Item) (more : List Verdict) → AreTied (item ∷ []) more → AreTied (item ∷ items) more
-    first_tied item items [] tied = tt
-    first_tied item items (verdict ∷ []) tied = (tied.0, tt)
-    first_tied item items (verdict ∷ other ∷ later) tied = absurd tied.1
-left_tied true (Some script) (Some behind) taken waiting piece rest verdicts more number so_far item consumed at_end machine came tied =
-    subst (λ (bytes : List ℕ). AreTied (items_of bytes) (verdicts ++ more)) (sym (taken_all script (taken ++ piece) behind consumed (at_end refl)))
-    (machine.tied piece more (subst (λ (items : List Item). AreTied items more) (sym came.all) tied))
-
-large_more : (maker now new : List (List ℕ)) (verdicts more : List Verdict) → now ≡ maker ++ large_texts verdicts → new ≡ now ++ large_texts more
-    → new ≡ maker ++ large_texts (verdicts ++ more)
-large_more maker now new verdicts more before later =
-    later ∙ ap (λ (texts : List (List ℕ)). texts ++ large_texts more) before ∙ append_assoc maker (large_texts verdicts) (large_texts more)
-    ∙ ap (λ (texts : List (List ℕ)). maker ++ texts) (sym (flat_map-append large_in verdicts more))
-
--- the run stops where what came is not taken for want of memory
-pub along_leaves : (item : Option Item) (ended : Bool) (before now new : Outside) (maker maker_now maker_new : Maker) (feed feed_now : ItemFeed)
-    (run : Run) (text : List ℕ) → feed_now.read ≤ longest_script → (ended ≡ true → IsAtEnd new.input.left)
-    → Along false before now maker maker_now feed run
-    → Reads feed.waiting feed.read feed_now.read now.input new.input (λ bytes. IsTaken item ended bytes feed_now.waiting)
-    → Gathers now.output.taken new.output.taken (string_bytes run.text) text [] → LeavesNext item maker_now maker_new
-    → Replays (status_of (Err stops.OutOfMemory)) before new maker maker_new
-along_leaves None ended before now new maker maker_now maker_new feed feed_now run text limit at_end along came gathers leaves = record {
-  verdicts = along.verdicts;
-  tied = along_tied false before now maker maker_now feed run along going;
-  large = ap (λ (maker : Maker). maker.refused) leaves ∙ along.large;
-  text = stopped stops.OutOfMemory before.input.left along.verdicts before.output.taken new.output.taken
-      (along_front before now new maker maker_now feed run text along gathers);
-  reached = along_piece before now new maker maker_now feed feed_now run came.piece (λ count. count ≤ longest_script) along came.consumed came.count limit;
-}
-along_leaves (Some item) ended before now new maker maker_now maker_new feed feed_now run text limit at_end along came gathers leaves = record {
-  verdicts = along.verdicts ++ leaves.verdicts;
-  tied =
-      left_tied ended before.input.left new.input.left along.taken feed.waiting came.piece feed_now.waiting along.verdicts leaves.verdicts run.number
-      along.so_far item
-      (Consumes-trans before.input.left now.input.left new.input.left along.taken came.piece along.consumed came.consumed) at_end along.machine
-      came.bytes leaves.tied;
-  large = large_more maker.refused maker_now.refused maker_new.refused along.verdicts leaves.verdicts along.large leaves.large;
-  text = stopped stops.OutOfMemory before.input.left (along.verdicts ++ leaves.verdicts) before.output.taken new.output.taken
-      (front_under before.input.left along.verdicts leaves.verdicts before.output.taken new.output.taken
-      (along_front before now new maker maker_now feed run text along gathers));
-  reached = along_piece before now new maker maker_now feed feed_now run came.piece (λ count. count ≤ longest_script) along came.consumed came.count limit;
-}
-
--- a write of what was gathered stops, after an item was taken
-pub along_unwritten : (ended : Bool) (before now new : Outside) (maker maker_now : Maker) (feed : ItemFeed) (run : Run)
-    → feed.read ≤ longest_script → (ended ≡ true → IsAtEnd now.input.left) → now.input ≡ new.input
-    → Along ended before now maker maker_now feed run → AppendsFront now.output.taken new.output.taken (string_bytes run.text)
-    → Replays (status_of (Err stops.WriteFault)) before new maker maker_now
-along_unwritten ended before now new maker maker_now feed run limit at_end same along front =
-    along_replays stops.WriteFault ended before now new maker maker_now feed run along at_end
-    (along_cut ended before now new maker maker_now feed run along at_end front)
-    (along_count ended before now new maker maker_now feed run (λ count. count ≤ longest_script) along same limit)
-
--- what came is taken, after what was gathered moved
-pub along_next : (next : NextItem) (before now new : Outside) (maker maker_now maker_new : Maker) (feed feed_now : ItemFeed) (run moved run_now : Run)
-    → moved ≡ record run { text = moved.text } → Along false before now maker maker_now feed run
-    → TakesNextItem next feed feed_now now.input new.input
-    → Gathers now.output.taken new.output.taken (string_bytes run.text) (string_bytes moved.text) []
-    → TakesNext (item_next next feed_now) moved run_now maker_now maker_new
-    → Along feed_now.ended before new maker maker_new feed_now run_now
-unfolding along_piece
-along_next next before now new maker maker_now maker_new feed feed_now run moved run_now same along came gathers takes =
-    of (item_next next feed_now) feed_now.ended came.bytes takes
-  where
-    stood : Stands moved.state along.so_far.past
-    stood = subst (λ (view : View). Stands view along.so_far.past) (sym (ap (λ (run : Run). run.state) same)) along.stands
-
-    refused : moved.refused ≡ along.so_far.refused
-    refused = ap (λ (run : Run). run.refused) same ∙ along.refused
-
-    machine : SoFar along.taken feed.waiting along.verdicts moved.number along.so_far
-    machine = subst (λ (number : ℕ). SoFar along.taken feed.waiting along.verdicts number along.so_far) (sym (ap (λ (run : Run). run.number) same))
-        along.machine
-
-    printed : Printed before.output.taken new.output.taken (string_bytes moved.text) along.so_far.text
-    printed = printed_moved before.output.taken now.output.taken new.output.taken (string_bytes run.text) (string_bytes moved.text) along.so_far.text
-        along.printed gathers
-
-    counted : Takes before new (λ n. n ≡ feed_now.read)
-    counted = along_piece before now new maker maker_now feed feed_now run came.piece (λ n. n ≡ feed_now.read) along came.consumed came.count refl
-
-    of : (item : Option Item) (ended : Bool) → IsTaken item ended (feed.waiting ++ came.piece) feed_now.waiting
-        → TakesNext item moved run_now maker_now maker_new → Along ended before new maker maker_new feed_now run_now
-    of None false none takes = absurd (let no = none.at_end in cc)
-    of None true none takes = record {
-      taken = along.taken ++ came.piece;
-      verdicts = along.verdicts;
-      so_far = along.so_far;
-      consumed = counted.consumed;
-      read = counted.count;
-      large = ap (λ (maker : Maker). maker.refused) takes.1 ∙ along.large;
-      printed = subst (λ (text : List ℕ). Printed before.output.taken new.output.taken text along.so_far.text)
-          (sym (ap (λ (run : Run). string_bytes run.text) takes.0)) printed;
-      stands = subst (λ (view : View). Stands view along.so_far.past) (sym (ap (λ (run : Run). run.state) takes.0)) stood;
-      refused = ap (λ (run : Run). run.refused) takes.0 ∙ refused;
-      machine = so_far_end along.taken feed.waiting came.piece feed_now.waiting along.verdicts moved.number along.so_far true machine none;
-    }
-    of (Some item) ended bytes takes =
-        let follows = takes.follows along.so_far.past stood in
-        record {
-          taken = along.taken ++ came.piece;
-          verdicts = along.verdicts ++ takes.verdict ∷ [];
-          so_far = with_item along.so_far moved.number takes.verdict item;
-          consumed = counted.consumed;
-          read = counted.count;
-          large =
-              large_more maker.refused maker_now.refused maker_new.refused along.verdicts (takes.verdict ∷ []) along.large
-              (takes.is_verdict.large ∙ ap (λ (texts : List (List ℕ)). maker_now.refused ++ texts) (sym (append-nil (large_in takes.verdict))));
-          printed =
-              printed_more before.output.taken new.output.taken (string_bytes moved.text) (string_bytes run_now.text) along.so_far.text
-              (answer (refused_line moved.number) along.so_far.past takes.verdict item).text printed follows.text;
-          stands = follows.stands;
-          refused = follows.refused ∙ ap (λ (test : Bool). test || (answer (refused_line moved.number) along.so_far.past takes.verdict item).refused) refused;
-          machine = come ended bytes;
-        }
-      where
-        come : (ended : Bool) → IsTaken (Some item) ended (feed.waiting ++ came.piece) feed_now.waiting
-            → HasCome ended (along.taken ++ came.piece) feed_now.waiting (along.verdicts ++ takes.verdict ∷ []) run_now.number
-            (with_item along.so_far moved.number takes.verdict item)
-        come true last = so_far_last along.taken feed.waiting came.piece feed_now.waiting along.verdicts moved.number along.so_far takes.verdict item machine
-            last takes.is_verdict.tied
-        come false begins =
-            subst (λ (number : ℕ). SoFar (along.taken ++ came.piece) feed_now.waiting (along.verdicts ++ takes.verdict ∷ []) number
-            (with_item along.so_far moved.number takes.verdict item)) (sym takes.number)
-            (so_far_more along.taken feed.waiting came.piece feed_now.waiting along.verdicts moved.number along.so_far takes.verdict item machine begins
-            takes.is_verdict.tied)
-
--- what is gathered moves, and it is known whether the source was read to its end
-pub along_told : (ended told : Bool) (before : Outside) (input : Input) (output output_now : Output) (maker maker_now : Maker) (feed : ItemFeed)
-    (run moved : Run) → ended ≡ told → moved ≡ record run { text = moved.text } → Along ended before (outside input output) maker maker_now feed run
-    → Gathers output.taken output_now.taken (string_bytes run.text) (string_bytes moved.text) []
-    → Along told before (outside input output_now) maker maker_now feed moved
-along_told ended told before input output output_now maker maker_now feed run moved known same along gathers =
-    subst (λ (is_ended : Bool). Along is_ended before (outside input output_now) maker maker_now feed moved) known (record {
-      taken = along.taken;
-      verdicts = along.verdicts;
-      so_far = along.so_far;
-      consumed = along.consumed;
-      read = along.read;
-      large = along.large;
-      printed = printed_moved before.output.taken output.taken output_now.taken (string_bytes run.text)
-          (string_bytes moved.text) along.so_far.text along.printed gathers;
-      stands = subst (λ (view : View). Stands view along.so_far.past) (sym (ap (λ (run : Run). run.state) same)) along.stands;
-      refused = ap (λ (run : Run). run.refused) same ∙ along.refused;
-      machine = subst (λ (number : ℕ). HasCome ended along.taken feed.waiting along.verdicts number along.so_far) (sym (ap (λ (run : Run). run.number) same))
-          along.machine;
-    })
-
--- the rows of the entries are those of the FRUs
-rows_are : (configs : List Config) (frus : List Fru) → entry_rows (map (fru_entry configs) frus) ≡ final_list frus
-unfolding final_list
-rows_are configs [] = refl
-rows_are configs (fru ∷ frus) = ap (λ (rows : List ℕ). fru_row fru.place (fields_of fru) ++ rows) (rows_are configs frus)
-
--- what is left to print at the end of the script
-list_of : (before now : Outside) (maker maker_now : Maker) (feed : ItemFeed) (run : Run) (along : Along true before now maker maker_now feed run)
-    → along.so_far.text ++ entry_rows run.state.entries ≡ with_list along.so_far
-list_of before now maker maker_now feed run along =
-    ap (λ (rows : List ℕ). along.so_far.text ++ rows) (ap entry_rows along.stands.entries ∙ rows_are (standing along.so_far.past).configs
-    (standing along.so_far.past).frus)
-
--- a write in the final list stops for want of memory or by a fault of the sink
-stops_after : (stop : Stop) (verdicts : List Verdict) (before now : Outside) (calls calls_now : Calls)
-    → Takes before now (λ count. count ≤ longest_script) → WriteCause stop calls calls_now → Reaches (status_of (Err stop)) verdicts before now
-stops_after stops.OutOfMemory verdicts before now calls calls_now takes cause = takes
-stops_after stops.WriteFault verdicts before now calls calls_now takes cause = takes
-stops_after stops.ReadFault verdicts before now calls calls_now takes cause = absurd cause
-stops_after stops.TooLong verdicts before now calls calls_now takes cause = absurd cause
-
--- it stops in the final list
-pub ended_cut : (stop : Stop) (before now new : Outside) (maker maker_now : Maker) (feed : ItemFeed) (run : Run) (calls calls_now : Calls)
-    → IsAtEnd now.input.left → feed.read ≤ longest_script → now.input ≡ new.input → Along true before now maker maker_now feed run
-    → AppendsFront now.output.taken new.output.taken (string_bytes run.text ++ entry_rows run.state.entries) → WriteCause stop calls calls_now
-    → Replays (status_of (Err stop)) before new maker maker_now
-ended_cut stop before now new maker maker_now feed run calls calls_now at_end limit same along front cause =
-    along_replays stop true before now new maker maker_now feed run along (λ yes. at_end)
-    (begins_stopped before.input.left along.verdicts before.output.taken now.output.taken new.output.taken (string_bytes run.text)
-    (entry_rows run.state.entries) along.so_far.text
-    (subst (Begins before.input.left along.verdicts) (sym (list_of before now maker maker_now feed run along))
-    (ended_begins before.input.left now.input.left along.taken along.verdicts along.so_far along.consumed at_end along.machine))
-    along.printed front)
-    (stops_after stop along.verdicts before new calls calls_now
-    (along_count true before now new maker maker_now feed run (λ count. count ≤ longest_script) along same limit) cause)
-
-writes_all : (refused : Bool) (script : List ℕ) (verdicts : List Verdict) (old new : Told) → WritesAll script verdicts refused old new
-    → Writes (status_of (Ok refused)) script verdicts old new
-writes_all true script verdicts old new writes = writes
-writes_all false script verdicts old new writes = writes
-
-all_written : (refused : Bool) (left left_now : Option (List ℕ)) (taken : List ℕ) (verdicts : List Verdict) (so_far : Answer) (old new : Told)
-    → Consumes left left_now taken → IsAtEnd left_now → HasEnded taken verdicts so_far → refused ≡ so_far.refused → new ≡ added old (with_list so_far)
-    → WhereTold left (λ script. Writes (status_of (Ok refused)) script verdicts old new)
-all_written refused None left_now taken verdicts so_far old new consumed at_end machine same text = tt
-all_written refused (Some script) None taken verdicts so_far old new consumed at_end machine same text = absurd consumed
-all_written refused (Some script) (Some rest) taken verdicts so_far old new consumed at_end machine same text =
-    let script_is : script ≡ taken = taken_all script taken rest consumed at_end in
-    let is : answer_of verdicts script ≡ so_far =
-    ap (answer_of verdicts) script_is ∙ ap (λ (all : List Verdict). answer_of all taken) (sym (append-nil verdicts)) ∙ machine.all [] in
-    writes_all refused script verdicts old new (record {
-      each = machine.each ∙ sym (ap (λ (bytes : List ℕ). length (items_of bytes)) script_is);
-      text = text ∙ ap (λ (answer : Answer). added old (with_list answer)) (sym is);
-      refusal = ap (λ (answer : Answer). answer.refused) is ∙ sym same;
-    })
-
--- all is written and was taken
-pub ended_all : (before now new : Outside) (maker maker_now : Maker) (feed : ItemFeed) (run : Run) → IsAtEnd now.input.left
-    → feed.read < longest_script → now.input ≡ new.input → Along true before now maker maker_now feed run
-    → new.output.taken ≡ added now.output.taken (string_bytes run.text ++ entry_rows run.state.entries)
-    → Replays (status_of (Ok run.refused)) before new maker maker_now
-ended_all before now new maker maker_now feed run at_end few same along text = record {
-  verdicts = along.verdicts;
-  tied = along_tied true before now maker maker_now feed run along (λ yes. at_end);
-  large = along.large;
-  text =
-      all_written run.refused before.input.left now.input.left along.taken along.verdicts along.so_far before.output.taken new.output.taken along.consumed
-      at_end along.machine along.refused
-      (text ∙ ap (λ (told : Told). added told (string_bytes run.text ++ entry_rows run.state.entries)) along.printed.told
-      ∙ added_more before.output.taken along.printed.written (string_bytes run.text ++ entry_rows run.state.entries)
-      ∙ ap (added before.output.taken) (sym (append_assoc along.printed.written (string_bytes run.text) (entry_rows run.state.entries))
-      ∙ ap (λ (text : List ℕ). text ++ entry_rows run.state.entries) along.printed.parts ∙ list_of before now maker maker_now feed run along));
-  reached = of run.refused (along_count true before now new maker maker_now feed run (λ count. count < longest_script) along same few);
-}
-  where
-    of : (refused : Bool) → Takes before new (λ count. count < longest_script) → Reaches (status_of (Ok refused)) along.verdicts before new
-    of true takes = (subst (λ (input : Input). IsAtEnd input.left) same at_end, takes)
-    of false takes = (subst (λ (input : Input). IsAtEnd input.left) same at_end, takes)
-
 -- at least a byte was taken of an item that is not the end
 pub spends_item : (item : Option Item) (feed feed_now : ItemFeed) (piece : List ℕ) (ended : Bool) → ended ≡ false
     → IsTaken item ended (feed.waiting ++ piece) feed_now.waiting → feed_now.read ≡ feed.read + length piece
@@ -610,8 +157,462 @@ spends_item None feed feed_now piece ended going taken read = absurd (let no = t
 spends_item (Some item) feed feed_now piece true going taken read = absurd (cc)
 spends_item (Some item) feed feed_now piece false going taken read = omega (arith, taken.shorter, read, length-append feed.waiting piece)
 
--- the number of the next item
-pub numbered : (item : Option Item) (moved run_now : Run) (maker maker_now : Maker) (ended : Bool) (bytes rest : List ℕ) → ended ≡ false
-    → IsTaken item ended bytes rest → TakesNext item moved run_now maker maker_now → run_now.number ≡ moved.number + 1
-numbered None moved run_now maker maker_now ended bytes rest going taken takes = absurd (let no = taken.at_end in cc)
-numbered (Some item) moved run_now maker maker_now ended bytes rest going taken takes = takes.number
+module _ {L : Type 0} where
+  -- The bytes of the source that were read have taken the machine this far under these verdicts, and what it printed is written or gathered.
+  pub record Along (ended : Bool) (before now : Outside) (maker maker_now : Maker) (feed : ItemFeed) (run : Run L) : Type 0 where
+    pub taken : List ℕ
+    pub verdicts : List Verdict
+    pub so_far : Answer
+    pub consumed : Consumes before.input.left now.input.left taken
+    pub read : length taken ≡ feed.read
+    pub large : maker_now.refused ≡ maker.refused ++ large_texts verdicts
+    pub printed : Printed before.output.taken now.output.taken (string_bytes run.text) so_far.text
+    pub stands : Stands run.state so_far.past
+    pub refused : run.refused ≡ so_far.refused
+    pub machine : HasCome ended taken feed.waiting verdicts run.number so_far
+
+  -- it begins
+  pub along_none : (before : Outside) (maker : Maker) (feed : ItemFeed) (run : Run L)
+      → feed ≡ record { line = []; block = []; waiting = []; read = 0; ended = false } → IsNew run → Along false before before maker maker feed run
+  along_none before maker feed run none new = record {
+    taken = [];
+    verdicts = [];
+    so_far = silent [];
+    consumed = Consumes-nil before.input.left;
+    read = sym (ap (λ (feed : ItemFeed). feed.read) none);
+    large = sym (append-nil maker.refused);
+    printed = printed_none before.output.taken (string_bytes run.text) new.text;
+    stands = subst (λ (view : View). Stands view []) (sym new.state) stands_none;
+    refused = new.refused;
+    machine = rw (ap (λ (feed : ItemFeed). feed.waiting) none, new.number) so_far_none;
+  }
+
+  -- what is printed of the bytes that were taken is the front of what is printed of the script, whatever later verdicts are
+  abbrev pub Begins : Option (List ℕ) → List Verdict → List ℕ → Type 0
+  Begins script verdicts total =
+      WhereTold script (λ script. (later : List Verdict) → (rest : List ℕ) × (out (verdicts ++ later) script ≡ total ++ rest))
+
+  -- all that is printed after an answer
+  printed_after : (so_far later : Answer) → with_list (and_then so_far later) ≡ so_far.text ++ (later.text ++ final_list (standing later.past).frus)
+  printed_after so_far later = append_assoc so_far.text later.text (final_list (standing later.past).frus)
+
+  so_far_begins : (left left_now : Option (List ℕ)) (taken waiting : List ℕ) (verdicts : List Verdict) (number : ℕ) (so_far : Answer)
+      → Consumes left left_now taken → SoFar taken waiting verdicts number so_far → Begins left verdicts so_far.text
+  so_far_begins None left_now taken waiting verdicts number so_far consumed machine = tt
+  so_far_begins (Some script) None taken waiting verdicts number so_far consumed machine = absurd consumed
+  so_far_begins (Some script) (Some rest) taken waiting verdicts number so_far consumed machine = λ later_verdicts.
+      let later : Answer = answers number so_far.past later_verdicts (items_of (waiting ++ rest)) in
+      (later.text ++ final_list (standing later.past).frus,
+      ap (out (verdicts ++ later_verdicts)) consumed ∙ ap with_list (machine.all rest later_verdicts) ∙ printed_after so_far later)
+
+  -- the script was what was taken, where the source was read to its end
+  taken_all : (script taken rest : List ℕ) → script ≡ taken ++ rest → rest ≡ [] → script ≡ taken
+  taken_all script taken rest consumed at_end = consumed ∙ ap (λ (rest : List ℕ). taken ++ rest) at_end ∙ append-nil taken
+
+  ended_begins : (left left_now : Option (List ℕ)) (taken : List ℕ) (verdicts : List Verdict) (so_far : Answer)
+      → Consumes left left_now taken → IsAtEnd left_now → HasEnded taken verdicts so_far → Begins left verdicts (with_list so_far)
+  ended_begins None left_now taken verdicts so_far consumed at_end machine = tt
+  ended_begins (Some script) None taken verdicts so_far consumed at_end machine = absurd consumed
+  ended_begins (Some script) (Some rest) taken verdicts so_far consumed at_end machine = λ later.
+      ([], ap (out (verdicts ++ later)) (taken_all script taken rest consumed at_end) ∙ ap with_list (machine.all later) ∙ sym (append-nil (with_list so_far)))
+
+  drop_more : (script : Option (List ℕ)) (verdicts : List Verdict) (total more : List ℕ) → Begins script verdicts (total ++ more)
+      → Begins script verdicts total
+  drop_more None verdicts total more begins = tt
+  drop_more (Some script) verdicts total more begins =
+      λ later. (more ++ (begins later).0, (begins later).1 ∙ append_assoc total more (begins later).0)
+
+  along_begins : (ended : Bool) (before now : Outside) (maker maker_now : Maker) (feed : ItemFeed) (run : Run L)
+      (along : Along ended before now maker maker_now feed run) → (ended ≡ true → IsAtEnd now.input.left)
+      → Begins before.input.left along.verdicts along.so_far.text
+  along_begins false before now maker maker_now feed run along at_end =
+      so_far_begins before.input.left now.input.left along.taken feed.waiting along.verdicts run.number along.so_far along.consumed along.machine
+  along_begins true before now maker maker_now feed run along at_end =
+      drop_more before.input.left along.verdicts along.so_far.text (final_list (standing along.so_far.past).frus)
+      (ended_begins before.input.left now.input.left along.taken along.verdicts along.so_far along.consumed (at_end refl) along.machine)
+
+  -- what was written of it is a front
+  begins_front : (script : Option (List ℕ)) (verdicts : List Verdict) (old now : Told) (text total : List ℕ) → Begins script verdicts total
+      → Printed old now text total → IsFront script verdicts old now
+  begins_front None verdicts old now text total begins printed = tt
+  begins_front (Some script) verdicts old now text total begins printed = λ later.
+      front_so_far old now printed.written (text ++ (begins later).0) (out (verdicts ++ later) script) printed.told
+      ((begins later).1 ∙ ap (λ (front : List ℕ). front ++ (begins later).0) (sym printed.parts) ∙ append_assoc printed.written text (begins later).0)
+
+  -- and so it is where a write of what was gathered, and of more, stops
+  begins_stopped : (script : Option (List ℕ)) (verdicts : List Verdict) (old now new : Told) (text more total : List ℕ)
+      → Begins script verdicts (total ++ more) → Printed old now text total → AppendsFront now new (text ++ more) → IsFront script verdicts old new
+  begins_stopped None verdicts old now new text more total begins printed front = tt
+  begins_stopped (Some script) verdicts old now new text more total begins printed front = λ later.
+      front_after old now new printed.written (text ++ more) (out (verdicts ++ later) script) (begins later).0 printed.told front
+      ((begins later).1 ∙ ap (λ (whole : List ℕ). (whole ++ more) ++ (begins later).0) (sym printed.parts)
+      ∙ ap (λ (whole : List ℕ). whole ++ (begins later).0) (append_assoc printed.written text more)
+      ∙ append_assoc printed.written (text ++ more) (begins later).0)
+
+  begins_cut : (script : Option (List ℕ)) (verdicts : List Verdict) (old now new : Told) (text total : List ℕ)
+      → Begins script verdicts total → Printed old now text total → AppendsFront now new text → IsFront script verdicts old new
+  begins_cut script verdicts old now new text total begins printed front =
+      begins_stopped script verdicts old now new text [] total (subst (Begins script verdicts) (sym (append-nil total)) begins) printed
+      (subst (AppendsFront now new) (sym (append-nil text)) front)
+
+  -- the verdicts are tied to the items of the script
+  tied_by : (ended : Bool) (left left_now : Option (List ℕ)) (taken waiting : List ℕ) (verdicts : List Verdict) (number : ℕ) (so_far : Answer)
+      → Consumes left left_now taken → (ended ≡ true → IsAtEnd left_now) → HasCome ended taken waiting verdicts number so_far
+      → WhereTold left (λ script. AreTied (items_of script) verdicts)
+  tied_by ended None left_now taken waiting verdicts number so_far consumed at_end machine = tt
+  tied_by ended (Some script) None taken waiting verdicts number so_far consumed at_end machine = absurd consumed
+  tied_by false (Some script) (Some rest) taken waiting verdicts number so_far consumed at_end machine =
+      subst₂ (λ (bytes : List ℕ) (all : List Verdict). AreTied (items_of bytes) all) (sym consumed) (append-nil verdicts) (machine.tied rest [] tt)
+  tied_by true (Some script) (Some rest) taken waiting verdicts number so_far consumed at_end machine =
+      subst (λ (bytes : List ℕ). AreTied (items_of bytes) verdicts) (sym (taken_all script taken rest consumed (at_end refl))) machine.tied
+
+  along_tied : (ended : Bool) (before now : Outside) (maker maker_now : Maker) (feed : ItemFeed) (run : Run L)
+      (along : Along ended before now maker maker_now feed run) → (ended ≡ true → IsAtEnd now.input.left)
+      → WhereTold before.input.left (λ script. AreTied (items_of script) along.verdicts)
+  along_tied ended before now maker maker_now feed run along at_end =
+      tied_by ended before.input.left now.input.left along.taken feed.waiting along.verdicts run.number along.so_far along.consumed at_end along.machine
+
+  -- a run stops here: by this front, and having reached this
+  along_replays : (stop : Stop) (ended : Bool) (before now new : Outside) (maker maker_now : Maker) (feed : ItemFeed) (run : Run L)
+      (along : Along ended before now maker maker_now feed run) → (ended ≡ true → IsAtEnd now.input.left)
+      → IsFront before.input.left along.verdicts before.output.taken new.output.taken → Reaches (status_of (Err stop)) along.verdicts before new
+      → Replays (status_of (Err stop)) before new maker maker_now
+  along_replays stop ended before now new maker maker_now feed run along at_end front reached = record {
+    verdicts = along.verdicts;
+    tied = along_tied ended before now maker maker_now feed run along at_end;
+    large = along.large;
+    text = stopped stop before.input.left along.verdicts before.output.taken new.output.taken front;
+    reached = reached;
+  }
+
+  -- a write of what was gathered stops
+  along_cut : (ended : Bool) (before now new : Outside) (maker maker_now : Maker) (feed : ItemFeed) (run : Run L)
+      (along : Along ended before now maker maker_now feed run) → (ended ≡ true → IsAtEnd now.input.left)
+      → AppendsFront now.output.taken new.output.taken (string_bytes run.text)
+      → IsFront before.input.left along.verdicts before.output.taken new.output.taken
+  along_cut ended before now new maker maker_now feed run along at_end front =
+      begins_cut before.input.left along.verdicts before.output.taken now.output.taken new.output.taken (string_bytes run.text) along.so_far.text
+      (along_begins ended before now maker maker_now feed run along at_end) along.printed front
+
+  -- an item was got and not taken
+  along_front : (before now new : Outside) (maker maker_now : Maker) (feed : ItemFeed) (run : Run L) (text : List ℕ)
+      (along : Along false before now maker maker_now feed run)
+      → Gathers now.output.taken new.output.taken (string_bytes run.text) text []
+      → IsFront before.input.left along.verdicts before.output.taken new.output.taken
+  along_front before now new maker maker_now feed run text along gathers =
+      begins_front before.input.left along.verdicts before.output.taken new.output.taken text along.so_far.text
+      (along_begins false before now maker maker_now feed run along (λ no. absurd (cc)))
+      (printed_moved before.output.taken now.output.taken new.output.taken (string_bytes run.text) text along.so_far.text along.printed gathers)
+
+  -- so many bytes were taken by then, whatever is written after it
+  along_count : (ended : Bool) (before now new : Outside) (maker maker_now : Maker) (feed : ItemFeed) (run : Run L) (IsCount : ℕ → Type 0)
+      → Along ended before now maker maker_now feed run → now.input ≡ new.input → IsCount feed.read → Takes before new IsCount
+  along_count ended before now new maker maker_now feed run IsCount along same count = record {
+    bytes = along.taken;
+    consumed = subst (λ (input : Input). Consumes before.input.left input.left along.taken) same along.consumed;
+    count = subst IsCount (sym along.read) count;
+  }
+
+  -- and a piece more
+  along_piece : (before now new : Outside) (maker maker_now : Maker) (feed feed_now : ItemFeed) (run : Run L) (piece : List ℕ) (IsCount : ℕ → Type 0)
+      → Along false before now maker maker_now feed run → Consumes now.input.left new.input.left piece → feed_now.read ≡ feed.read + length piece
+      → IsCount feed_now.read → Takes before new IsCount
+  along_piece before now new maker maker_now feed feed_now run piece IsCount along consumed read count = record {
+    bytes = along.taken ++ piece;
+    consumed = Consumes-trans before.input.left now.input.left new.input.left along.taken piece along.consumed consumed;
+    count = subst IsCount (read ∙ ap (λ n. n + length piece) (sym along.read) ∙ sym (length-append along.taken piece)) count;
+  }
+
+  -- all that was printed is written, and it is what is printed of the items that are whole in the bytes taken
+  along_whole : (before now new : Outside) (maker maker_now : Maker) (feed feed_now : ItemFeed) (run : Run L) (IsCount : ℕ → Type 0)
+      (along : Along false before now maker maker_now feed run) → GetsNothing feed feed_now now new (string_bytes run.text) IsCount
+      → WritesWhole along.verdicts before new IsCount
+  unfolding along_piece
+  along_whole before now new maker maker_now feed feed_now run IsCount along gets =
+      let counted = along_piece before now new maker maker_now feed feed_now run gets.reading.piece IsCount along gets.reading.consumed
+      gets.reading.count gets.count in
+      record {
+        bytes = counted.bytes;
+        consumed = counted.consumed;
+        count = counted.count;
+        text =
+            gets.writing ∙ ap (λ (told : Told). added told (string_bytes run.text)) along.printed.told
+            ∙ added_more before.output.taken along.printed.written (string_bytes run.text)
+            ∙ ap (added before.output.taken) (along.printed.parts
+            ∙ sym (ap (λ (answer : Answer). answer.text)
+            (so_far_whole along.taken feed.waiting gets.reading.piece along.verdicts run.number along.so_far along.machine gets.reading.bytes)));
+      }
+
+  going : {A : Type 0} → false ≡ true → A
+  going no = absurd (cc)
+
+  -- the run stops where an item is wanted
+  pub along_stops : (stop : Stop) (before now new : Outside) (maker maker_now : Maker) (feed feed_now : ItemFeed) (run : Run L)
+      → feed_now.read ≤ longest_script → Along false before now maker maker_now feed run → StopsAt stop feed feed_now now new (string_bytes run.text)
+      → Replays (status_of (Err stop)) before new maker maker_now
+  along_stops stops.OutOfMemory before now new maker maker_now feed feed_now run limit along how =
+      along_replays stops.OutOfMemory false before now new maker maker_now feed run along going
+      (along_cut false before now new maker maker_now feed run along going how.writing)
+      (along_piece before now new maker maker_now feed feed_now run how.reading.piece (λ count. count ≤ longest_script) along how.reading.consumed
+      how.reading.count limit)
+  along_stops stops.WriteFault before now new maker maker_now feed feed_now run limit along how =
+      along_replays stops.WriteFault false before now new maker maker_now feed run along going
+      (along_cut false before now new maker maker_now feed run along going how.writing)
+      (along_piece before now new maker maker_now feed feed_now run how.reading.piece (λ count. count ≤ longest_script) along how.reading.consumed
+      how.reading.count limit)
+  along_stops stops.ReadFault before now new maker maker_now feed feed_now run limit along how =
+      along_replays stops.ReadFault false before now new maker maker_now feed run along going
+      (along_cut false before now new maker maker_now feed run along going
+      (front_all now.output.taken new.output.taken (string_bytes run.text) how.writing))
+      (along_whole before now new maker maker_now feed feed_now run (λ count. count < longest_script) along how)
+  along_stops stops.TooLong before now new maker maker_now feed feed_now run limit along how =
+      along_replays stops.TooLong false before now new maker maker_now feed run along going
+      (along_cut false before now new maker maker_now feed run along going
+      (front_all now.output.taken new.output.taken (string_bytes run.text) how.writing))
+      (along_whole before now new maker maker_now feed feed_now run (λ count. count ≡ longest_script) along how)
+
+  -- verdicts on an item that was not taken are tied to the script, behind those before it
+  left_tied : (ended : Bool) (left left_now : Option (List ℕ)) (taken waiting piece rest : List ℕ) (verdicts more : List Verdict) (number : ℕ)
+      (so_far : Answer) (item : Item) → Consumes left left_now (taken ++ piece) → (ended ≡ true → IsAtEnd left_now)
+      → SoFar taken waiting verdicts number so_far → IsTaken (Some item) ended (waiting ++ piece) rest → AreTied (item ∷ []) more
+      → WhereTold left (λ script. AreTied (items_of script) (verdicts ++ more))
+  left_tied ended None left_now taken waiting piece rest verdicts more number so_far item consumed at_end machine came tied = tt
+  left_tied ended (Some script) None taken waiting piece rest verdicts more number so_far item consumed at_end machine came tied = absurd consumed
+  left_tied false (Some script) (Some behind) taken waiting piece rest verdicts more number so_far item consumed at_end machine came tied =
+      subst (λ (bytes : List ℕ). AreTied (items_of bytes) (verdicts ++ more)) (sym (consumed ∙ append_assoc taken piece behind))
+      (machine.tied (piece ++ behind) more
+      (subst (λ (items : List Item). AreTied items more) (sym (ap items_of (sym (append_assoc waiting piece behind)) ∙ came.all behind))
+      (first_tied item (items_of (rest ++ behind)) more tied)))
+    where
+      first_tied : (item : Item) (items : List Item) (more : List Verdict) → AreTied (item ∷ []) more → AreTied (item ∷ items) more
+      first_tied item items [] tied = tt
+      first_tied item items (verdict ∷ []) tied = (tied.0, tt)
+      first_tied item items (verdict ∷ other ∷ later) tied = absurd tied.1
+  left_tied true (Some script) (Some behind) taken waiting piece rest verdicts more number so_far item consumed at_end machine came tied =
+      subst (λ (bytes : List ℕ). AreTied (items_of bytes) (verdicts ++ more)) (sym (taken_all script (taken ++ piece) behind consumed (at_end refl)))
+      (machine.tied piece more (subst (λ (items : List Item). AreTied items more) (sym came.all) tied))
+
+  large_more : (maker now new : List (List ℕ)) (verdicts more : List Verdict) → now ≡ maker ++ large_texts verdicts → new ≡ now ++ large_texts more
+      → new ≡ maker ++ large_texts (verdicts ++ more)
+  large_more maker now new verdicts more before later =
+      later ∙ ap (λ (texts : List (List ℕ)). texts ++ large_texts more) before ∙ append_assoc maker (large_texts verdicts) (large_texts more)
+      ∙ ap (λ (texts : List (List ℕ)). maker ++ texts) (sym (flat_map-append large_in verdicts more))
+
+  -- the run stops where what came is not taken for want of memory
+  pub along_leaves : (item : Option Item) (ended : Bool) (before now new : Outside) (maker maker_now maker_new : Maker) (feed feed_now : ItemFeed)
+      (run : Run L) (text : List ℕ) → feed_now.read ≤ longest_script → (ended ≡ true → IsAtEnd new.input.left)
+      → Along false before now maker maker_now feed run
+      → Reads feed.waiting feed.read feed_now.read now.input new.input (λ bytes. IsTaken item ended bytes feed_now.waiting)
+      → Gathers now.output.taken new.output.taken (string_bytes run.text) text [] → LeavesNext item maker_now maker_new
+      → Replays (status_of (Err stops.OutOfMemory)) before new maker maker_new
+  along_leaves None ended before now new maker maker_now maker_new feed feed_now run text limit at_end along came gathers leaves = record {
+    verdicts = along.verdicts;
+    tied = along_tied false before now maker maker_now feed run along going;
+    large = ap (λ (maker : Maker). maker.refused) leaves ∙ along.large;
+    text = stopped stops.OutOfMemory before.input.left along.verdicts before.output.taken new.output.taken
+        (along_front before now new maker maker_now feed run text along gathers);
+    reached = along_piece before now new maker maker_now feed feed_now run came.piece (λ count. count ≤ longest_script) along came.consumed came.count limit;
+  }
+  along_leaves (Some item) ended before now new maker maker_now maker_new feed feed_now run text limit at_end along came gathers leaves = record {
+    verdicts = along.verdicts ++ leaves.verdicts;
+    tied =
+        left_tied ended before.input.left new.input.left along.taken feed.waiting came.piece feed_now.waiting along.verdicts leaves.verdicts run.number
+        along.so_far item
+        (Consumes-trans before.input.left now.input.left new.input.left along.taken came.piece along.consumed came.consumed) at_end along.machine
+        came.bytes leaves.tied;
+    large = large_more maker.refused maker_now.refused maker_new.refused along.verdicts leaves.verdicts along.large leaves.large;
+    text = stopped stops.OutOfMemory before.input.left (along.verdicts ++ leaves.verdicts) before.output.taken new.output.taken
+        (front_under before.input.left along.verdicts leaves.verdicts before.output.taken new.output.taken
+        (along_front before now new maker maker_now feed run text along gathers));
+    reached = along_piece before now new maker maker_now feed feed_now run came.piece (λ count. count ≤ longest_script) along came.consumed came.count limit;
+  }
+
+  -- a write of what was gathered stops, after an item was taken
+  pub along_unwritten : (ended : Bool) (before now new : Outside) (maker maker_now : Maker) (feed : ItemFeed) (run : Run L)
+      → feed.read ≤ longest_script → (ended ≡ true → IsAtEnd now.input.left) → now.input ≡ new.input
+      → Along ended before now maker maker_now feed run → AppendsFront now.output.taken new.output.taken (string_bytes run.text)
+      → Replays (status_of (Err stops.WriteFault)) before new maker maker_now
+  along_unwritten ended before now new maker maker_now feed run limit at_end same along front =
+      along_replays stops.WriteFault ended before now new maker maker_now feed run along at_end
+      (along_cut ended before now new maker maker_now feed run along at_end front)
+      (along_count ended before now new maker maker_now feed run (λ count. count ≤ longest_script) along same limit)
+
+  -- what came is taken, after what was gathered moved
+  pub along_next : (next : NextItem) (before now new : Outside) (maker maker_now maker_new : Maker) (feed feed_now : ItemFeed) (run moved run_now : Run L)
+      → moved ≡ record run { text = moved.text } → Along false before now maker maker_now feed run
+      → TakesNextItem next feed feed_now now.input new.input
+      → Gathers now.output.taken new.output.taken (string_bytes run.text) (string_bytes moved.text) []
+      → TakesNext (item_next next feed_now) moved run_now maker_now maker_new
+      → Along feed_now.ended before new maker maker_new feed_now run_now
+  unfolding along_piece
+  along_next next before now new maker maker_now maker_new feed feed_now run moved run_now same along came gathers takes =
+      of (item_next next feed_now) feed_now.ended came.bytes takes
+    where
+      stood : Stands moved.state along.so_far.past
+      stood = subst (λ (view : View). Stands view along.so_far.past) (sym (ap (λ (run : Run L). run.state) same)) along.stands
+
+      refused : moved.refused ≡ along.so_far.refused
+      refused = ap (λ (run : Run L). run.refused) same ∙ along.refused
+
+      machine : SoFar along.taken feed.waiting along.verdicts moved.number along.so_far
+      machine = subst (λ (number : ℕ). SoFar along.taken feed.waiting along.verdicts number along.so_far) (sym (ap (λ (run : Run L). run.number) same))
+          along.machine
+
+      printed : Printed before.output.taken new.output.taken (string_bytes moved.text) along.so_far.text
+      printed = printed_moved before.output.taken now.output.taken new.output.taken (string_bytes run.text) (string_bytes moved.text) along.so_far.text
+          along.printed gathers
+
+      counted : Takes before new (λ n. n ≡ feed_now.read)
+      counted = along_piece before now new maker maker_now feed feed_now run came.piece (λ n. n ≡ feed_now.read) along came.consumed came.count refl
+
+      of : (item : Option Item) (ended : Bool) → IsTaken item ended (feed.waiting ++ came.piece) feed_now.waiting
+          → TakesNext item moved run_now maker_now maker_new → Along ended before new maker maker_new feed_now run_now
+      of None false none takes = absurd (let no = none.at_end in cc)
+      of None true none takes = record {
+        taken = along.taken ++ came.piece;
+        verdicts = along.verdicts;
+        so_far = along.so_far;
+        consumed = counted.consumed;
+        read = counted.count;
+        large = ap (λ (maker : Maker). maker.refused) takes.1 ∙ along.large;
+        printed = subst (λ (text : List ℕ). Printed before.output.taken new.output.taken text along.so_far.text)
+            (sym (ap (λ (run : Run L). string_bytes run.text) takes.0)) printed;
+        stands = subst (λ (view : View). Stands view along.so_far.past) (sym (ap (λ (run : Run L). run.state) takes.0)) stood;
+        refused = ap (λ (run : Run L). run.refused) takes.0 ∙ refused;
+        machine = so_far_end along.taken feed.waiting came.piece feed_now.waiting along.verdicts moved.number along.so_far true machine none;
+      }
+      of (Some item) ended bytes takes =
+          let follows = takes.follows along.so_far.past stood in
+          record {
+            taken = along.taken ++ came.piece;
+            verdicts = along.verdicts ++ takes.verdict ∷ [];
+            so_far = with_item along.so_far moved.number takes.verdict item;
+            consumed = counted.consumed;
+            read = counted.count;
+            large =
+                large_more maker.refused maker_now.refused maker_new.refused along.verdicts (takes.verdict ∷ []) along.large
+                (takes.is_verdict.large ∙ ap (λ (texts : List (List ℕ)). maker_now.refused ++ texts) (sym (append-nil (large_in takes.verdict))));
+            printed =
+                printed_more before.output.taken new.output.taken (string_bytes moved.text) (string_bytes run_now.text) along.so_far.text
+                (answer (refused_line moved.number) along.so_far.past takes.verdict item).text printed follows.text;
+            stands = follows.stands;
+            refused = follows.refused ∙ ap (λ (test : Bool). test || (answer (refused_line moved.number) along.so_far.past takes.verdict item).refused) refused;
+            machine = come ended bytes;
+          }
+        where
+          come : (ended : Bool) → IsTaken (Some item) ended (feed.waiting ++ came.piece) feed_now.waiting
+              → HasCome ended (along.taken ++ came.piece) feed_now.waiting (along.verdicts ++ takes.verdict ∷ []) run_now.number
+              (with_item along.so_far moved.number takes.verdict item)
+          come true last = so_far_last along.taken feed.waiting came.piece feed_now.waiting along.verdicts moved.number along.so_far takes.verdict item machine
+              last takes.is_verdict.tied
+          come false begins =
+              subst (λ (number : ℕ). SoFar (along.taken ++ came.piece) feed_now.waiting (along.verdicts ++ takes.verdict ∷ []) number
+              (with_item along.so_far moved.number takes.verdict item)) (sym takes.number)
+              (so_far_more along.taken feed.waiting came.piece feed_now.waiting along.verdicts moved.number along.so_far takes.verdict item machine begins
+              takes.is_verdict.tied)
+
+  -- what is gathered moves, and it is known whether the source was read to its end
+  pub along_told : (ended told : Bool) (before : Outside) (input : Input) (output output_now : Output) (maker maker_now : Maker) (feed : ItemFeed)
+      (run moved : Run L) → ended ≡ told → moved ≡ record run { text = moved.text } → Along ended before (outside input output) maker maker_now feed run
+      → Gathers output.taken output_now.taken (string_bytes run.text) (string_bytes moved.text) []
+      → Along told before (outside input output_now) maker maker_now feed moved
+  along_told ended told before input output output_now maker maker_now feed run moved known same along gathers =
+      subst (λ (is_ended : Bool). Along is_ended before (outside input output_now) maker maker_now feed moved) known (record {
+        taken = along.taken;
+        verdicts = along.verdicts;
+        so_far = along.so_far;
+        consumed = along.consumed;
+        read = along.read;
+        large = along.large;
+        printed = printed_moved before.output.taken output.taken output_now.taken (string_bytes run.text)
+            (string_bytes moved.text) along.so_far.text along.printed gathers;
+        stands = subst (λ (view : View). Stands view along.so_far.past) (sym (ap (λ (run : Run L). run.state) same)) along.stands;
+        refused = ap (λ (run : Run L). run.refused) same ∙ along.refused;
+        machine = subst (λ (number : ℕ). HasCome ended along.taken feed.waiting along.verdicts number along.so_far) (sym (ap (λ (run : Run L). run.number) same))
+            along.machine;
+      })
+
+  -- the rows of the entries are those of the FRUs
+  rows_are : (configs : List Config) (frus : List Fru) → entry_rows (map (fru_entry configs) frus) ≡ final_list frus
+  unfolding final_list
+  rows_are configs [] = refl
+  rows_are configs (fru ∷ frus) = ap (λ (rows : List ℕ). fru_row fru.place (fields_of fru) ++ rows) (rows_are configs frus)
+
+  -- what is left to print at the end of the script
+  list_of : (before now : Outside) (maker maker_now : Maker) (feed : ItemFeed) (run : Run L) (along : Along true before now maker maker_now feed run)
+      → along.so_far.text ++ entry_rows run.state.entries ≡ with_list along.so_far
+  list_of before now maker maker_now feed run along =
+      ap (λ (rows : List ℕ). along.so_far.text ++ rows) (ap entry_rows along.stands.entries ∙ rows_are (standing along.so_far.past).configs
+      (standing along.so_far.past).frus)
+
+  -- a write in the final list stops for want of memory or by a fault of the sink
+  stops_after : (stop : Stop) (verdicts : List Verdict) (before now : Outside) (calls calls_now : Calls)
+      → Takes before now (λ count. count ≤ longest_script) → WriteCause stop calls calls_now → Reaches (status_of (Err stop)) verdicts before now
+  stops_after stops.OutOfMemory verdicts before now calls calls_now takes cause = takes
+  stops_after stops.WriteFault verdicts before now calls calls_now takes cause = takes
+  stops_after stops.ReadFault verdicts before now calls calls_now takes cause = absurd cause
+  stops_after stops.TooLong verdicts before now calls calls_now takes cause = absurd cause
+
+  -- it stops in the final list
+  pub ended_cut : (stop : Stop) (before now new : Outside) (maker maker_now : Maker) (feed : ItemFeed) (run : Run L) (calls calls_now : Calls)
+      → IsAtEnd now.input.left → feed.read ≤ longest_script → now.input ≡ new.input → Along true before now maker maker_now feed run
+      → AppendsFront now.output.taken new.output.taken (string_bytes run.text ++ entry_rows run.state.entries) → WriteCause stop calls calls_now
+      → Replays (status_of (Err stop)) before new maker maker_now
+  ended_cut stop before now new maker maker_now feed run calls calls_now at_end limit same along front cause =
+      along_replays stop true before now new maker maker_now feed run along (λ yes. at_end)
+      (begins_stopped before.input.left along.verdicts before.output.taken now.output.taken new.output.taken (string_bytes run.text)
+      (entry_rows run.state.entries) along.so_far.text
+      (subst (Begins before.input.left along.verdicts) (sym (list_of before now maker maker_now feed run along))
+      (ended_begins before.input.left now.input.left along.taken along.verdicts along.so_far along.consumed at_end along.machine))
+      along.printed front)
+      (stops_after stop along.verdicts before new calls calls_now
+      (along_count true before now new maker maker_now feed run (λ count. count ≤ longest_script) along same limit) cause)
+
+  writes_all : (refused : Bool) (script : List ℕ) (verdicts : List Verdict) (old new : Told) → WritesAll script verdicts refused old new
+      → Writes (status_of (Ok refused)) script verdicts old new
+  writes_all true script verdicts old new writes = writes
+  writes_all false script verdicts old new writes = writes
+
+  all_written : (refused : Bool) (left left_now : Option (List ℕ)) (taken : List ℕ) (verdicts : List Verdict) (so_far : Answer) (old new : Told)
+      → Consumes left left_now taken → IsAtEnd left_now → HasEnded taken verdicts so_far → refused ≡ so_far.refused → new ≡ added old (with_list so_far)
+      → WhereTold left (λ script. Writes (status_of (Ok refused)) script verdicts old new)
+  all_written refused None left_now taken verdicts so_far old new consumed at_end machine same text = tt
+  all_written refused (Some script) None taken verdicts so_far old new consumed at_end machine same text = absurd consumed
+  all_written refused (Some script) (Some rest) taken verdicts so_far old new consumed at_end machine same text =
+      let script_is : script ≡ taken = taken_all script taken rest consumed at_end in
+      let is : answer_of verdicts script ≡ so_far =
+      ap (answer_of verdicts) script_is ∙ ap (λ (all : List Verdict). answer_of all taken) (sym (append-nil verdicts)) ∙ machine.all [] in
+      writes_all refused script verdicts old new (record {
+        each = machine.each ∙ sym (ap (λ (bytes : List ℕ). length (items_of bytes)) script_is);
+        text = text ∙ ap (λ (answer : Answer). added old (with_list answer)) (sym is);
+        refusal = ap (λ (answer : Answer). answer.refused) is ∙ sym same;
+      })
+
+  -- all is written and was taken
+  pub ended_all : (before now new : Outside) (maker maker_now : Maker) (feed : ItemFeed) (run : Run L) → IsAtEnd now.input.left
+      → feed.read < longest_script → now.input ≡ new.input → Along true before now maker maker_now feed run
+      → new.output.taken ≡ added now.output.taken (string_bytes run.text ++ entry_rows run.state.entries)
+      → Replays (status_of (Ok run.refused)) before new maker maker_now
+  ended_all before now new maker maker_now feed run at_end few same along text = record {
+    verdicts = along.verdicts;
+    tied = along_tied true before now maker maker_now feed run along (λ yes. at_end);
+    large = along.large;
+    text =
+        all_written run.refused before.input.left now.input.left along.taken along.verdicts along.so_far before.output.taken new.output.taken along.consumed
+        at_end along.machine along.refused
+        (text ∙ ap (λ (told : Told). added told (string_bytes run.text ++ entry_rows run.state.entries)) along.printed.told
+        ∙ added_more before.output.taken along.printed.written (string_bytes run.text ++ entry_rows run.state.entries)
+        ∙ ap (added before.output.taken) (sym (append_assoc along.printed.written (string_bytes run.text) (entry_rows run.state.entries))
+        ∙ ap (λ (text : List ℕ). text ++ entry_rows run.state.entries) along.printed.parts ∙ list_of before now maker maker_now feed run along));
+    reached = of run.refused (along_count true before now new maker maker_now feed run (λ count. count < longest_script) along same few);
+  }
+    where
+      of : (refused : Bool) → Takes before new (λ count. count < longest_script) → Reaches (status_of (Ok refused)) along.verdicts before new
+      of true takes = (subst (λ (input : Input). IsAtEnd input.left) same at_end, takes)
+      of false takes = (subst (λ (input : Input). IsAtEnd input.left) same at_end, takes)
+
+  -- the number of the next item
+  pub numbered : (item : Option Item) (moved run_now : Run L) (maker maker_now : Maker) (ended : Bool) (bytes rest : List ℕ) → ended ≡ false
+      → IsTaken item ended bytes rest → TakesNext item moved run_now maker maker_now → run_now.number ≡ moved.number + 1
+  numbered None moved run_now maker maker_now ended bytes rest going taken takes = absurd (let no = taken.at_end in cc)
+  numbered (Some item) moved run_now maker maker_now ended bytes rest going taken takes = takes.number

@@ -21,7 +21,7 @@ use Rattle.bmc_report.specs.declared.change.Change.TheVariants.{Board}
 use Rattle.bmc_machine.specs.Boards.{name_of}
 use Rattle.bmc_machine.specs.Changes.{Inventory, board_change, boards_left, changes_between}
 use Rattle.bmc_replay.specs.States.{View, view_boards, view_inventory, Moves}
-use Rattle.bmc_replay.specs.Changes.{StagesKeys, AreWithin, Tells}
+use Rattle.bmc_replay.specs.Changes.{IsDifference, AreWithin, Tells}
 
 -- ---- the places of one configuration
 
@@ -132,30 +132,23 @@ unfolding boards_in board_places
 no_boards configs sights number few = ap (λ (config : Option Config). unwrap_or (option_map (λ config. _) config) []) (slice_get_past configs number few)
 
 -- what was staged is taken over
-pub moves : (old new : View) (more : List Config) (gone fresh : List BoardKey) (staged : Option (List BoardKey)) (kept kept_now : List (List (Option Place)))
-    (changes : List Change) → new.configs ≡ old.configs ++ more
-    → StagesKeys (length old.configs) (length new.configs) (view_boards old) (view_boards new) gone staged → staged ≡ Some fresh
+pub moves : (old new : View) (more : List Config) (gone fresh : List BoardKey) (kept kept_now : List (List (Option Place))) (changes : List Change)
+    → new.configs ≡ old.configs ++ more → IsDifference (length old.configs) (length new.configs) (view_boards old) (view_boards new) gone fresh
     → ((number : ℕ) → kept_of kept number ≡ kept_of old.kept number) → Tells new.configs gone fresh kept kept_now changes
     → new.kept ≡ kept_now → new.changes ≡ changes → Moves old new
 unfolding changes_between
-moves old new more gone fresh staged kept kept_now changes configs stages is same tells keeps told = record {
+moves old new more gone fresh kept kept_now changes configs differs same tells keeps told = record {
   kept = λ number.
       ap (λ (lists : List (List (Option Place))). kept_of lists number) keeps ∙ tells.all_kept number
       ∙ ap₂ with_boards (same number)
-        (ap (places_of number) fresh_are ∙ places_left number (length new.configs) (view_boards new) (view_boards old)
+        (ap (places_of number) differs.those_new ∙ places_left number (length new.configs) (view_boards new) (view_boards old)
         (λ few. no_boards new.configs _ number few));
   changes = told ∙ tells.told ∙ ap₂ (λ (front back : List Change). front ++ back) gone_changes fresh_changes;
 }
   where
-    fresh_are : fresh ≡ keys_left (length new.configs) (view_boards new) (view_boards old)
-    fresh_are = some_same (sym is ∙ stages.those_new)
-      where
-        some_same : {X : Type 0} {x y : X} → Option.Some x ≡ Some y → x ≡ y
-        some_same same = cc
-
     gone_changes : map (board_change true new.configs (kept_of kept)) gone ≡ boards_left true (view_inventory old) (view_inventory new)
     gone_changes =
-        ap (map (board_change true new.configs (kept_of kept))) stages.those_gone
+        ap (map (board_change true new.configs (kept_of kept))) differs.those_gone
         ∙ changes_alike _ _ (length old.configs) _ (keys_within (length old.configs) (view_boards old) (view_boards new)) as_before
       where
         as_before : (key : BoardKey) → key.config < length old.configs
@@ -166,4 +159,4 @@ moves old new more gone fresh staged kept kept_now changes configs stages is sam
 
     fresh_changes : map (board_change false new.configs (kept_of kept_now)) fresh ≡ boards_left false (view_inventory new) (view_inventory old)
     fresh_changes =
-        ap₂ (λ (kept : List (List (Option Place))) (keys : List BoardKey). map (board_change false new.configs (kept_of kept)) keys) (sym keeps) fresh_are
+        ap₂ (λ (kept : List (List (Option Place))) (keys : List BoardKey). map (board_change false new.configs (kept_of kept)) keys) (sym keeps) differs.those_new

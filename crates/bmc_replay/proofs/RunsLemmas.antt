@@ -175,12 +175,12 @@ unread bytes (faults.PatternTooLarge text) maker maker_now gives none = absurd (
 -- ---- counting
 
 -- what was answered is counted
-pub answered_item : (item : Item) (effect : Effect) (old answered new : Run) (maker maker_now : Maker) → answered ≡ record old { state = answered.state }
+pub answered_item : {L : Type 0} (item : Item) (effect : Effect) (old answered new : Run L) (maker maker_now : Maker) → answered ≡ record old { state = answered.state }
     → AnswersItem item effect old.state answered.state maker maker_now → CountsItem effect answered new → TakesItem item old new maker maker_now
-answered_item item effect old answered new maker maker_now same answers counts = record {
+answered_item {L} item effect old answered new maker maker_now same answers counts = record {
   verdict = answers.verdict;
   is_verdict = answers.is_verdict;
-  number = counts.number ∙ ap (λ (run : Run). run.number + 1) same;
+  number = counts.number ∙ ap (λ (run : Run L). run.number + 1) same;
   follows = λ past stood.
       let is = answers.answers (refused_line old.number) past stood in
       record {
@@ -188,10 +188,10 @@ answered_item item effect old answered new maker maker_now same answers counts =
         text =
             counts.text
             ∙ ap₂ (λ (text : List ℕ) (n : ℕ). text ++ effect_text (refused_line n) effect answered.state.changes)
-              (ap (λ (run : Run). string_bytes run.text) same) (ap (λ (run : Run). run.number) same)
+              (ap (λ (run : Run L). string_bytes run.text) same) (ap (λ (run : Run L). run.number) same)
             ∙ ap (λ (text : List ℕ). string_bytes old.text ++ text) is.text;
         refused =
             counts.refused
-            ∙ ap₂ (λ (before now : Bool). before || now) (ap (λ (run : Run). run.refused) same) is.refused;
+            ∙ ap₂ (λ (before now : Bool). before || now) (ap (λ (run : Run L). run.refused) same) is.refused;
       };
 }

@@ -9,10 +9,10 @@ use Rattle.inventory.specs.declared.board.BoardKey.{BoardKey}
 use Rattle.bmc_report.specs.declared.change.Change.{Change}
 use Rattle.bmc_machine.specs.Changes.{board_change}
 
--- these boards go, and the new ones are staged, where these are the boards of as many configurations before and after
-pub record StagesKeys (count count_after : ℕ) (boards boards_after : ℕ → List (Option Place)) (gone : List BoardKey) (staged : Option (List BoardKey)) : Type 0 where
+-- what changes from these boards of as many configurations to those
+pub record IsDifference (count count_after : ℕ) (boards boards_after : ℕ → List (Option Place)) (gone new : List BoardKey) : Type 0 where
   pub those_gone : gone ≡ keys_left count boards boards_after
-  pub those_new : staged ≡ Some (keys_left count_after boards_after boards)
+  pub those_new : new ≡ keys_left count_after boards_after boards
 
 -- there is room for their changes
 abbrev pub HasRoomFor : List BoardKey → Option (List BoardKey) → ℕ → Type 0

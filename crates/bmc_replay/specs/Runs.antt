@@ -54,7 +54,7 @@ pub record AnswersItem (item : Item) (effect : Effect) (old new : View) (maker m
   pub answers : Answers (λ line past. answer line past verdict item) effect old new
 
 -- a run answers what came: an item, or nothing at the end
-abbrev pub AnswersNext : Option Item → Option Effect → Run → Run → Maker → Maker → Type 0
+abbrev pub AnswersNext : {L : Type 0} → Option Item → Option Effect → Run L → Run L → Maker → Maker → Type 0
 AnswersNext (Some item) (Some effect) old new maker maker_now =
     AnswersItem item effect old.state new.state maker maker_now × (new ≡ record old { state = new.state })
 AnswersNext None None old new maker maker_now = (new ≡ old) × (maker_now ≡ maker)
@@ -68,27 +68,27 @@ pub record LeavesItem (item : Item) (maker maker_now : Maker) : Type 0 where
   pub large : maker_now.refused ≡ maker.refused ++ large_texts verdicts
 
 -- an item is counted, and what is printed of it is gathered
-pub record CountsItem (effect : Effect) (old new : Run) : Type 0 where
+pub record CountsItem {L : Type 0} (effect : Effect) (old new : Run L) : Type 0 where
   pub state : new.state ≡ old.state
   pub text : string_bytes new.text ≡ string_bytes old.text ++ effect_text (refused_line old.number) effect old.state.changes
   pub number : new.number ≡ old.number + 1
   pub refused : new.refused ≡ (old.refused || is_refused effect)
 
 -- what a run gathers and remembers of an answer
-pub record Follows (answer : Answer) (old new : Run) : Type 0 where
+pub record Follows {L : Type 0} (answer : Answer) (old new : Run L) : Type 0 where
   pub stands : Stands new.state answer.past
   pub text : string_bytes new.text ≡ string_bytes old.text ++ answer.text
   pub refused : new.refused ≡ (old.refused || answer.refused)
 
 -- an item is taken under a verdict, and counted
-pub record TakesItem (item : Item) (old new : Run) (maker maker_now : Maker) : Type 0 where
+pub record TakesItem {L : Type 0} (item : Item) (old new : Run L) (maker maker_now : Maker) : Type 0 where
   pub verdict : Verdict
   pub is_verdict : IsVerdict item verdict maker maker_now
   pub number : new.number ≡ old.number + 1
   pub follows : (past : List Step) → Stands old.state past → Follows (answer (refused_line old.number) past verdict item) old new
 
 -- what came is taken; at the end nothing is
-abbrev pub TakesNext : Option Item → Run → Run → Maker → Maker → Type 0
+abbrev pub TakesNext : {L : Type 0} → Option Item → Run L → Run L → Maker → Maker → Type 0
 TakesNext None old new maker maker_now = (new ≡ old) × (maker_now ≡ maker)
 TakesNext (Some item) old new maker maker_now = TakesItem item old new maker maker_now
 
@@ -98,7 +98,7 @@ LeavesNext None maker maker_now = maker_now ≡ maker
 LeavesNext (Some item) maker maker_now = LeavesItem item maker maker_now
 
 -- nothing was taken
-pub record IsNew (run : Run) : Type 0 where
+pub record IsNew {L : Type 0} (run : Run L) : Type 0 where
   pub state : run.state ≡ no_view
   pub text : string_bytes run.text ≡ []
   pub number : run.number ≡ 1

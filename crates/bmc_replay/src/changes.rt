@@ -1,14 +1,13 @@
-ghost use Rattle.std.specs.Prelude.{◌≡◌, ◌+◌, ◌≤◌, ◌<◌, ◌++◌, ℕ, Bool, Some, length, map, option_map, option_to_list, IfOk, IfSome, IsSomeAnd, vec_capacity, vec_len};
+ghost use Rattle.std.specs.Prelude.{◌≡◌, ◌+◌, ◌≤◌, ◌++◌, ℕ, Some, length, map, IfOk, OnOk, IfSome, IsSomeAnd, vec_capacity, vec_len};
 ghost use Rattle.cfg_json.specs.Configs.{fixed_of};
 ghost use Rattle.inventory.specs.Indexes.{kept_of};
-ghost use Rattle.inventory.specs.Differences.{IsMarkedBy, boards_at};
 ghost use Rattle.bmc_machine.specs.Changes.{board_change};
-ghost use Rattle.bmc_replay.specs.Changes.{StagesKeys, HasRoomFor, AreWithin, Tells};
+ghost use Rattle.bmc_replay.specs.Changes.{HasRoomFor, AreWithin, Tells};
 
 use bmc_base::{Bytes, Ledger, OutOfMemory};
 use bmc_report::Change;
 use cfg_json::{Body, Config, Shelf};
-use inventory::{BoardKey, BoardKeys, IndexKeep, Moment, difference};
+use inventory::{BoardKey, BoardKeys, Difference, IndexKeep};
 use std::alloc::Global;
 
 // Copies the buses to which the fixed channels of a configuration lead.
@@ -27,30 +26,27 @@ pub(crate) fn fixed_channels<L: Ledger>(
     Ok(Bytes::from(fixed))
 }
 
-// Finds the boards that go and those that are new from one moment to the next. Stages the new ones, makes
-// room for the changes, and returns those that go. Nothing is taken over yet.
-pub(crate) fn stage_changes<L: Ledger>(
+// Stages the boards that are new, makes room for the changes, and returns the boards that go. Nothing is taken
+// over yet.
+pub(crate) fn stage_changes(
     alloc: Global,
-    shelf: &Shelf<L>,
-    plus: Option<&Config<L>>,
-    before: &Moment<'_>,
-    after: &Moment<'_>,
+    difference: Difference,
     keep: &mut IndexKeep,
     changes: &mut Vec<Change>,
 ) -> Result<BoardKeys, OutOfMemory>
-    requires { length (shelf.now ++ option_to_list (option_map (λ config. config.now) plus)) ≤ 256 }
-    ensures staged { (found reach found_after reach_after : ℕ → Bool) → IsMarkedBy before.now.facts found reach
-        → IsMarkedBy after.now.facts found_after reach_after → IfOk result (λ gone. StagesKeys (length shelf.now)
-        (length (shelf.now ++ option_to_list (option_map (λ config. config.now) plus))) (boards_at shelf.now found reach before.now)
-        (boards_at (shelf.now ++ option_to_list (option_map (λ config. config.now) plus)) found_after reach_after after.now) gone keep.new.staged) }
+    ensures gone { IfOk result (λ gone. gone ≡ difference.gone_boards) }
+    ensures staged { OnOk result (keep.new.staged ≡ Some difference.new_boards) }
     ensures kept { (number : ℕ) → kept_of keep.new.kept number ≡ kept_of keep.old.kept number }
-    ensures room { IfOk result (λ gone. HasRoomFor gone keep.new.staged (vec_capacity changes.new)) }
+    ensures room { OnOk result (length difference.gone_boards + length difference.new_boards ≤ vec_capacity changes.new) }
     ensures changes { changes.new.items ≡ changes.old.items }
 {
-    let difference = difference(alloc, shelf, plus, before, after)?;
-    changes.reserve(difference.gone.len() + difference.new.len())?;
-    keep.stage(alloc, difference.new)?;
-    Ok(difference.gone)
+    let Difference {
+        gone_boards,
+        new_boards,
+    } = difference;
+    changes.reserve(gone_boards.as_slice().len() + new_boards.as_slice().len())?;
+    keep.stage(alloc, new_boards)?;
+    Ok(gone_boards)
 }
 
 // Appends a change for each of these boards, which are gone or new. There is room for them.

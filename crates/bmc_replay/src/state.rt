@@ -11,7 +11,7 @@ use bmc_report::{Change, Refusal};
 use cfg_json::{Config, MOST_CONFIGS, Shelf};
 use found_set::FoundSet;
 use fru_record::FruRecord;
-use inventory::{IndexKeep, Moment};
+use inventory::{IndexKeep, Moment, difference, difference_by};
 use match_rows::{Rows, make};
 use probe_lang::Entry;
 use std::alloc::Global;
@@ -112,15 +112,8 @@ impl<L: Ledger> State<L> {
         )?;
         let before = Moment::of(self.set.facts(), self.rows.entries());
         let after = Moment::of(next.facts(), self.rows.entries());
-        let gone = stage_changes(
-            alloc,
-            &self.shelf,
-            Some(&config),
-            &before,
-            &after,
-            &mut self.keep,
-            &mut self.changes,
-        )?;
+        let difference = difference(alloc, &self.shelf, Some(&config), &before, &after)?;
+        let gone = stage_changes(alloc, difference, &mut self.keep, &mut self.changes)?;
         self.shelf.add(alloc, config)?;
         self.set.commit(next);
         tell_changes(&self.shelf, &mut self.keep, &gone, &mut self.changes);
@@ -171,15 +164,8 @@ impl<L: Ledger> State<L> {
         self.rows.reserve(alloc)?;
         let before = Moment::of(self.set.facts(), self.rows.entries());
         let after = Moment::with(next.facts(), self.rows.entries(), &entry);
-        let gone = stage_changes(
-            alloc,
-            &self.shelf,
-            None,
-            &before,
-            &after,
-            &mut self.keep,
-            &mut self.changes,
-        )?;
+        let difference = difference_by(alloc, &self.shelf, &entry, &before, &after)?;
+        let gone = stage_changes(alloc, difference, &mut self.keep, &mut self.changes)?;
         self.set.commit(next);
         self.rows.plug(entry);
         self.plugged = true;
@@ -198,21 +184,14 @@ impl<L: Ledger> State<L> {
         ensures tried { IfOk result (λ refusal. Tries self.old (histories.Unplug place) refusal self.new) }
         ensures same { OnErr result (IsSame self.old self.new) }
     {
-        if self.rows.entry(place).is_none() {
+        let Some(entry) = self.rows.entry(place) else {
             return Ok(self.refuse(Refusal::NotPresent));
-        }
+        };
         let next = self.set.prepare_unplug(alloc, place, steps)?;
         let before = Moment::of(self.set.facts(), self.rows.entries());
         let after = Moment::without(next.facts(), self.rows.entries(), place);
-        let gone = stage_changes(
-            alloc,
-            &self.shelf,
-            None,
-            &before,
-            &after,
-            &mut self.keep,
-            &mut self.changes,
-        )?;
+        let difference = difference_by(alloc, &self.shelf, entry, &before, &after)?;
+        let gone = stage_changes(alloc, difference, &mut self.keep, &mut self.changes)?;
         self.set.commit(next);
         self.rows.unplug(place);
         tell_changes(&self.shelf, &mut self.keep, &gone, &mut self.changes);

@@ -32,7 +32,8 @@ hits_ascend reach sights number ascend =
     ascending_filter (λ (sight : Sight). sight.place) place_cmp (λ (sight : Sight). sight.hit number) (on_buses reach sights)
     (ascending_filter (λ (sight : Sight). sight.place) place_cmp (λ (sight : Sight). reach sight.place.bus) sights ascend)
 
-places_ascend : (match_one : Bool) (places : List Place) → IsStrictlySortedBy place_cmp places → IsStrictlySortedBy (option_cmp place_cmp) (places_or_none match_one places)
+places_ascend : (match_one : Bool) (places : List Place) → IsStrictlySortedBy place_cmp places
+    → IsStrictlySortedBy (option_cmp place_cmp) (places_or_none match_one places)
 unfolding IsStrictlySortedBy
 places_ascend true [] ascend = (tt, tt)
 places_ascend false [] ascend = (tt, tt)
@@ -41,16 +42,19 @@ places_ascend false (place ∷ places) ascend = ascending_map place_cmp (option_
 
 -- the boards of a configuration ascend where the FRUs that are seen do
 pub config_places_ascend : (found reach : ℕ → Bool) (sights : List Sight) (number : ℕ) (config : Config)
-    → IsStrictlySortedBy place_cmp (map (λ (sight : Sight). sight.place) sights) → IsStrictlySortedBy (option_cmp place_cmp) (config_places found reach sights number config)
+    → IsStrictlySortedBy place_cmp (map (λ (sight : Sight). sight.place) sights)
+    → IsStrictlySortedBy (option_cmp place_cmp) (config_places found reach sights number config)
 unfolding IsStrictlySortedBy
 config_places_ascend found reach sights number config ascend = by (found number)
   where
-    by : (is_found : Bool) → IsStrictlySortedBy (option_cmp place_cmp) (cond is_found (places_or_none config.probe.match_one (hit_places reach sights number)) [])
+    by : (is_found : Bool)
+        → IsStrictlySortedBy (option_cmp place_cmp) (cond is_found (places_or_none config.probe.match_one (hit_places reach sights number)) [])
     by true = places_ascend config.probe.match_one (hit_places reach sights number) (hits_ascend reach sights number ascend)
     by false = tt
 
 pub board_places_ascend : (configs : List Config) (found reach : ℕ → Bool) (sights : List Sight) (number : ℕ)
-    → IsStrictlySortedBy place_cmp (map (λ (sight : Sight). sight.place) sights) → IsStrictlySortedBy (option_cmp place_cmp) (board_places configs found reach sights number)
+    → IsStrictlySortedBy place_cmp (map (λ (sight : Sight). sight.place) sights)
+    → IsStrictlySortedBy (option_cmp place_cmp) (board_places configs found reach sights number)
 unfolding board_places IsStrictlySortedBy
 board_places_ascend configs found reach sights number ascend = by (slice_get configs number)
   where

@@ -1,5 +1,6 @@
 -- What changes from one moment to the next.
-use Rattle.std.proofs.Common.{◌≡◌, ℕ, zero, suc, ◌+◌, ◌<◌, List, [], ◌∷◌, ◌++◌, Bool, true, false, not, cond, ◌||◌, length, take, map, get_or, Option, Some, None, refl, sym, ap, ap₂, ◌∙◌}
+use Rattle.std.proofs.Common.{◌≡◌, ℕ, zero, suc, ◌+◌, ◌<◌, List, [], ◌∷◌, ◌++◌, Bool, true, false, not, cond, ◌||◌, length, take, map, get_or, Option, Some}
+use Rattle.std.proofs.Common.{None, refl, sym, ap, ap₂, ◌∙◌}
 use Rattle.std.proofs.Common.{arith, append_assoc, length-append, slice_get, option_map, option_to_list}
 use lib.Pointwise.{pointwise}
 use Rattle.std.specs.Option.{option_eq, unwrap_or}
@@ -20,7 +21,8 @@ use Rattle.inventory.proofs.BoardLemmas.{and_first, and_second, board_same, boar
 
 -- ---- one configuration
 
-pub has_board_by : (place : Option Place) (boards : List (Option Place)) → list_any (λ (other : Option Place). option_eq place_eq other place) boards ≡ has_board boards place
+pub has_board_by : (place : Option Place) (boards : List (Option Place))
+    → list_any (λ (other : Option Place). option_eq place_eq other place) boards ≡ has_board boards place
 has_board_by place [] = refl
 has_board_by place (board ∷ boards) =
     ap₂ (λ (a b : Bool). a || b) (board_swap board place) (has_board_by place boards)
@@ -39,8 +41,10 @@ keys_append number there front back =
     ap (map (key_of number)) (filter-append (λ (place : Option Place). not (has_board there place)) front back)
     ∙ map-append (key_of number) (except (has_board there) front) (except (has_board there) back)
 
-pub left_more : (number : ℕ) (here there : List (Option Place)) (i : ℕ) (place : Option Place) (start so_far now : List BoardKey) → i < length here → place ≡ get_or here i place
-    → so_far ≡ start ++ map (key_of number) (except (has_board there) (take i here)) → now ≡ so_far ++ map (key_of number) (except (has_board there) (place ∷ []))
+pub left_more : (number : ℕ) (here there : List (Option Place)) (i : ℕ) (place : Option Place) (start so_far now : List BoardKey) → i < length here
+    → place ≡ get_or here i place
+    → so_far ≡ start ++ map (key_of number) (except (has_board there) (take i here))
+    → now ≡ so_far ++ map (key_of number) (except (has_board there) (place ∷ []))
     → now ≡ start ++ map (key_of number) (except (has_board there) (take (i + 1) here))
 left_more number here there i place start so_far now within is before e =
     e ∙ ap (λ (keys : List BoardKey). keys ++ map (key_of number) (except (has_board there) (place ∷ []))) before
@@ -54,13 +58,16 @@ places_same [] [] same = refl
 places_same [] (second ∷ other) same = absurd (cc)
 places_same (first ∷ one) [] same = absurd (cc)
 places_same (first ∷ one) (second ∷ other) same =
-    ap₂ (λ (place : Option Place) (places : List (Option Place)). place ∷ places) (board_same first second (and_first _ _ same)) (places_same one other (and_second _ _ same))
+    ap₂ (λ (place : Option Place) (places : List (Option Place)). place ∷ places) (board_same first second (and_first _ _ same)) (places_same one other
+    (and_second _ _ same))
 
 -- the same boards leave nothing
-pub none_left : (number : ℕ) (here there : List (Option Place)) (keys : List BoardKey) → here ≡ there → keys ≡ keys ++ map (key_of number) (except (has_board there) here)
+pub none_left : (number : ℕ) (here there : List (Option Place)) (keys : List BoardKey) → here ≡ there
+    → keys ≡ keys ++ map (key_of number) (except (has_board there) here)
 none_left number here there keys same =
     sym (ap (λ (places : List (Option Place)). keys ++ map (key_of number) (except (has_board there) places)) same
-    ∙ ap (λ (places : List (Option Place)). keys ++ map (key_of number) places) (except_none (has_board there) there (pass_all (has_board there) there (λ place has. has)))
+    ∙ ap (λ (places : List (Option Place)). keys ++ map (key_of number) places) (except_none (has_board there) there (pass_all (has_board there) there
+    (λ place has. has)))
     ∙ append-nil keys)
 
 pub gone_none : (number : ℕ) (before after : List (Option Place)) (keys : List BoardKey) → true ≡ pointwise (option_eq place_eq) before after
@@ -71,7 +78,8 @@ pub new_none : (number : ℕ) (before after : List (Option Place)) (keys : List 
     → keys ≡ keys ++ map (key_of number) (except (has_board before) after)
 new_none number before after keys same = none_left number after before keys (sym (places_same before after (sym same)))
 
-pub left_as : (number : ℕ) (now old : List BoardKey) (here there one other : List (Option Place)) → now ≡ old ++ left number here there → here ≡ one → there ≡ other
+pub left_as : (number : ℕ) (now old : List BoardKey) (here there one other : List (Option Place)) → now ≡ old ++ left number here there → here ≡ one
+    → there ≡ other
     → now ≡ old ++ left number one other
 left_as number now old here there one other e first second = e ∙ ap₂ (λ (a b : List (Option Place)). old ++ left number a b) first second
 
@@ -82,14 +90,17 @@ range_push from zero = ap (λ n. n ∷ []) (omega arith)
 range_push from (suc count) =
     let next : suc count + 1 ≡ suc (count + 1) = omega arith in
     let last : from + 1 + count ≡ from + suc count = omega arith in
-    ap (range_with_len from) next ∙ ap (λ (numbers : List ℕ). from ∷ numbers) (range_push (from + 1) count ∙ ap (λ n. range_with_len (from + 1) count ++ n ∷ []) last)
+    ap (range_with_len from) next ∙ ap (λ (numbers : List ℕ). from ∷ numbers) (range_push (from + 1) count
+    ∙ ap (λ n. range_with_len (from + 1) count ++ n ∷ []) last)
 
-keys_left_more : (number : ℕ) (here there : ℕ → List (Option Place)) → keys_left (number + 1) here there ≡ keys_left number here there ++ left number (here number) (there number)
+keys_left_more : (number : ℕ) (here there : ℕ → List (Option Place))
+    → keys_left (number + 1) here there ≡ keys_left number here there ++ left number (here number) (there number)
 keys_left_more number here there =
     let left_at : ℕ → List BoardKey = λ n. left n (here n) (there n) in
     let from : 0 + number ≡ number = omega arith in
     ap (flat_map left_at) (range_push 0 number ∙ ap (λ n. range_with_len 0 number ++ n ∷ []) from)
-    ∙ flat_map-append left_at (range_with_len 0 number) (number ∷ []) ∙ ap (λ (keys : List BoardKey). keys_left number here there ++ keys) (append-nil (left_at number))
+    ∙ flat_map-append left_at (range_with_len 0 number) (number ∷ [])
+    ∙ ap (λ (keys : List BoardKey). keys_left number here there ++ keys) (append-nil (left_at number))
 
 pub config_more : (number : ℕ) (here there : ℕ → List (Option Place)) (one other : List (Option Place)) (start so_far now : List BoardKey)
     → so_far ≡ start ++ keys_left number here there → now ≡ so_far ++ left number one other → one ≡ here number → other ≡ there number
@@ -117,7 +128,8 @@ left_alike : (from count : ℕ) (here there one other : ℕ → List (Option Pla
     (λ n. left n (one n) (other n)) (range_with_len from count)
 left_alike from zero here there one other same alike = refl
 left_alike from (suc count) here there one other same alike =
-    ap₂ (λ (keys later : List BoardKey). keys ++ later) (ap₂ (λ (a b : List (Option Place)). left from a b) (same from (omega arith)) (alike from (omega arith)))
+    ap₂ (λ (keys later : List BoardKey). keys ++ later) (ap₂ (λ (a b : List (Option Place)). left from a b) (same from (omega arith)) (alike from
+    (omega arith)))
     (left_alike (from + 1) count here there one other (λ n h. same n (omega arith)) (λ n h. alike n (omega arith)))
 
 slice_get_front : {X : Type 0} (xs ys : List X) (n : ℕ) → n < length xs → slice_get (xs ++ ys) n ≡ slice_get xs n
@@ -133,7 +145,8 @@ boards_front : (configs more : List Config) (found reach : ℕ → Bool) (moment
     → boards_at configs found reach moment n ≡ boards_at (configs ++ more) found reach moment n
 unfolding board_places
 boards_front configs more found reach moment n within =
-    ap (λ (each : Option Config). unwrap_or (option_map (config_places found reach (map entry_sight moment.entries) n) each) []) (sym (slice_get_front configs more n within))
+    ap (λ (each : Option Config). unwrap_or (option_map (config_places found reach (map entry_sight moment.entries) n) each) []) (sym
+    (slice_get_front configs more n within))
 
 boards_past : (configs : List Config) (found reach : ℕ → Bool) (moment : Moment) → boards_at configs found reach moment (length configs) ≡ []
 unfolding board_places
@@ -142,17 +155,22 @@ boards_past configs found reach moment =
     (slice_get_past configs (length configs) (omega arith))
 
 module _ (configs : List Config) (found reach found_after reach_after : ℕ → Bool) (before after : Moment) where
-  pub gone_all : (plus : Option Config) (gone : List BoardKey) → gone ≡ keys_left (length configs) (boards_at configs found reach before) (boards_at configs found_after reach_after after)
+  pub gone_all : (plus : Option Config) (gone : List BoardKey)
+      → gone ≡ keys_left (length configs) (boards_at configs found reach before) (boards_at configs found_after reach_after after)
       → gone ≡ keys_left (length configs) (boards_at configs found reach before) (boards_at (configs ++ option_to_list plus) found_after reach_after after)
   gone_all plus gone e =
-      e ∙ left_alike 0 (length configs) (boards_at configs found reach before) (boards_at configs found_after reach_after after) (boards_at configs found reach before)
+      e ∙ left_alike 0 (length configs) (boards_at configs found reach before) (boards_at configs found_after reach_after after)
+      (boards_at configs found reach before)
       (boards_at (configs ++ option_to_list plus) found_after reach_after after) (λ n h. refl)
       (λ n h. boards_front configs (option_to_list plus) found_after reach_after after n (omega arith))
 
-  pub come_all : (plus : Option Config) (mid come : List BoardKey) → mid ≡ keys_left (length configs) (boards_at configs found_after reach_after after) (boards_at configs found reach before)
+  pub come_all : (plus : Option Config) (mid come : List BoardKey)
+      → mid ≡ keys_left (length configs) (boards_at configs found_after reach_after after) (boards_at configs found reach before)
       → come ≡ mid ++ plus_keys found_after reach_after after (length configs) plus
-      → come ≡ keys_left (length (configs ++ option_to_list plus)) (boards_at (configs ++ option_to_list plus) found_after reach_after after) (boards_at configs found reach before)
-  come_all plus mid come e last = last ∙ ap (λ (keys : List BoardKey). keys ++ plus_keys found_after reach_after after (length configs) plus) (e ∙ front) ∙ by plus
+      → come ≡ keys_left (length (configs ++ option_to_list plus)) (boards_at (configs ++ option_to_list plus) found_after reach_after after)
+      (boards_at configs found reach before)
+  come_all plus mid come e last =
+      last ∙ ap (λ (keys : List BoardKey). keys ++ plus_keys found_after reach_after after (length configs) plus) (e ∙ front) ∙ by plus
     where
       all : List Config
       all = configs ++ option_to_list plus
@@ -164,14 +182,18 @@ module _ (configs : List Config) (found reach found_after reach_after : ℕ → 
           (boards_at (configs ++ option_to_list plus) found_after reach_after after) (boards_at configs found reach before)
           (λ n h. boards_front configs (option_to_list plus) found_after reach_after after n (omega arith)) (λ n h. refl)
 
-      by : (plus : Option Config) → keys_left (length configs) (boards_at (configs ++ option_to_list plus) found_after reach_after after) (boards_at configs found reach before) ++ plus_keys
+      by : (plus : Option Config)
+          → keys_left (length configs) (boards_at (configs ++ option_to_list plus) found_after reach_after after)
+          (boards_at configs found reach before) ++ plus_keys
           found_after reach_after after (length configs) plus ≡ keys_left (length (configs ++ option_to_list plus))
           (boards_at (configs ++ option_to_list plus) found_after reach_after after) (boards_at configs found reach before)
       by None =
-          append-nil _ ∙ ap (λ n. keys_left n (boards_at (configs ++ []) found_after reach_after after) (boards_at configs found reach before)) (sym (ap length (append-nil configs)))
+          append-nil _ ∙ ap (λ n. keys_left n (boards_at (configs ++ []) found_after reach_after after) (boards_at configs found reach before)) (sym
+          (ap length (append-nil configs)))
       by (Some config) =
           let long : length configs + 1 ≡ length (configs ++ config ∷ []) = omega (arith, length-append configs (config ∷ [])) in
-          ap₂ (λ (a b : List (Option Place)). keys_left (length configs) (boards_at (configs ++ config ∷ []) found_after reach_after after) (boards_at configs found reach before) ++ left (length configs) a b)
+          ap₂ (λ (a b : List (Option Place)). keys_left (length configs) (boards_at (configs ++ config ∷ []) found_after reach_after after)
+          (boards_at configs found reach before) ++ left (length configs) a b)
           (boards_there (configs ++ config ∷ []) found_after reach_after after (length configs) config (slice_get_last configs config))
           (sym (boards_past configs found reach before))
           ∙ sym (keys_left_more (length configs) (boards_at (configs ++ config ∷ []) found_after reach_after after) (boards_at configs found reach before))

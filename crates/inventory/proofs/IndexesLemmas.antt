@@ -19,13 +19,16 @@ or_none true = refl
 or_none false = refl
 
 -- a board more is kept, which tells nothing of one that it is not
-has_as_before : (kept : List (Option Place)) (place other : Option Place) → option_eq place_eq place other ≡ false → has_board (kept ++ place ∷ []) other ≡ has_board kept other
+has_as_before : (kept : List (Option Place)) (place other : Option Place) → option_eq place_eq place other ≡ false
+    → has_board (kept ++ place ∷ []) other ≡ has_board kept other
 has_as_before kept place other apart =
-    list_any-append (option_eq place_eq other) kept (place ∷ []) ∙ ap (λ (same : Bool). has_board kept other || (same || false)) (board_swap other place ∙ apart)
+    list_any-append (option_eq place_eq other) kept (place ∷ []) ∙ ap (λ (same : Bool). has_board kept other || (same || false)) (board_swap other place
+    ∙ apart)
     ∙ or_none (has_board kept other)
 
 -- the boards that are kept, and behind them those that are new
-pub with_boards_distinct : (kept places : List (Option Place)) → IsDistinct (option_eq place_eq) places → with_boards kept places ≡ kept ++ except (has_board kept) places
+pub with_boards_distinct : (kept places : List (Option Place)) → IsDistinct (option_eq place_eq) places
+    → with_boards kept places ≡ kept ++ except (has_board kept) places
 unfolding IsDistinct
 with_boards_distinct kept [] differ = sym (append-nil kept)
 with_boards_distinct kept (place ∷ places) differ = by (has_board kept place) (λ more. with_boards_distinct more places differ.1)
@@ -39,7 +42,8 @@ with_boards_distinct kept (place ∷ places) differ = by (has_board kept place) 
         (all_weaker _ _ (λ (other : Option Place) apart. ap not (has_as_before kept place other apart)) places differ.0)
 
     by : (has : Bool) → ((more : List (Option Place)) → with_boards more places ≡ more ++ except (has_board more) places)
-        → with_boards (cond has kept (kept ++ place ∷ [])) places ≡ kept ++ cond (not has) (place ∷ except (has_board kept) places) (except (has_board kept) places)
+        → with_boards (cond has kept (kept ++ place ∷ [])) places ≡
+        kept ++ cond (not has) (place ∷ except (has_board kept) places) (except (has_board kept) places)
     by true rest = rest kept
     by false rest =
         rest (kept ++ place ∷ []) ∙ ap (λ (later : List (Option Place)). (kept ++ place ∷ []) ++ later) alike
@@ -57,7 +61,8 @@ position_front (board ∷ front) back place has = by (option_eq place_eq place b
   where
     by : (same : Bool) → (same || has_board front place) ≡ true
         → (has_board front place ≡ true → position_or_len (option_eq place_eq place) (front ++ back) ≡ position_or_len (option_eq place_eq place) front)
-        → cond (not same) (1 + position_or_len (option_eq place_eq place) (front ++ back)) 0 ≡ cond (not same) (1 + position_or_len (option_eq place_eq place) front) 0
+        → cond (not same) (1 + position_or_len (option_eq place_eq place) (front ++ back)) 0 ≡
+        cond (not same) (1 + position_or_len (option_eq place_eq place) front) 0
     by true has rest = refl
     by false has rest = ap (λ n. 1 + n) (rest has)
 
@@ -66,7 +71,8 @@ index_front front back place has =
     ap₂ (λ (is : Bool) (n : ℕ). cond is (Some (n + 1)) None) (has_front front back place has ∙ sym has) (position_front front back place has)
 
 -- a board that is kept has its index for good
-pub index_stays : (kept places : List (Option Place)) (place : Option Place) → has_board kept place ≡ true → index_of (with_boards kept places) place ≡ index_of kept place
+pub index_stays : (kept places : List (Option Place)) (place : Option Place) → has_board kept place ≡ true
+    → index_of (with_boards kept places) place ≡ index_of kept place
 index_stays kept [] place has = refl
 index_stays kept (board ∷ places) place has = by (has_board kept board) (λ more is. index_stays more places place is)
   where

@@ -26,7 +26,8 @@ count_places number keys = length-map (filter (λ (key : BoardKey). nat_eq key.c
 places_append : (number : ℕ) (front back : List BoardKey) → places_of number (front ++ back) ≡ places_of number front ++ places_of number back
 places_append number front back =
     ap (map (λ (key : BoardKey). key.place)) (filter-append (λ (key : BoardKey). nat_eq key.config number) front back)
-    ∙ map-append (λ (key : BoardKey). key.place) (filter (λ (key : BoardKey). nat_eq key.config number) front) (filter (λ (key : BoardKey). nat_eq key.config number) back)
+    ∙ map-append (λ (key : BoardKey). key.place) (filter (λ (key : BoardKey). nat_eq key.config number) front) (filter (λ
+    (key : BoardKey). nat_eq key.config number) back)
 
 places_one : (number : ℕ) (key : BoardKey) → places_of number (key ∷ []) ≡ cond (nat_eq key.config number) (key.place ∷ []) []
 places_one number key = by (nat_eq key.config number)
@@ -38,13 +39,15 @@ places_one number key = by (nat_eq key.config number)
 pub places_more : (number : ℕ) (keys : List BoardKey) (i : ℕ) (key : BoardKey) → i < length keys → key ≡ get_or keys i key
     → places_of number (take (i + 1) keys) ≡ places_of number (take i keys) ++ cond (nat_eq key.config number) (key.place ∷ []) []
 places_more number keys i key within is =
-    ap (places_of number) (take_more keys i key within ∙ ap (λ (last : BoardKey). take i keys ++ last ∷ []) (sym is)) ∙ places_append number (take i keys) (key ∷ [])
+    ap (places_of number) (take_more keys i key within ∙ ap (λ (last : BoardKey). take i keys ++ last ∷ []) (sym is))
+    ∙ places_append number (take i keys) (key ∷ [])
     ∙ ap (λ (l : List (Option Place)). places_of number (take i keys) ++ l) (places_one number key)
 
 -- the first keys have at most as many places as all
 places_most : (number i : ℕ) (keys : List BoardKey) → length (places_of number (take i keys)) ≤ length (places_of number keys)
 places_most number i keys =
-    let all : places_of number keys ≡ places_of number (take i keys) ++ places_of number (drop i keys) = ap (places_of number) (sym (take-append-drop i keys)) ∙ places_append number (take i keys) (drop i keys) in
+    let all : places_of number keys ≡ places_of number (take i keys) ++ places_of number (drop i keys) = ap (places_of number) (sym
+    (take-append-drop i keys)) ∙ places_append number (take i keys) (drop i keys) in
     omega (arith, ap length all, length-append (places_of number (take i keys)) (places_of number (drop i keys)))
 
 pub max_first : (a b m : ℕ) → m ≡ ord_max nat_cmp a b → a ≤ m
@@ -54,10 +57,12 @@ pub max_second : (a b m : ℕ) → m ≡ ord_max nat_cmp a b → b ≤ m
 max_second a b m is = grind (arith, is)
 
 -- a key more has a list
-pub listed_more : (keys : List BoardKey) (i count new : ℕ) (key : BoardKey) → i < length keys → AreListed (take i keys) count → count ≤ new → key ≡ get_or keys i key
+pub listed_more : (keys : List BoardKey) (i count new : ℕ) (key : BoardKey) → i < length keys → AreListed (take i keys) count → count ≤ new
+    → key ≡ get_or keys i key
     → key.config < new → AreListed (take (i + 1) keys) new
 listed_more keys i count new key within so_far more is now =
-    All-more (λ (each : BoardKey). each.config < new) keys i key within (λ k d h. let was : (get_or (take i keys) k d).config < count = so_far k d h in omega arith)
+    All-more (λ (each : BoardKey). each.config < new) keys i key within (λ k d h. let was : (get_or
+    (take i keys) k d).config < count = so_far k d h in omega arith)
     (let config : key.config ≡ (get_or keys i key).config = ap (λ (each : BoardKey). each.config) is in omega arith)
 
 -- ---- lists that grow
@@ -136,7 +141,8 @@ module _ {S : Type 0} (lists : List (IndexSet (Option Place) S)) (number : ℕ) 
       (sym (get_or-map (λ (list : IndexSet (Option Place) S). list.keys) lists number old [] within)))
 
   -- and takes at most one board's room
-  pub room_set : spare (get_or lists number old) ≤ spare new + 1 → (each : ℕ) → room_of lists each ≤ room_of (slice_set lists number new) each + (if each == number then 1 else 0)
+  pub room_set : spare (get_or lists number old) ≤ spare new + 1 → (each : ℕ)
+      → room_of lists each ≤ room_of (slice_set lists number new) each + (if each == number then 1 else 0)
   room_set one each = by (each == number) refl
     where
       by : (b : Bool) → (each == number) ≡ b → room_of lists each ≤ room_of (slice_set lists number new) each + cond b 1 0
@@ -169,11 +175,13 @@ module _ (keys : List BoardKey) (i : ℕ) (key : BoardKey) (within : i < length 
       count_more key.config ∙ ap (λ (b : Bool). length (places_of key.config (take i keys)) + cond b 1 0) (eq-eqb key.config key.config refl) in
       omega (arith, enough, more, places_most key.config (i + 1) keys)
 
-  pub room_more : (number room new : ℕ) → length (places_of number keys) ≤ room + length (places_of number (take i keys)) → room ≤ new + (if number == key.config then 1 else 0)
+  pub room_more : (number room new : ℕ) → length (places_of number keys) ≤ room + length (places_of number (take i keys))
+      → room ≤ new + (if number == key.config then 1 else 0)
       → length (places_of number keys) ≤ new + length (places_of number (take (i + 1) keys))
   room_more number room new enough left = by (number == key.config) refl left
     where
-      by : (b : Bool) → (number == key.config) ≡ b → room ≤ new + cond b 1 0 → length (places_of number keys) ≤ new + length (places_of number (take (i + 1) keys))
+      by : (b : Bool) → (number == key.config) ≡ b → room ≤ new + cond b 1 0
+          → length (places_of number keys) ≤ new + length (places_of number (take (i + 1) keys))
       by true same left =
           let here : nat_eq key.config number ≡ true = eq-eqb key.config number (sym (eqb-true number key.config same)) in
           omega (arith, enough, left, count_more number ∙ ap (λ (b : Bool). length (places_of number (take i keys)) + cond b 1 0) here)
@@ -188,7 +196,8 @@ module _ (keys : List BoardKey) (i : ℕ) (key : BoardKey) (within : i < length 
       ∙ sym (ap (with_boards (kept_of old number)) (places_more number keys i key within is)
       ∙ with_boards_append (kept_of old number) (places_of number (take i keys)) (cond (nat_eq key.config number) (key.place ∷ []) []))
     where
-      by : (b : Bool) → nat_eq key.config number ≡ b → kept_of (slice_set lists key.config (with_board (kept_of lists key.config) key.place)) number ≡ with_boards
+      by : (b : Bool) → nat_eq key.config number ≡ b
+          → kept_of (slice_set lists key.config (with_board (kept_of lists key.config) key.place)) number ≡ with_boards
           (with_boards (kept_of old number) (places_of number (take i keys))) (cond b (key.place ∷ []) [])
       by true same =
           let here : key.config ≡ number = eqb-true key.config number same in
@@ -201,7 +210,8 @@ module _ (keys : List BoardKey) (i : ℕ) (key : BoardKey) (within : i < length 
 
 -- ---- no list has more boards than indexes
 
-pub few_now : {S T : Type 0} (keys : List BoardKey) (ready : List (IndexSet (Option Place) S)) (new : List (IndexSet (Option Place) T)) (number : ℕ) → length new ≡ length ready
+pub few_now : {S T : Type 0} (keys : List BoardKey) (ready : List (IndexSet (Option Place) S)) (new : List (IndexSet (Option Place) T)) (number : ℕ)
+    → length new ≡ length ready
     → (number < length ready → IsReady keys ready number) → kept_of (keys_of new) number ≡ with_boards (kept_of (keys_of ready) number) (places_of number keys)
     → length (kept_of (keys_of new) number) ≤ most_boards
 few_now {S} {T} keys ready new number many each now = by (nat_lt number (length ready)) refl

@@ -1,14 +1,17 @@
 -- Entries with one more among them, and without one.
-use Rattle.std.proofs.Common.{◌≡◌, ℕ, suc, ◌+◌, ◌-◌, ◌<◌, ◌≤◌, List, [], ◌∷◌, ◌++◌, Bool, true, false, not, cond, ◌&&◌, Option, Some, None, length, take, drop, filter, map, get_or, position}
-use Rattle.std.proofs.Common.{refl, sym, ap, ap₂, ◌∙◌, arith, length-drop, append_assoc}
-use Rattle.std.specs.Prelude.{nat_lt}
+use Rattle.std.proofs.Common.{◌≡◌, ℕ, zero, suc, ◌+◌, ◌-◌, ◌<◌, ◌≤◌, List, [], ◌∷◌, ◌++◌, Bool, true, false, not, cond, ◌&&◌, Option, Some, None, length}
+use Rattle.std.proofs.Common.{take, drop, filter, map, get_or, position}
+use Rattle.std.proofs.Common.{refl, sym, ap, ap₂, ◌∙◌, arith, length-drop, append_assoc, subst, inl, inr}
+use Rattle.std.specs.Prelude.{nat_lt, slice_get}
+use mathlib.Core.Bool.{beq}
+use Rattle.found_set.specs.Marks.{AreMarked, is_marked}
 use Rattle.std.specs.Option.{unwrap_or}
 use Rattle.std.specs.Ordering.{is_lt, is_eq}
 use Rattle.std.specs.declared.cmp.Ordering.{Ordering}
 use Rattle.std.specs.declared.cmp.Ordering.TheVariants.{Less, Equal, Greater}
 use Rattle.std.specs.List.{list_all, position_or_len, AllByRecursion}
 use Rattle.std.proofs.lemmas.Bool.Decides.{nat_tests}
-use Rattle.std.proofs.lemmas.List.{take_all, append-nil, map-append, take_more}
+use Rattle.std.proofs.lemmas.List.{take_all, take-append-drop, append-nil, map-append, take_more}
 use Rattle.std.proofs.lemmas.List.Elements.{filter-append}
 use Rattle.std.proofs.lemmas.List.Sums.{prefix_len-le-length}
 use Rattle.bmc_base.specs.Places.{Place, place_cmp}
@@ -17,9 +20,9 @@ use Rattle.probe_lang.specs.Sights.{Sight, entry_sight, has_config}
 use Rattle.found_set.specs.Found.{on_buses}
 use Rattle.probe_lang.specs.Presents.{is_entry_at, are_by_place, with_entry, without_entry}
 use Rattle.inventory.specs.Boards.{hit_places}
-use Rattle.inventory.specs.Moments.{is_behind, hits_in}
+use Rattle.inventory.specs.Moments.{is_behind, hits_in, AreSeenAlike, IsAmong, IsApartBy}
 use Rattle.inventory.proofs.BoardLemmas.{and_first, and_second, place_cmp_eq, place_same}
-use Rattle.inventory.proofs.ListLemmas.{filter_all}
+use Rattle.inventory.proofs.ListLemmas.{all_append, all_map, filter_all, filter_alike}
 
 -- ---- positions
 
@@ -44,7 +47,8 @@ position_none test xs e = sym (position_is test xs) ∙ ap (λ (o : Option ℕ).
 -- ---- with one more
 
 put_in : (entry : Entry) (entries : List Entry)
-    → take (position_or_len (is_behind entry.place) entries) entries ++ entry ∷ drop (position_or_len (is_behind entry.place) entries) entries ≡ with_entry entry entries
+    → take (position_or_len (is_behind entry.place) entries) entries ++ entry ∷ drop (position_or_len (is_behind entry.place) entries) entries ≡
+    with_entry entry entries
 put_in entry [] = refl
 put_in entry (other ∷ entries) = by (is_behind entry.place other) (put_in entry entries)
   where
@@ -52,22 +56,26 @@ put_in entry (other ∷ entries) = by (is_behind entry.place other) (put_in entr
     at = position_or_len (is_behind entry.place) entries
 
     by : (b : Bool) → take at entries ++ entry ∷ drop at entries ≡ with_entry entry entries
-        → take (cond (not b) (1 + at) 0) (other ∷ entries) ++ entry ∷ drop (cond (not b) (1 + at) 0) (other ∷ entries) ≡ cond b (entry ∷ other ∷ entries) (other ∷ with_entry entry entries)
+        → take (cond (not b) (1 + at) 0) (other ∷ entries) ++ entry ∷ drop (cond (not b) (1 + at) 0) (other ∷ entries) ≡
+        cond b (entry ∷ other ∷ entries) (other ∷ with_entry entry entries)
     by true rest = refl
     by false rest =
         let next : 1 + at ≡ suc at = omega arith in
         ap (λ (n : ℕ). take n (other ∷ entries) ++ entry ∷ drop n (other ∷ entries)) next ∙ ap (λ (l : List Entry). other ∷ l) rest
 
-pub with_within : (entry : Entry) (entries : List Entry) (found : Option ℕ) (at : ℕ) → found ≡ position (is_behind entry.place) entries → at ≡ unwrap_or found (length entries)
+pub with_within : (entry : Entry) (entries : List Entry) (found : Option ℕ) (at : ℕ) → found ≡ position (is_behind entry.place) entries
+    → at ≡ unwrap_or found (length entries)
     → at ≤ length entries
 with_within entry entries found at e is =
-    let there : at ≡ position_or_len (is_behind entry.place) entries = is ∙ ap (λ (o : Option ℕ). unwrap_or o (length entries)) e ∙ position_is (is_behind entry.place) entries in
+    let there : at ≡ position_or_len (is_behind entry.place) entries = is ∙ ap (λ (o : Option ℕ). unwrap_or o (length entries)) e
+    ∙ position_is (is_behind entry.place) entries in
     omega (arith, there, position_within (is_behind entry.place) entries)
 
 pub with_parts : (entry : Entry) (entries : List Entry) (found : Option ℕ) (at : ℕ) (front back : List Entry) → found ≡ position (is_behind entry.place) entries
     → at ≡ unwrap_or found (length entries) → front ≡ take at entries → back ≡ drop at entries → front ++ entry ∷ [] ++ back ≡ with_entry entry entries
 with_parts entry entries found at front back e is fore aft =
-    let there : at ≡ position_or_len (is_behind entry.place) entries = is ∙ ap (λ (o : Option ℕ). unwrap_or o (length entries)) e ∙ position_is (is_behind entry.place) entries in
+    let there : at ≡ position_or_len (is_behind entry.place) entries = is ∙ ap (λ (o : Option ℕ). unwrap_or o (length entries)) e
+    ∙ position_is (is_behind entry.place) entries in
     append_assoc front (entry ∷ []) back
     ∙ ap₂ (λ (one other : List Entry). one ++ entry ∷ other) (fore ∙ ap (λ (n : ℕ). take n entries) there) (aft ∙ ap (λ (n : ℕ). drop n entries) there)
     ∙ put_in entry entries
@@ -81,14 +89,19 @@ less_differs Greater less = refl
 
 -- an entry stands at a place, so those behind it do not
 none_later : (place : Place) (entry : Entry) (entries : List Entry) → is_entry_at place entry ≡ true
-    → list_all (λ (later : Entry). is_lt (place_cmp entry.place later.place)) entries ≡ true → AllByRecursion (λ (later : Entry). not (is_entry_at place later) ≡ true) entries
+    → list_all (λ (later : Entry). is_lt (place_cmp entry.place later.place)) entries ≡ true
+    → AllByRecursion (λ (later : Entry). not (is_entry_at place later) ≡ true) entries
 none_later place entry [] at ordered = tt
 none_later place entry (later ∷ entries) at ordered =
-    let same : place ≡ entry.place = place_same place entry.place (sym (place_cmp_eq place entry.place) ∙ at) in
-    (ap not (ap (λ (it : Place). is_eq (place_cmp it later.place)) same ∙ less_differs _ (and_first _ _ ordered)), none_later place entry entries at (and_second _ _ ordered))
+    let same : place ≡ entry.place = place_same place entry.place (sym (place_cmp_eq place entry.place) ∙ at) in (
+      ap not (ap (λ (it : Place). is_eq (place_cmp it later.place)) same
+          ∙ less_differs _ (and_first _ _ ordered)),
+      none_later place entry entries at (and_second _ _ ordered),
+    )
 
 take_out : (place : Place) (entries : List Entry) → are_by_place entries ≡ true
-    → take (position_or_len (is_entry_at place) entries) entries ++ drop (suc (position_or_len (is_entry_at place) entries)) entries ≡ without_entry place entries
+    → take (position_or_len (is_entry_at place) entries) entries ++ drop (suc (position_or_len (is_entry_at place) entries)) entries ≡
+    without_entry place entries
 take_out place [] ordered = refl
 take_out place (other ∷ entries) ordered = by (is_entry_at place other) refl (take_out place entries (and_second _ _ ordered))
   where
@@ -96,7 +109,8 @@ take_out place (other ∷ entries) ordered = by (is_entry_at place other) refl (
     at = position_or_len (is_entry_at place) entries
 
     by : (b : Bool) → is_entry_at place other ≡ b → take at entries ++ drop (suc at) entries ≡ without_entry place entries
-        → take (cond (not b) (1 + at) 0) (other ∷ entries) ++ drop (suc (cond (not b) (1 + at) 0)) (other ∷ entries) ≡ cond (not b) (other ∷ without_entry place entries) (without_entry place entries)
+        → take (cond (not b) (1 + at) 0) (other ∷ entries) ++ drop (suc (cond (not b) (1 + at) 0)) (other ∷ entries) ≡
+        cond (not b) (other ∷ without_entry place entries) (without_entry place entries)
     by true is rest = sym (filter_all (λ (entry : Entry). not (is_entry_at place entry)) entries (none_later place other entries is (and_first _ _ ordered)))
     by false is rest =
         let next : 1 + at ≡ suc at = omega arith in
@@ -112,7 +126,8 @@ without_parts place entries at ordered e =
     (take_all (length entries - (at + 1)) (drop (at + 1) entries) all ∙ ap (λ (n : ℕ). drop n entries) next)
     ∙ take_out place entries ordered
 
-pub without_none : (place : Place) (entries : List Entry) → are_by_place entries ≡ true → position (is_entry_at place) entries ≡ None → entries ≡ without_entry place entries
+pub without_none : (place : Place) (entries : List Entry) → are_by_place entries ≡ true → position (is_entry_at place) entries ≡ None
+    → entries ≡ without_entry place entries
 without_none place entries ordered e =
     let there : position_or_len (is_entry_at place) entries ≡ length entries = position_none (is_entry_at place) entries e in
     sym (ap (λ (n : ℕ). take n entries ++ drop (suc n) entries) there ∙ whole entries) ∙ take_out place entries ordered
@@ -123,15 +138,21 @@ without_none place entries ordered e =
 
 -- ---- the places of hits
 
-pub hits_append : (reach : ℕ → Bool) (number : ℕ) (front back : List Entry) → hits_in reach (front ++ back) number ≡ hits_in reach front number ++ hits_in reach back number
-hits_append reach number front back =
-    ap (λ (sights : List Sight). map Some (hit_places reach sights number)) (map-append entry_sight front back)
-    ∙ ap (λ (sights : List Sight). map Some (map (λ (sight : Sight). sight.place) (filter (λ (sight : Sight). sight.hit number) sights)))
+places_append : (reach : ℕ → Bool) (number : ℕ) (front back : List Entry) → hit_places reach (map entry_sight (front ++ back)) number ≡ hit_places reach
+    (map entry_sight front) number ++ hit_places reach (map entry_sight back) number
+places_append reach number front back =
+    ap (λ (sights : List Sight). hit_places reach sights number) (map-append entry_sight front back)
+    ∙ ap (λ (sights : List Sight). map (λ (sight : Sight). sight.place) (filter (λ (sight : Sight). sight.hit number) sights))
     (filter-append (λ (sight : Sight). reach sight.place.bus) (map entry_sight front) (map entry_sight back))
-    ∙ ap (λ (sights : List Sight). map Some (map (λ (sight : Sight). sight.place) sights))
+    ∙ ap (map (λ (sight : Sight). sight.place))
     (filter-append (λ (sight : Sight). sight.hit number) (on_buses reach (map entry_sight front)) (on_buses reach (map entry_sight back)))
-    ∙ ap (map Some) (map-append (λ (sight : Sight). sight.place) (filter (λ (sight : Sight). sight.hit number) (on_buses reach (map entry_sight front)))
-    (filter (λ (sight : Sight). sight.hit number) (on_buses reach (map entry_sight back))))
+    ∙ map-append (λ (sight : Sight). sight.place) (filter (λ (sight : Sight). sight.hit number) (on_buses reach (map entry_sight front)))
+    (filter (λ (sight : Sight). sight.hit number) (on_buses reach (map entry_sight back)))
+
+pub hits_append : (reach : ℕ → Bool) (number : ℕ) (front back : List Entry)
+    → hits_in reach (front ++ back) number ≡ hits_in reach front number ++ hits_in reach back number
+hits_append reach number front back =
+    ap (map Some) (places_append reach number front back)
     ∙ map-append Some (hit_places reach (map entry_sight front) number) (hit_places reach (map entry_sight back) number)
 
 pub hit_one : (reach : ℕ → Bool) (number : ℕ) (entry : Entry)
@@ -154,14 +175,153 @@ hits_more reach number entries i entry start so_far now within is before e =
     e ∙ ap (λ (places : List (Option Place)). places ++ hits_in reach (entry ∷ []) number) before
     ∙ append_assoc start (hits_in reach (take i entries) number) (hits_in reach (entry ∷ []) number)
     ∙ ap (λ (places : List (Option Place)). start ++ places) (sym (hits_append reach number (take i entries) (entry ∷ [])))
-    ∙ ap (λ (them : List Entry). start ++ hits_in reach them number) (ap (λ (last : Entry). take i entries ++ last ∷ []) is ∙ sym (take_more entries i entry within))
+    ∙ ap (λ (them : List Entry). start ++ hits_in reach them number) (ap (λ (last : Entry). take i entries ++ last ∷ []) is
+    ∙ sym (take_more entries i entry within))
 
 -- in three parts
-pub hits_parts : (reach : ℕ → Bool) (number : ℕ) (front middle back : List Entry) (start one two three : List (Option Place)) → one ≡ start ++ hits_in reach front number
+pub hits_parts : (reach : ℕ → Bool) (number : ℕ) (front middle back : List Entry) (start one two three : List (Option Place))
+    → one ≡ start ++ hits_in reach front number
     → two ≡ one ++ hits_in reach middle number → three ≡ two ++ hits_in reach back number → three ≡ start ++ hits_in reach (front ++ middle ++ back) number
 hits_parts reach number front middle back start one two three first second third =
-    third ∙ ap (λ (places : List (Option Place)). places ++ hits_in reach back number) (second ∙ ap (λ (places : List (Option Place)). places ++ hits_in reach middle number) first)
+    third ∙ ap (λ (places : List (Option Place)). places ++ hits_in reach back number) (second
+    ∙ ap (λ (places : List (Option Place)). places ++ hits_in reach middle number) first)
     ∙ ap (λ (places : List (Option Place)). places ++ hits_in reach back number) (append_assoc start (hits_in reach front number) (hits_in reach middle number))
     ∙ append_assoc start (hits_in reach front number ++ hits_in reach middle number) (hits_in reach back number)
     ∙ ap (λ (places : List (Option Place)). start ++ places) (sym (hits_append reach number (front ++ middle) back
     ∙ ap (λ (places : List (Option Place)). places ++ hits_in reach back number) (hits_append reach number front middle)))
+
+-- ---- one entry comes or goes
+
+same_answer : (one other : Bool) → not (beq one other) ≡ false → one ≡ other
+same_answer true true same = refl
+same_answer true false same = absurd (cc)
+same_answer false true same = absurd (cc)
+same_answer false false same = refl
+
+pub alike_bus : (reach reach_after : ℕ → Bool) (marks marks_after : List Bool) (bus at : ℕ) (one other : Bool) → AreMarked marks reach
+    → AreMarked marks_after reach_after
+    → bus < 256 → bus ≡ at → one ≡ is_marked marks bus → other ≡ is_marked marks_after bus → not (beq one other) ≡ false → reach at ≡ reach_after at
+alike_bus reach reach_after marks marks_after bus at one other marked marked_after small is e f same =
+    subst (λ n. reach n ≡ reach_after n) is (sym (marked bus small) ∙ sym e ∙ same_answer one other same ∙ f ∙ marked_after bus small)
+
+pub alike_more : (reach reach_after : ℕ → Bool) (entries : List Entry) (i : ℕ) (entry : Entry) → i < length entries → entry ≡ get_or entries i entry
+    → AreSeenAlike reach reach_after (take i entries) → reach entry.place.bus ≡ reach_after entry.place.bus
+    → AreSeenAlike reach reach_after (take (i + 1) entries)
+alike_more reach reach_after entries i entry within is before now =
+    subst (AreSeenAlike reach reach_after) (ap (λ (last : Entry). take i entries ++ last ∷ []) is ∙ sym (take_more entries i entry within))
+    (all_append (λ (each : Entry). reach each.place.bus ≡ reach_after each.place.bus) (take i entries) (entry ∷ []) before (now, tt))
+
+pub alike_parts : (reach reach_after : ℕ → Bool) (front middle back : List Entry) → AreSeenAlike reach reach_after front → AreSeenAlike reach reach_after middle
+    → AreSeenAlike reach reach_after back → AreSeenAlike reach reach_after (front ++ middle ++ back)
+alike_parts reach reach_after front middle back one two three =
+    all_append (λ (each : Entry). reach each.place.bus ≡ reach_after each.place.bus) (front ++ middle) back
+    (all_append (λ (each : Entry). reach each.place.bus ≡ reach_after each.place.bus) front middle one two) three
+
+alike_places : (reach reach_after : ℕ → Bool) (number : ℕ) (entries : List Entry) → AreSeenAlike reach reach_after entries
+    → hit_places reach (map entry_sight entries) number ≡ hit_places reach_after (map entry_sight entries) number
+alike_places reach reach_after number entries alike =
+    ap (λ (sights : List Sight). map (λ (sight : Sight). sight.place) (filter (λ (sight : Sight). sight.hit number) sights))
+    (filter_alike (λ (sight : Sight). reach sight.place.bus) (λ (sight : Sight). reach_after sight.place.bus) (map entry_sight entries)
+    (all_map (λ (sight : Sight). reach sight.place.bus ≡ reach_after sight.place.bus) entry_sight entries alike))
+
+no_hit : (reach : ℕ → Bool) (number : ℕ) (entry : Entry) (entries : List Entry) → has_config entry.hits number ≡ false
+    → hit_places reach (map entry_sight (entry ∷ entries)) number ≡ hit_places reach (map entry_sight entries) number
+no_hit reach number entry entries none = by (reach entry.place.bus)
+  where
+    rest : List Sight
+    rest = on_buses reach (map entry_sight entries)
+
+    by : (b : Bool) → map (λ (sight : Sight). sight.place) (filter (λ (sight : Sight). sight.hit number) (cond b (entry_sight entry ∷ rest) rest))
+        ≡ map (λ (sight : Sight). sight.place) (filter (λ (sight : Sight). sight.hit number) rest)
+    by true =
+        ap (λ (is : Bool). map (λ (sight : Sight). sight.place) (cond is (entry_sight entry ∷ filter (λ (sight : Sight). sight.hit number) rest)
+        (filter (λ (sight : Sight). sight.hit number) rest))) none
+    by false = refl
+
+among_places : (reach : ℕ → Bool) (number : ℕ) (entry : Entry) (others entries : List Entry) → IsAmong entry others entries
+    → has_config entry.hits number ≡ false
+    → hit_places reach (map entry_sight others) number ≡ hit_places reach (map entry_sight entries) number
+among_places reach number entry others entries among none =
+    ap (λ (them : List Entry). hit_places reach (map entry_sight them) number) among.without ∙ places_append reach number among.front among.back
+    ∙ ap (λ (places : List Place). hit_places reach (map entry_sight among.front) number ++ places) (sym (no_hit reach number entry among.back none))
+    ∙ sym (places_append reach number among.front (entry ∷ among.back))
+    ∙ ap (λ (them : List Entry). hit_places reach (map entry_sight them) number) (sym among.with)
+
+pub hits_stay : (reach reach_after : ℕ → Bool) (number : ℕ) (entry : Entry) (before after : List Entry) → IsApartBy entry before after
+    → AreSeenAlike reach reach_after before → has_config entry.hits number ≡ false
+    → hit_places reach (map entry_sight before) number ≡ hit_places reach_after (map entry_sight after) number
+hits_stay reach reach_after number entry before after apart alike none =
+    alike_places reach reach_after number before alike ∙ elim apart [
+      | inl comes ↦ among_places reach_after number entry before after comes none
+      | inr goes ↦ sym (among_places reach_after number entry after before goes none)
+    ]
+
+-- an entry that is put in comes alone
+pub with_among : (entry : Entry) (entries : List Entry) → IsAmong entry entries (with_entry entry entries)
+with_among entry entries = record {
+  front = take (position_or_len (is_behind entry.place) entries) entries;
+  back = drop (position_or_len (is_behind entry.place) entries) entries;
+  without = sym (take-append-drop (position_or_len (is_behind entry.place) entries) entries);
+  with = sym (put_in entry entries);
+}
+
+before_it : (place : Place) (other entry : Entry) → is_lt (place_cmp other.place entry.place) ≡ true → is_entry_at place entry ≡ true
+    → is_entry_at place other ≡ false
+before_it place other entry less at = by (is_entry_at place other) refl
+  where
+    by : (b : Bool) → is_entry_at place other ≡ b → b ≡ false
+    by false is = refl
+    by true is =
+        let here : place ≡ entry.place = place_same place entry.place (sym (place_cmp_eq place entry.place) ∙ at) in
+        let there : place ≡ other.place = place_same place other.place (sym (place_cmp_eq place other.place) ∙ is) in
+        let equal : is_eq (place_cmp other.place entry.place) ≡ true = ap (λ (it : Place). is_eq (place_cmp it entry.place)) (sym there) ∙ at in
+        let differs : is_eq (place_cmp other.place entry.place) ≡ false = less_differs _ less in
+        absurd (cc)
+
+later_at : (test : Entry → Bool) (entries : List Entry) (at : ℕ) (entry : Entry) → list_all test entries ≡ true → slice_get entries at ≡ Some entry
+    → test entry ≡ true
+later_at test [] at entry all is = absurd (cc)
+later_at test (first ∷ entries) zero entry all is = let same : first ≡ entry = cc in ap test (sym same) ∙ and_first _ _ all
+later_at test (first ∷ entries) (suc at) entry all is = later_at test entries at entry (and_second _ _ all) is
+
+-- an entry that is taken out goes alone
+pub without_among : (place : Place) (entries : List Entry) (at : ℕ) (entry : Entry) → are_by_place entries ≡ true → slice_get entries at ≡ Some entry
+    → is_entry_at place entry ≡ true → IsAmong entry (without_entry place entries) entries
+without_among place [] at entry ordered is here = absurd (cc)
+without_among place (first ∷ entries) zero entry ordered is here =
+    let same : first ≡ entry = cc in
+    let stands : is_entry_at place first ≡ true = ap (is_entry_at place) same ∙ here in
+    record {
+      front = [];
+      back = entries;
+      without = ap (λ (b : Bool). cond (not b) (first ∷ without_entry place entries) (without_entry place entries)) stands
+          ∙ filter_all (λ (each : Entry). not (is_entry_at place each)) entries (none_later place first entries stands (and_first _ _ ordered));
+      with = ap (λ (each : Entry). each ∷ entries) same;
+    }
+without_among place (first ∷ entries) (suc at) entry ordered is here =
+    let rest = without_among place entries at entry (and_second _ _ ordered) is here in
+    let less : is_lt (place_cmp first.place entry.place) ≡ true =
+    later_at (λ (later : Entry). is_lt (place_cmp first.place later.place)) entries at entry (and_first _ _ ordered) is in
+    record {
+      front = first ∷ rest.front;
+      back = rest.back;
+      without = ap (λ (b : Bool). cond (not b) (first ∷ without_entry place entries) (without_entry place entries)) (before_it place first entry less here)
+          ∙ ap (λ (them : List Entry). first ∷ them) rest.without;
+      with = ap (λ (them : List Entry). first ∷ them) rest.with;
+    }
+
+entry_at : (place : Place) (entries : List Entry) (entry : Entry) → find (is_entry_at place) entries ≡ Some entry
+    → (at : ℕ) × (slice_get entries at ≡ Some entry) × (is_entry_at place entry ≡ true)
+entry_at place [] entry found = absurd (cc)
+entry_at place (first ∷ entries) entry found = by (is_entry_at place first) refl found
+  where
+    by : (here : Bool) → is_entry_at place first ≡ here → cond here (Some first) (find (is_entry_at place) entries) ≡ Some entry
+        → (at : ℕ) × (slice_get (first ∷ entries) at ≡ Some entry) × (is_entry_at place entry ≡ true)
+    by true is same = let first_is : first ≡ entry = cc in (0, same, sym (ap (is_entry_at place) first_is) ∙ is)
+    by false is later = let rest = entry_at place entries entry later in (suc rest.0, rest.1, rest.2)
+
+-- the entry that is found at a place is apart from the others
+pub found_apart : (place : Place) (entries : List Entry) (entry : Entry) → are_by_place entries ≡ true → find (is_entry_at place) entries ≡ Some entry
+    → IsAmong entry (without_entry place entries) entries
+found_apart place entries entry ordered found =
+    let at = entry_at place entries entry found in without_among place entries at.0 entry ordered at.1 at.2

@@ -15,9 +15,11 @@ KeepsNew = (kept places : List (Option Place)) → IsDistinct (option_eq place_e
 
 -- a board that is kept has its index for good
 abbrev pub IndexStays : Type 0
-IndexStays = (kept places : List (Option Place)) (place : Option Place) → has_board kept place ≡ true → index_of (with_boards kept places) place ≡ index_of kept place
+IndexStays =
+    (kept places : List (Option Place)) (place : Option Place) → has_board kept place ≡ true → index_of (with_boards kept places) place ≡ index_of kept place
 
 -- where FRUs are seen by place, the boards of each configuration ascend by place
 abbrev pub BoardsAscend : Type 0
 BoardsAscend = (configs : List Config) (found reach : ℕ → Bool) (sights : List Sight) (number : ℕ)
-    → IsStrictlySortedBy place_cmp (map (λ (sight : Sight). sight.place) sights) → IsStrictlySortedBy (option_cmp place_cmp) (board_places configs found reach sights number)
+    → IsStrictlySortedBy place_cmp (map (λ (sight : Sight). sight.place) sights)
+    → IsStrictlySortedBy (option_cmp place_cmp) (board_places configs found reach sights number)

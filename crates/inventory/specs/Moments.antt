@@ -1,9 +1,11 @@
 -- The entries of a moment, and the boards of one configuration.
-use Rattle.std.specs.Prelude.{ℕ, Bool, if◌then◌else◌, List, [], map, Option, Some, None}
+use Rattle.std.specs.Prelude.{ℕ, ◌≡◌, Bool, false, ⊤, ◌⊎◌, if◌then◌else◌, List, [], ◌∷◌, ◌++◌, map, Option, Some, None}
+use Rattle.std.specs.List.{AllByRecursion}
+use Rattle.found_set.specs.Marks.{AreMarked}
 use Rattle.std.specs.Ordering.{is_lt}
 use Rattle.bmc_base.specs.Places.{Place, place_cmp}
 use Rattle.probe_lang.specs.declared.rows.Entry.{Entry}
-use Rattle.probe_lang.specs.Sights.{entry_sight}
+use Rattle.probe_lang.specs.Sights.{entry_sight, has_config}
 use Rattle.cfg_json.specs.Configs.{Config}
 use Rattle.inventory.specs.Boards.{has_board, hit_places, places_or_none}
 use Rattle.inventory.specs.Indexes.{except}
@@ -31,3 +33,26 @@ left number here there = map (key_of number) (except (has_board there) here)
 abbrev pub plus_keys : (ℕ → Bool) → (ℕ → Bool) → Moment → ℕ → Option Config → List BoardKey
 plus_keys found reach moment number None = []
 plus_keys found reach moment number (Some config) = left number (boards_now config.probe.match_one found reach moment number) []
+
+-- these entries are the others with this one among them
+pub record IsAmong (entry : Entry) (others entries : List Entry) : Type 0 where
+  pub front : List Entry
+  pub back : List Entry
+  pub without : others ≡ front ++ back
+  pub with : entries ≡ front ++ entry ∷ back
+
+-- this entry alone comes or goes
+abbrev pub IsApartBy : Entry → List Entry → List Entry → Type 0
+IsApartBy entry before after = IsAmong entry before after ⊎ IsAmong entry after before
+
+-- each entry is on a bus of which both tests say the same
+abbrev pub AreSeenAlike : (ℕ → Bool) → (ℕ → Bool) → List Entry → Type 0
+AreSeenAlike reach reach_after entries = AllByRecursion (λ (entry : Entry). reach entry.place.bus ≡ reach_after entry.place.bus) entries
+
+-- the hits of a configuration are the same at both moments, where this entry has none of them
+abbrev pub HitsStayBut : Option Entry → Moment → Moment → Type 0
+HitsStayBut None before after = ⊤
+HitsStayBut (Some entry) before after =
+    (reach reach_after : ℕ → Bool) → AreMarked before.facts.reach reach → AreMarked after.facts.reach reach_after → (number : ℕ)
+    → has_config entry.hits number ≡ false
+    → hit_places reach (map entry_sight before.entries) number ≡ hit_places reach_after (map entry_sight after.entries) number

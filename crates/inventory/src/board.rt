@@ -52,6 +52,7 @@ impl BoardKeys {
         ensures err { OnErr result (self.new ≡ self.old) }
     {
         let _ = alloc;
+        // field by field, since the check gets no proof where `item` itself is pushed
         let BoardKey { config, place } = item;
         self.keys.push(BoardKey { config, place })?;
         Ok(())

@@ -28,7 +28,8 @@ pub fn list_boards(
     match_one: bool,
 ) -> Result<(), OutOfMemory>
     requires { number < 256 }
-    ensures { (found reach : ℕ → Bool) → IsMarkedBy moment.now.facts found reach → OnOk result (places.new.items ≡ boards_now match_one found reach moment.now number) }
+    ensures { (found reach : ℕ → Bool) → IsMarkedBy moment.now.facts found reach
+        → OnOk result (places.new.items ≡ boards_now match_one found reach moment.now number) }
 {
     places.clear();
     if moment.found(number) {

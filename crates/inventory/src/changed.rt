@@ -4,7 +4,7 @@ use crate::BoardKeys;
 #[derive(Drop)]
 pub struct Difference {
     /// The boards that go.
-    pub gone: BoardKeys,
+    pub gone_boards: BoardKeys,
     /// The boards that come.
-    pub new: BoardKeys,
+    pub new_boards: BoardKeys,
 }

@@ -1,11 +1,12 @@
-ghost use Rattle.std.specs.Prelude.{◌≡◌, ◌+◌, ◌<◌, ◌≤◌, ◌++◌, ℕ, Bool, length, option_to_list, option_map, IfOk, OnOk};
+ghost use Rattle.std.specs.Prelude.{◌≡◌, ◌+◌, ◌<◌, ◌≤◌, ◌++◌, ℕ, Bool, true, [], length, option_to_list, option_map, IfOk, OnOk};
 ghost use Rattle.inventory.specs.Differences.{IsMarkedBy, boards_at, keys_left};
-ghost use Rattle.inventory.specs.Moments.{boards_now, left, plus_keys};
+ghost use Rattle.inventory.specs.Moments.{boards_now, left, plus_keys, HitsStayBut, IsApartBy};
 
 use crate::boards::{list_boards, push_both, push_left};
 use crate::{BoardKeys, Difference, Moment};
 use bmc_base::{Ledger, OutOfMemory, Place};
 use cfg_json::{Config, Shelf};
+use probe_lang::Entry;
 use std::alloc::Global;
 
 // The keys of the boards that go and that come so far, and the boards of one configuration at both moments, in
@@ -18,16 +19,78 @@ struct Comparison {
     after: Vec<Option<Place>>,
 }
 
+impl Comparison {
+    // Returns a comparison of nothing yet.
+    fn new(alloc: Global) -> Result<Comparison, OutOfMemory>
+        ensures gone { IfOk result (λ comparison. comparison.gone ≡ []) }
+        ensures come { IfOk result (λ comparison. comparison.come ≡ []) }
+    {
+        Ok(Comparison {
+            gone: BoardKeys::new(alloc)?,
+            come: BoardKeys::new(alloc)?,
+            before: Vec::new(alloc),
+            after: Vec::new(alloc),
+        })
+    }
+
+    // Returns what was found.
+    fn into_difference(self) -> Difference
+        ensures gone { result.gone_boards ≡ self.gone }
+        ensures new { result.new_boards ≡ self.come }
+    {
+        Difference {
+            gone_boards: self.gone,
+            new_boards: self.come,
+        }
+    }
+}
+
+// Returns the entry that alone comes or goes, where each other FRU is seen as before.
+fn lone_change<'e>(changed: &'e Entry, before: &Moment<'_>, after: &Moment<'_>) -> Option<&'e Entry>
+    requires { IsApartBy changed.now before.now.entries after.now.entries }
+    ensures { HitsStayBut (option_map (λ entry. entry.now) result) before.now after.now }
+{
+    if before.is_seen_alike(after) {
+        Some(changed)
+    } else {
+        None
+    }
+}
+
+// Whether a configuration has the same boards at both moments: it is found at both or at neither, and what
+// changed has no hit of it.
+fn has_same_boards(
+    changed: Option<&Entry>,
+    before: &Moment<'_>,
+    after: &Moment<'_>,
+    number: u32,
+) -> bool
+    requires number { number < 256 }
+    requires changed { HitsStayBut (option_map (λ entry. entry.now) changed) before.now after.now }
+    ensures { (found reach found_after reach_after : ℕ → Bool) → IsMarkedBy before.now.facts found reach
+        → IsMarkedBy after.now.facts found_after reach_after → result ≡ true → (match_one : Bool)
+        → boards_now match_one found reach before.now number ≡ boards_now match_one found_after reach_after after.now number }
+{
+    match changed {
+        Some(entry) => {
+            before.found(number) == after.found(number) && !entry.hits.has_config(number)
+        }
+        None => false,
+    }
+}
+
 // Appends the keys of the boards of a configuration that go and of those that come.
 fn push_config(
     alloc: Global,
     comparison: &mut Comparison,
+    changed: Option<&Entry>,
     before: &Moment<'_>,
     after: &Moment<'_>,
     number: u32,
     match_one: bool,
 ) -> Result<(), OutOfMemory>
-    requires { number < 256 }
+    requires number { number < 256 }
+    requires changed { HitsStayBut (option_map (λ entry. entry.now) changed) before.now after.now }
     ensures gone { (found reach found_after reach_after : ℕ → Bool) → IsMarkedBy before.now.facts found reach
         → IsMarkedBy after.now.facts found_after reach_after → OnOk result (comparison.new.gone ≡ comparison.old.gone ++ left number
         (boards_now match_one found reach before.now number) (boards_now match_one found_after reach_after after.now number)) }
@@ -35,6 +98,9 @@ fn push_config(
         → IsMarkedBy after.now.facts found_after reach_after → OnOk result (comparison.new.come ≡ comparison.old.come ++ left number
         (boards_now match_one found_after reach_after after.now number) (boards_now match_one found reach before.now number)) }
 {
+    if has_same_boards(changed, before, after, number) {
+        return Ok(());
+    }
     list_boards(&mut comparison.before, before, number, match_one)?;
     list_boards(&mut comparison.after, after, number, match_one)?;
     push_both(
@@ -53,10 +119,12 @@ fn push_shelf<L: Ledger>(
     alloc: Global,
     comparison: &mut Comparison,
     shelf: &Shelf<L>,
+    changed: Option<&Entry>,
     before: &Moment<'_>,
     after: &Moment<'_>,
 ) -> Result<(), OutOfMemory>
-    requires { length shelf.now ≤ 256 }
+    requires few { length shelf.now ≤ 256 }
+    requires changed { HitsStayBut (option_map (λ entry. entry.now) changed) before.now after.now }
     ensures gone { (found reach found_after reach_after : ℕ → Bool) → IsMarkedBy before.now.facts found reach
         → IsMarkedBy after.now.facts found_after reach_after → OnOk result (comparison.new.gone ≡ comparison.old.gone ++ keys_left (length shelf.now)
         (boards_at shelf.now found reach before.now) (boards_at shelf.now found_after reach_after after.now)) }
@@ -69,7 +137,15 @@ fn push_shelf<L: Ledger>(
             unreachable!()
         };
         let match_one = config.probe().match_one();
-        push_config(alloc, comparison, before, after, number as u32, match_one)?;
+        push_config(
+            alloc,
+            comparison,
+            changed,
+            before,
+            after,
+            number as u32,
+            match_one,
+        )?;
     }
     Ok(())
 }
@@ -108,19 +184,35 @@ pub fn difference<L: Ledger>(
     ensures { let all = shelf.now ++ option_to_list (option_map (λ config. config.now) plus.entry) in
         (found reach found_after reach_after : ℕ → Bool) → IsMarkedBy before.now.facts found reach
         → IsMarkedBy after.now.facts found_after reach_after → IfOk result (λ d.
-        (d.gone ≡ keys_left (length shelf.now) (boards_at shelf.now found reach before.now) (boards_at all found_after reach_after after.now))
-        × (d.new ≡ keys_left (length all) (boards_at all found_after reach_after after.now) (boards_at shelf.now found reach before.now))) }
+        (d.gone_boards ≡ keys_left (length shelf.now) (boards_at shelf.now found reach before.now) (boards_at all found_after reach_after after.now))
+        × (d.new_boards ≡ keys_left (length all) (boards_at all found_after reach_after after.now) (boards_at shelf.now found reach before.now))) }
 {
-    let mut comparison = Comparison {
-        gone: BoardKeys::new(alloc)?,
-        come: BoardKeys::new(alloc)?,
-        before: Vec::new(alloc),
-        after: Vec::new(alloc),
-    };
-    push_shelf(alloc, &mut comparison, shelf, before, after)?;
+    let mut comparison = Comparison::new(alloc)?;
+    push_shelf(alloc, &mut comparison, shelf, None, before, after)?;
     push_plus(alloc, &mut comparison, shelf.len() as u32, plus, after)?;
-    Ok(Difference {
-        gone: comparison.gone,
-        new: comparison.come,
-    })
+    Ok(comparison.into_difference())
+}
+
+/// Finds the boards that go and those that come where one FRU alone comes or goes, and with it perhaps what is
+/// found and reachable. It is faster than [`difference`], as configurations that the FRU has no hit of are not looked at,
+/// where each bus with a FRU is as reachable as it was.
+pub fn difference_by<L: Ledger>(
+    alloc: Global,
+    shelf: &Shelf<L>,
+    changed: &Entry,
+    before: &Moment<'_>,
+    after: &Moment<'_>,
+) -> Result<Difference, OutOfMemory>
+    requires { IsApartBy changed.now before.now.entries after.now.entries }
+    ensures { (found reach found_after reach_after : ℕ → Bool) → IsMarkedBy before.now.facts found reach
+        → IsMarkedBy after.now.facts found_after reach_after → IfOk result (λ d.
+        (d.gone_boards ≡ keys_left (length shelf.now) (boards_at shelf.now found reach before.now) (boards_at shelf.now found_after reach_after after.now))
+        × (d.new_boards ≡ keys_left (length shelf.now) (boards_at shelf.now found_after reach_after after.now) (boards_at shelf.now found reach before.now))) }
+{
+    let mut comparison = Comparison::new(alloc)?;
+    // a shelf has at most 256 configurations
+    let _count = shelf.len();
+    let lone = lone_change(changed, before, after);
+    push_shelf(alloc, &mut comparison, shelf, lone, before, after)?;
+    Ok(comparison.into_difference())
 }

@@ -1,6 +1,6 @@
-ghost use Rattle.std.specs.Prelude.{◌≡◌, ◌∷◌, ◌++◌, [], ℕ, Bool, OnOk};
+ghost use Rattle.std.specs.Prelude.{◌≡◌, ◌∷◌, ◌++◌, [], ℕ, Bool, true, OnOk};
 ghost use Rattle.found_set.specs.Marks.{AreMarked};
-ghost use Rattle.inventory.specs.Moments.{hits_in};
+ghost use Rattle.inventory.specs.Moments.{hits_in, AreSeenAlike};
 
 use bmc_base::{OutOfMemory, Place};
 use found_set::Facts;
@@ -37,4 +37,18 @@ pub fn push_hits(
         push_hit(places, entry, facts, number)?;
     }
     Ok(())
+}
+
+/// Whether each FRU is on a bus that is reachable in both cases or in neither.
+pub fn are_seen_alike(entries: &[Entry], facts: &Facts, facts_after: &Facts) -> bool
+    ensures { (reach reach_after : ℕ → Bool) → AreMarked facts.now.reach reach → AreMarked facts_after.now.reach reach_after → result ≡ true
+        → AreSeenAlike reach reach_after entries.now }
+{
+    for entry in entries {
+        let bus = entry.place.bus();
+        if facts.reach(bus) != facts_after.reach(bus) {
+            return false;
+        }
+    }
+    true
 }

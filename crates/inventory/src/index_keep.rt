@@ -133,7 +133,8 @@ fn keep_staged(lists: &mut [IndexSet<Option<Place>>], keys: &[BoardKey])
 // Keeps the boards of these keys, each behind the others in its list if it is not kept yet, or changes nothing.
 fn extend_lists(lists: &mut [IndexSet<Option<Place>>], keys: &[BoardKey]) -> Result<(), OutOfMemory>
     requires { AreListed keys.now (length lists.old) }
-    ensures ok { OnOk result ((number : ℕ) → kept_of (keys_of lists.new) number ≡ with_boards (kept_of (keys_of lists.old) number) (places_of number keys.now)) }
+    ensures ok { OnOk result ((number : ℕ) → kept_of (keys_of lists.new) number
+        ≡ with_boards (kept_of (keys_of lists.old) number) (places_of number keys.now)) }
     ensures err { OnErr result ((number : ℕ) → kept_of (keys_of lists.new) number ≡ kept_of (keys_of lists.old) number) }
     ensures few { AreFew (keys_of lists.old) → AreFew (keys_of lists.new) }
 {

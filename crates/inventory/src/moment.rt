@@ -1,9 +1,9 @@
-ghost use Rattle.std.specs.Prelude.{◌≡◌, ◌++◌, ℕ, Bool, IsTrue, OnOk, position};
+ghost use Rattle.std.specs.Prelude.{◌≡◌, ◌++◌, ℕ, Bool, true, IsTrue, OnOk, position};
 ghost use Rattle.found_set.specs.Marks.{AreMarked, is_marked};
 ghost use Rattle.probe_lang.specs.Presents.{are_by_place, is_entry_at, with_entry, without_entry};
-ghost use Rattle.inventory.specs.Moments.{hits_in, is_behind};
+ghost use Rattle.inventory.specs.Moments.{hits_in, is_behind, AreSeenAlike};
 
-use crate::hits::push_hits;
+use crate::hits::{are_seen_alike, push_hits};
 use bmc_base::{OutOfMemory, Place};
 use found_set::Facts;
 use probe_lang::Entry;
@@ -107,5 +107,20 @@ impl<'a> Moment<'a> {
         push_hits(places, self.plus, &self.facts, number)?;
         push_hits(places, self.behind, &self.facts, number)?;
         Ok(())
+    }
+    // Whether each FRU is on a bus that is reachable at both moments or at neither.
+    pub(crate) fn is_seen_alike(&self, after: &Moment<'_>) -> bool
+        ensures { (reach reach_after : ℕ → Bool) → AreMarked self.now.facts.reach reach → AreMarked after.now.facts.reach reach_after → result ≡ true
+            → AreSeenAlike reach reach_after self.now.entries }
+    {
+        let before = are_seen_alike(self.before, &self.facts, &after.facts);
+        if !before {
+            return false;
+        }
+        let plus = are_seen_alike(self.plus, &self.facts, &after.facts);
+        if !plus {
+            return false;
+        }
+        are_seen_alike(self.behind, &self.facts, &after.facts)
     }
 }

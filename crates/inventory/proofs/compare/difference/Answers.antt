@@ -9,10 +9,11 @@ returns g c =
     let plus : Option Config = option_map (λ config. config.now) c.args.plus in
     let configs = c.args.shelf.now in
     λ found reach found_after reach_after marked marked_after. (
-      gone_all configs found reach found_after reach_after c.args.before.now c.args.after.now plus c.push_plus.new.comparison.gone
-          (c.push_plus.ensures.gone ∙ from_none _ _ _ (c.in_ok-push_shelf.ensures.gone found reach found_after reach_after marked marked_after) c.in_ok-new.ensures),
-      come_all configs found reach found_after reach_after c.args.before.now c.args.after.now plus c.push_shelf.new.comparison.come c.push_plus.new.comparison.come
-          (from_none _ _ _ (c.in_ok-push_shelf.ensures.come found reach found_after reach_after marked marked_after) c.in_ok-new-2.ensures)
-          (c.in_ok-push_plus.ensures.come found_after reach_after marked_after
+      gone_all configs found reach found_after reach_after c.args.before.now c.args.after.now plus c.into_difference.result.gone_boards
+          (c.into_difference.ensures.gone ∙ c.push_plus.ensures.gone
+          ∙ from_none _ _ _ (c.in_ok-push_shelf.ensures.gone found reach found_after reach_after marked marked_after) c.in_ok-comparison.ensures.gone),
+      come_all configs found reach found_after reach_after c.args.before.now c.args.after.now plus c.push_shelf.new.comparison.come c.into_difference.result.new_boards
+          (from_none _ _ _ (c.in_ok-push_shelf.ensures.come found reach found_after reach_after marked marked_after) c.in_ok-comparison.ensures.come)
+          (c.into_difference.ensures.new ∙ c.in_ok-push_plus.ensures.come found_after reach_after marked_after
           ∙ ap (λ n. c.push_shelf.new.comparison.come ++ plus_keys found_after reach_after c.args.after.now n plus) c.len.ensures.value),
     )

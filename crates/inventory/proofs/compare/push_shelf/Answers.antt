@@ -15,7 +15,8 @@ loop-number-preserved g c =
     ∙ boards_there configs found reach moment number config (sym c.in-Some.ensures) in
     record {
       gone = λ found reach found_after reach_after marked marked_after. config_more number (boards_at configs found reach c.args.before.now)
-          (boards_at configs found_after reach_after c.args.after.now) _ _ _ _ _ (c.loop-number.invariant.gone found reach found_after reach_after marked marked_after)
+          (boards_at configs found_after reach_after c.args.after.now) _ _ _ _ _
+          (c.loop-number.invariant.gone found reach found_after reach_after marked marked_after)
           (c.in_ok-push_config.ensures.gone found reach found_after reach_after marked marked_after) (there found reach c.args.before.now)
           (there found_after reach_after c.args.after.now);
       come = λ found reach found_after reach_after marked marked_after. config_more number (boards_at configs found_after reach_after c.args.after.now)

@@ -7,7 +7,8 @@ use Rattle.inventory.proofs.index_keep.list_count.Goals as goal
 pub loop-key-preserved : goal.loop-key-preserved
 loop-key-preserved c =
     listed_more c.args.keys.now c.loop-key.key-index c.loop-key.count c.max-count.result c.key-item.result c.loop-key-test.true c.loop-key.invariant
-    (max_first c.loop-key.count (c.key-item.result.config + 1) c.max-count.result c.max-count.ensures) c.key-item.is (omega (arith, max_second c.loop-key.count (c.key-item.result.config + 1) c.max-count.result c.max-count.ensures))
+    (max_first c.loop-key.count (c.key-item.result.config + 1) c.max-count.result c.max-count.ensures) c.key-item.is (omega
+    (arith, max_second c.loop-key.count (c.key-item.result.config + 1) c.max-count.result c.max-count.ensures))
 
 pub returns : goal.returns
 returns c =
