@@ -16,6 +16,8 @@ mod lines;
 #[cfg(test)]
 mod muxes;
 #[cfg(test)]
+mod patterns;
+#[cfg(test)]
 mod play;
 #[cfg(test)]
 mod probes;
@@ -23,3 +25,5 @@ mod probes;
 mod records;
 #[cfg(test)]
 mod scripts;
+#[cfg(test)]
+mod words;
