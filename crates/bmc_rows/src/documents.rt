@@ -27,31 +27,6 @@ const FOUND: &[Part] = &[
         16,
         "]}",
     ),
-    // exposes, and 256 of them
-    Config(r#"{"Name":"A","Probe":"TRUE","Exposes":[]}"#),
-    Config(r#"{"Name":"A","Probe":"TRUE","Exposes":5,"Exposes":[]}"#),
-    Config(
-        r#"{"Name":"A","Probe":"TRUE","Exposes":[{"Name":"x","Type":"Mux","Channels":[0,255,16,16],"Bus":"$bus"}]}"#,
-    ),
-    Repeats(
-        r#"{"Name":"A","Probe":"TRUE","Exposes":[{"Name":"x","Type":"Mux","Channels":[1]}"#,
-        r#",{"Name":"x","Type":"Mux","Channels":[1]}"#,
-        255,
-        "]}",
-    ),
-    // 16 channels, and a name of an expose of 128 bytes
-    Repeats(
-        r#"{"Name":"A","Probe":"TRUE","Exposes":[{"Name":"x","Type":"Mux","Channels":[16"#,
-        ",17",
-        15,
-        "]}]}",
-    ),
-    Repeats(
-        r#"{"Name":"A","Probe":"TRUE","Exposes":[{"Type":"Mux","Channels":[16],"Name":""#,
-        "é",
-        64,
-        r#""}]}"#,
-    ),
 ];
 
 // Blocks that are no JSON text.
@@ -134,22 +109,6 @@ const WRONG_KINDS: &[Part] = &[
     Config(r#"{"Name":"A","Probe":["TRUE",5]}"#),
     Config(r#"{"Name":"A","Probe":[null,"x"]}"#),
     Config(r#"{"Name":"A","Probe":["x",["TRUE"]]}"#),
-    // exposes, before a pattern that is bad
-    Config(r#"{"Name":"A","Probe":"TRUE","Exposes":null}"#),
-    Config(r#"{"Name":"A","Probe":"TRUE","Exposes":{}}"#),
-    Config(r#"{"Name":"A","Probe":"TRUE","Exposes":"Mux"}"#),
-    Config(r#"{"Name":"A","Probe":"TRUE","Exposes":[5,{}]}"#),
-    Config(r#"{"Name":"A","Probe":"xyz.openbmc_project.FruDevice({'BUS': '('})","Exposes":5}"#),
-    Config(r#"{"Name":"A","Probe":"TRUE","Exposes":[{"Name":5,"Type":5}]}"#),
-    Config(r#"{"Name":"A","Probe":"TRUE","Exposes":[{"Name":"M","Type":5}]}"#),
-    Config(r#"{"Name":"A","Probe":"TRUE","Exposes":[{"Name":"M","Type":"Mux","Channels":17}]}"#),
-    Config(r#"{"Name":"A","Probe":"TRUE","Exposes":[{"Name":"M","Type":"Mux","Channels":"1"}]}"#),
-    Config(
-        r#"{"Name":"A","Probe":"TRUE","Exposes":[{"Name":"M","Type":"Mux","Channels":[null,"1"]}]}"#,
-    ),
-    Config(
-        r#"{"Name":"A","Probe":"TRUE","Exposes":[{"Name":"M","Type":"Mux","Channels":[1,[1]]}]}"#,
-    ),
 ];
 
 // Documents without a name, and those without a probe.
@@ -162,14 +121,9 @@ const MISSING_KEYS: &[Part] = &[
     Config(r#"{"Name":"A"}"#),
     Config(r#"{"Name":"A","Exposes":[]}"#),
     Config(r#"{"Name":"A","probe":"TRUE"}"#),
-    // members of an expose
-    Config(r#"{"Name":"A","Probe":"TRUE","Exposes":[{}]}"#),
-    Config(r#"{"Name":"A","Probe":"TRUE","Exposes":[{"Name":"x"},5]}"#),
-    Config(r#"{"Name":"A","Probe":"TRUE","Exposes":[{"Name":"x","Type":"Mux"}]}"#),
 ];
 
-// Documents whose name has no bytes, or more than 64; with too few or too many words, exposes or channels; and with
-// channels that are no bus.
+// Documents whose name has no bytes, or more than 64, and those with too few or too many words.
 const OUT_OF_RANGE: &[Part] = &[
     Config(r#"{"Name":""}"#),
     Config(r#"{"Name":"","Probe":5}"#),
@@ -192,61 +146,10 @@ const OUT_OF_RANGE: &[Part] = &[
         "]}",
     ),
     Repeats(r#"{"Name":"A","Probe":[0"#, ",0", 33, "]}"),
-    // exposes: 257, and a name of 129 bytes
-    Repeats(
-        r#"{"Name":"A","Probe":"TRUE","Exposes":[0"#,
-        ",0",
-        256,
-        "]}",
-    ),
-    Repeats(
-        r#"{"Name":"A","Probe":"TRUE","Exposes":[{"Type":"Mux","Channels":[16],"Name":"$"#,
-        "é",
-        64,
-        r#""}]}"#,
-    ),
-    Config(r#"{"Name":"A","Probe":"TRUE","Exposes":[{"Name":"","Type":5}]}"#),
-    Config(r#"{"Name":"A","Probe":"TRUE","Exposes":[{"Name":"M","Type":""}]}"#),
-    Config(r#"{"Name":"A","Probe":"TRUE","Exposes":[{"Name":"M","Type":"Mux","Channels":[]}]}"#),
-    Config(r#"{"Name":"A","Probe":"TRUE","Exposes":[{"Name":"M","Type":"Mux","Channels":[256]}]}"#),
-    Config(r#"{"Name":"A","Probe":"TRUE","Exposes":[{"Name":"M","Type":"Mux","Channels":[-1]}]}"#),
-    Config(
-        r#"{"Name":"A","Probe":"TRUE","Exposes":[{"Name":"M","Type":"Mux","Channels":[1,18446744073709551615,"1"]}]}"#,
-    ),
-    // 17 channels
-    Repeats(
-        r#"{"Name":"A","Probe":"TRUE","Exposes":[{"Name":"x","Type":"Mux","Channels":[16"#,
-        ",17",
-        16,
-        "]}]}",
-    ),
-];
-
-// Documents with exposes that are not read.
-const EXPOSE_FORMS: &[Part] = &[
-    Config(
-        r#"{"Name":"A","Probe":"TRUE","Exposes":[{"Name":"M $bus","Type":"Mux","Channels":[1]}]}"#,
-    ),
-    Config(r#"{"Name":"A","Probe":"TRUE","Exposes":[{"Name":"$","Type":5}]}"#),
-    Config(
-        r#"{"Name":"A","Probe":"TRUE","Exposes":[{"Name":"M","Type":"EEPROM","Channels":[1]}]}"#,
-    ),
-    Config(r#"{"Name":"A","Probe":"TRUE","Exposes":[{"Name":"M","Type":"mux","Channels":5}]}"#),
-    Config(r#"{"Name":"A","Probe":"TRUE","Exposes":[{"Name":"M","Type":"Mux ","Channels":[1]}]}"#),
-    Config(r#"{"Name":"A","Probe":"TRUE","Exposes":[{"Name":"M","Type":"Mux","Channels":["1"]}]}"#),
-    Config(
-        r#"{"Name":"A","Probe":"TRUE","Exposes":[{"Name":"M","Type":"Mux","Channels":["$bus"]}]}"#,
-    ),
-    Config(
-        r#"{"Name":"A","Probe":"TRUE","Exposes":[{"Name":"M","Type":"Mux","Channels":[1,"2",256]}]}"#,
-    ),
-    Config(
-        r#"{"Name":"A","Probe":"TRUE","Exposes":[{"Name":"M","Type":"Mux","Channels":[1]},{"Name":"M","Type":"Fan"}]}"#,
-    ),
 ];
 
 // Documents that are answered alike: how a script of one of them ends, and what is printed.
-const DOCUMENTS: [Row; 14] = [
+const DOCUMENTS: [Row; 13] = [
     (FOUND, Done, ALWAYS_BOARD),
     (
         &[Config(" {\t\"Probe\" : \"TRUE\" ,\n\"Name\" : \"A B\" }\r\n")],
@@ -286,7 +189,6 @@ const DOCUMENTS: [Row; 14] = [
     (WRONG_KINDS, Refused, "line 1 refused WrongKind\n"),
     (MISSING_KEYS, Refused, "line 1 refused MissingKey\n"),
     (OUT_OF_RANGE, Refused, "line 1 refused OutOfRange\n"),
-    (EXPOSE_FORMS, Refused, "line 1 refused ExposeForm\n"),
 ];
 
 #[test]

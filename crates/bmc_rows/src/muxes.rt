@@ -1,5 +1,5 @@
-use crate::play::Part::{Config, Text};
-use crate::play::{Row, play_rows};
+use crate::play::Part::{self, Config, Repeats, Text};
+use crate::play::{ALWAYS_BOARD, Row, play_parts, play_rows};
 use bmc_replay::Status::{Done, Refused};
 use std::test::Fail;
 
@@ -203,7 +203,128 @@ fru 20 2$
     ),
 ];
 
+// Documents with the name A that are always found, with exposes.
+const FOUND: &[Part] = &[
+    // exposes, and 256 of them
+    Config(r#"{"Name":"A","Probe":"TRUE","Exposes":[]}"#),
+    Config(r#"{"Name":"A","Probe":"TRUE","Exposes":5,"Exposes":[]}"#),
+    Config(
+        r#"{"Name":"A","Probe":"TRUE","Exposes":[{"Name":"x","Type":"Mux","Channels":[0,255,16,16],"Bus":"$bus"}]}"#,
+    ),
+    Repeats(
+        r#"{"Name":"A","Probe":"TRUE","Exposes":[{"Name":"x","Type":"Mux","Channels":[1]}"#,
+        r#",{"Name":"x","Type":"Mux","Channels":[1]}"#,
+        255,
+        "]}",
+    ),
+    // 16 channels, and a name of an expose of 128 bytes
+    Repeats(
+        r#"{"Name":"A","Probe":"TRUE","Exposes":[{"Name":"x","Type":"Mux","Channels":[16"#,
+        ",17",
+        15,
+        "]}]}",
+    ),
+    Repeats(
+        r#"{"Name":"A","Probe":"TRUE","Exposes":[{"Type":"Mux","Channels":[16],"Name":""#,
+        "é",
+        64,
+        r#""}]}"#,
+    ),
+];
+
+// Documents whose exposes, or what they have, are of the wrong kind.
+const WRONG_KINDS: &[Part] = &[
+    // exposes, before a pattern that is bad
+    Config(r#"{"Name":"A","Probe":"TRUE","Exposes":null}"#),
+    Config(r#"{"Name":"A","Probe":"TRUE","Exposes":{}}"#),
+    Config(r#"{"Name":"A","Probe":"TRUE","Exposes":"Mux"}"#),
+    Config(r#"{"Name":"A","Probe":"TRUE","Exposes":[5,{}]}"#),
+    Config(r#"{"Name":"A","Probe":"xyz.openbmc_project.FruDevice({'BUS': '('})","Exposes":5}"#),
+    Config(r#"{"Name":"A","Probe":"TRUE","Exposes":[{"Name":5,"Type":5}]}"#),
+    Config(r#"{"Name":"A","Probe":"TRUE","Exposes":[{"Name":"M","Type":5}]}"#),
+    Config(r#"{"Name":"A","Probe":"TRUE","Exposes":[{"Name":"M","Type":"Mux","Channels":17}]}"#),
+    Config(r#"{"Name":"A","Probe":"TRUE","Exposes":[{"Name":"M","Type":"Mux","Channels":"1"}]}"#),
+    Config(
+        r#"{"Name":"A","Probe":"TRUE","Exposes":[{"Name":"M","Type":"Mux","Channels":[null,"1"]}]}"#,
+    ),
+    Config(
+        r#"{"Name":"A","Probe":"TRUE","Exposes":[{"Name":"M","Type":"Mux","Channels":[1,[1]]}]}"#,
+    ),
+];
+
+// Documents with an expose that lacks a member.
+const MISSING_KEYS: &[Part] = &[
+    Config(r#"{"Name":"A","Probe":"TRUE","Exposes":[{}]}"#),
+    Config(r#"{"Name":"A","Probe":"TRUE","Exposes":[{"Name":"x"},5]}"#),
+    Config(r#"{"Name":"A","Probe":"TRUE","Exposes":[{"Name":"x","Type":"Mux"}]}"#),
+];
+
+// Documents with too few or too many exposes, channels or bytes of a name, and with channels that are no bus.
+const OUT_OF_RANGE: &[Part] = &[
+    // exposes: 257, and a name of 129 bytes
+    Repeats(
+        r#"{"Name":"A","Probe":"TRUE","Exposes":[0"#,
+        ",0",
+        256,
+        "]}",
+    ),
+    Repeats(
+        r#"{"Name":"A","Probe":"TRUE","Exposes":[{"Type":"Mux","Channels":[16],"Name":"$"#,
+        "é",
+        64,
+        r#""}]}"#,
+    ),
+    Config(r#"{"Name":"A","Probe":"TRUE","Exposes":[{"Name":"","Type":5}]}"#),
+    Config(r#"{"Name":"A","Probe":"TRUE","Exposes":[{"Name":"M","Type":""}]}"#),
+    Config(r#"{"Name":"A","Probe":"TRUE","Exposes":[{"Name":"M","Type":"Mux","Channels":[]}]}"#),
+    Config(r#"{"Name":"A","Probe":"TRUE","Exposes":[{"Name":"M","Type":"Mux","Channels":[256]}]}"#),
+    Config(r#"{"Name":"A","Probe":"TRUE","Exposes":[{"Name":"M","Type":"Mux","Channels":[-1]}]}"#),
+    Config(
+        r#"{"Name":"A","Probe":"TRUE","Exposes":[{"Name":"M","Type":"Mux","Channels":[1,18446744073709551615,"1"]}]}"#,
+    ),
+    // 17 channels
+    Repeats(
+        r#"{"Name":"A","Probe":"TRUE","Exposes":[{"Name":"x","Type":"Mux","Channels":[16"#,
+        ",17",
+        16,
+        "]}]}",
+    ),
+];
+
+// Documents with exposes that are not read.
+const EXPOSE_FORMS: &[Part] = &[
+    Config(
+        r#"{"Name":"A","Probe":"TRUE","Exposes":[{"Name":"M $bus","Type":"Mux","Channels":[1]}]}"#,
+    ),
+    Config(r#"{"Name":"A","Probe":"TRUE","Exposes":[{"Name":"$","Type":5}]}"#),
+    Config(
+        r#"{"Name":"A","Probe":"TRUE","Exposes":[{"Name":"M","Type":"EEPROM","Channels":[1]}]}"#,
+    ),
+    Config(r#"{"Name":"A","Probe":"TRUE","Exposes":[{"Name":"M","Type":"mux","Channels":5}]}"#),
+    Config(r#"{"Name":"A","Probe":"TRUE","Exposes":[{"Name":"M","Type":"Mux ","Channels":[1]}]}"#),
+    Config(r#"{"Name":"A","Probe":"TRUE","Exposes":[{"Name":"M","Type":"Mux","Channels":["1"]}]}"#),
+    Config(
+        r#"{"Name":"A","Probe":"TRUE","Exposes":[{"Name":"M","Type":"Mux","Channels":["$bus"]}]}"#,
+    ),
+    Config(
+        r#"{"Name":"A","Probe":"TRUE","Exposes":[{"Name":"M","Type":"Mux","Channels":[1,"2",256]}]}"#,
+    ),
+    Config(
+        r#"{"Name":"A","Probe":"TRUE","Exposes":[{"Name":"M","Type":"Mux","Channels":[1]},{"Name":"M","Type":"Fan"}]}"#,
+    ),
+];
+
+// Documents that are answered alike: how a script of one of them ends, and what is printed.
+const DOCUMENTS: [Row; 5] = [
+    (FOUND, Done, ALWAYS_BOARD),
+    (WRONG_KINDS, Refused, "line 1 refused WrongKind\n"),
+    (MISSING_KEYS, Refused, "line 1 refused MissingKey\n"),
+    (OUT_OF_RANGE, Refused, "line 1 refused OutOfRange\n"),
+    (EXPOSE_FORMS, Refused, "line 1 refused ExposeForm\n"),
+];
+
 #[test]
 fn muxes(rt: HostRuntime) -> Result<(), Fail> {
-    play_rows(&rt, rt.alloc(), &SCRIPTS)
+    play_rows(&rt, rt.alloc(), &SCRIPTS)?;
+    play_parts(&rt, rt.alloc(), &DOCUMENTS)
 }
