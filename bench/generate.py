@@ -11,17 +11,30 @@
   present   COUNT FRUs are plugged first, at most 32,768; then one after
             another of them is unplugged and plugged again, in an order that
             jumps about
-  boards    256 configurations; then FRUs come and go at 2,048 places, with
-            COUNT of them present, at most 1,024. In turn one configuration
-            finds the FRU, eight do, and none
+  boards    256 configurations with plain patterns; then FRUs come and go at
+            2,048 places, with COUNT of them present, at most 1,024. In turn
+            one configuration finds the FRU, eight do, and none
+  regex     256 configurations with one regular expression each; then FRUs
+            come and go as for boards. One configuration finds each
+  mux       a multiplexer opens 16 buses. Behind it COUNT FRUs are present, at
+            most 1,024, each with a board. They are unplugged and plugged
+            again, and with each sixteenth the multiplexer, so that all boards
+            go and come back
+  found     a chain of COUNT configurations, at most 256: the first finds a
+            FRU that is plugged and unplugged, and each other one asks for the
+            one before it
   idle      COUNT configurations, at most 256, none of which finds the FRU
             that is plugged and unplugged
+  still     16 configurations, of which 4 find a FRU that is plugged and
+            unplugged; COUNT other FRUs are present, at most 256, which none
+            of them finds
   under     16 configurations, of which 4 find each FRU; else as present,
             with at most 2,048 FRUs
 
 COUNT is 256 if left out. LINES does not count the configurations and the first
 FRUs. The same words give the same script."""
 
+import json
 import os
 import sys
 
@@ -30,14 +43,15 @@ sys.path.insert(0, os.path.dirname(os.path.realpath(__file__)) + "/../examples")
 from record import board_area, chassis_area, product_area, record
 
 # Each workload, and the most that COUNT can be.
-WORKLOADS = {"present": 32_768, "boards": 1024, "idle": 256, "under": 2048}
+WORKLOADS = {"present": 32_768, "boards": 1024, "regex": 1024, "mux": 1024, "found": 256}
+WORKLOADS |= {"idle": 256, "still": 256, "under": 2048}
 WORKLOADS |= dict.fromkeys(("plugs", "refused", "comments", "long", "toolong", "records"), 256)
 TEXTS = ["Norrland Systems AB", "Riser, 2 x16", "NSR2404200117", "310-00511-01", "FRU 2.1"]
 RECORD = record(board=board_area(TEXTS)).hex().upper()
 # A step that shares no factor with a power of 2, so that the places jump about and each gets its turn.
 STEP = 12289
-# So many places are on the buses that have boards.
-VISIBLE = 2048
+# So many places are on the root buses.
+ON_ROOTS = 2048
 
 
 def plugs(lines, count):
@@ -81,12 +95,21 @@ def present(lines, present):
         yield f"plug {where} {RECORD}\n"
 
 
+def config(number, probe, **members):
+    """The lines of a configuration with this probe."""
+    block = json.dumps({"Name": f"Board {number}", "Probe": probe, **members}, separators=(",", ":"))
+    return f"config {len(block)}\n{block}\n"
+
+
+def looking_for(field, text):
+    """A word that looks for a text in a field."""
+    return f"xyz.openbmc_project.FruDevice({{'BOARD_{field}': '{text}'}})"
+
+
 def finders(found):
     """Configurations that look for these fields and texts."""
     for number, (field, text) in enumerate(found):
-        probe = f"xyz.openbmc_project.FruDevice({{'BOARD_{field}': '{text}'}})"
-        block = f'{{"Name":"Board {number}","Probe":"{probe}"}}'
-        yield f"config {len(block)}\n{block}\n"
+        yield config(number, looking_for(field, text))
 
 
 def board_record(number):
@@ -100,11 +123,41 @@ def boards(lines, present):
     fields = ["MANUFACTURER", "PRODUCT_NAME", "SERIAL_NUMBER", "PART_NUMBER"]
     found = [("PRODUCT_NAME", f"Model{at:03}") for at in range(248)]
     yield from finders(found + [(fields[at % 4], f"Nord{at // 4}") for at in range(8)])
-    records = [board_record(number) for number in range(744)]
+    yield from turns(lines, present, [board_record(number) for number in range(744)])
+
+
+def turns(lines, present, records):
+    """FRUs with these records come and go, with so many of them present."""
     for at in range(present + lines // 2):
         if at >= present:
-            yield f"unplug {place((at - present) * STEP % VISIBLE)}\n"
-        yield f"plug {place(at * STEP % VISIBLE)} {records[at % 744]}\n"
+            yield f"unplug {place((at - present) * STEP % ON_ROOTS)}\n"
+        yield f"plug {place(at * STEP % ON_ROOTS)} {records[at % len(records)]}\n"
+
+
+def regex(lines, present):
+    yield from finders([("PRODUCT_NAME", f"^Riser,? {at} x(8|16)( rev\\.[A-D]+)?$") for at in range(256)])
+    products = [f"Riser, {at} x{8 << at % 2} rev.{'ABCD'[at % 4]}" for at in range(256)]
+    yield from turns(lines, present, [record(board=board_area([TEXTS[0], it, *TEXTS[2:]])).hex() for it in products])
+
+
+def mux(lines, present):
+    slots = {"Name": "Slots", "Type": "Mux", "Channels": list(range(16, 32))}
+    yield config(0, looking_for("PRODUCT_NAME", "^Mux"), Exposes=[slots])
+    yield config(1, looking_for("PRODUCT_NAME", "^Riser"))
+    opener = f"plug 1 112 {record(board=board_area([TEXTS[0], 'Mux 16'])).hex()}\n"
+    yield opener
+    for number in range(present):
+        yield f"plug {place(ON_ROOTS + number)} {RECORD}\n"
+    for at in range(lines // 2):
+        where = place(ON_ROOTS + at * STEP % present)
+        yield from (["unplug 1 112\n", opener] if at % 16 == 15 else [f"unplug {where}\n", f"plug {where} {RECORD}\n"])
+
+
+def found(lines, count):
+    yield config(0, looking_for("MANUFACTURER", "^Norrland"))
+    for number in range(1, count):
+        yield config(number, ["TRUE", "AND", f"FOUND('Board {number - 1}')"])
+    yield from plugs(lines, count)
 
 
 def idle(lines, count):
@@ -112,9 +165,22 @@ def idle(lines, count):
     yield from plugs(lines, count)
 
 
-def under(lines, frus):
+def sixteen():
+    """Configurations of which 4 find a FRU."""
     found = [("MANUFACTURER", "Norrland"), ("PRODUCT_NAME", "Riser"), ("SERIAL_NUMBER", "NSR"), ("PART_NUMBER", "511")]
     yield from finders(found + [("SERIAL_NUMBER", f"Nothing{at}") for at in range(12)])
+
+
+def still(lines, frus):
+    yield from sixteen()
+    other = record(board=board_area(["Volta Power", "VP-1600 supply", "1688231-0419"])).hex()
+    for number in range(frus):
+        yield f"plug {place(256 + number)} {other}\n"
+    yield from plugs(lines, frus)
+
+
+def under(lines, frus):
+    yield from sixteen()
     yield from present(lines, frus)
 
 

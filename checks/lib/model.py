@@ -5,8 +5,13 @@ what bmcreplay has to print, and ends with its status. The checks compare the pr
 import datetime
 import json
 import math
+import os
 import re
 import sys
+from collections import namedtuple
+
+sys.path.insert(0, os.path.dirname(os.path.realpath(__file__)))
+import patterns
 
 LONGEST = 9000
 LONGEST_BLOCK = 262_144
@@ -24,16 +29,21 @@ AREAS = [
     ("Board", 3, 6, "BOARD", BOARD_NAMES),
     ("Product", 4, 3, "PRODUCT", PRODUCT_NAMES),
 ]
-# A plain probe, and a string of a JSON text, whose closing quote may be missing.
-PROBE = rf"xyz\.openbmc_project\.FruDevice\(\{{'(BOARD_(?:{'|'.join(BOARD_NAMES)}))': '([0-9A-Za-z]{{1,64}})'\}}\)"
-PLAIN_PROBE = re.compile(f"TRUE|{PROBE}")
+# The words of a probe, and a string of a JSON text, whose closing quote may be missing.
+FOUND = re.compile(r"FOUND\('([^']*)'\)", re.S)
+PATTERN = re.compile(r"xyz\.openbmc_project\.FruDevice\(\{(.*)\}\)", re.S)
+MOST_WORDS, MOST_MEMBERS, LONGEST_WANT = 33, 16, 256
+MOST_EXPOSES, MOST_CHANNELS, LONGEST_EXPOSE_NAME = 256, 16, 128
 STRING = re.compile(r'"(?:[^"\\]|\\.)*"?', re.S)
 SURROGATE = re.compile("[\ud800-\udfff]")
 END = 0xC1
 ENGLISH = (0, 25)
 BCD_PLUS = "0123456789 -.:,_"
-# Boards are found on buses below this one.
-VISIBLE = 16
+# The buses below this one are root buses.
+ROOTS = 16
+# A configuration: its name; its operands, each with the operator before it; whether it ends with MATCH_ONE; what its
+# patterns want, each by key; and the buses that it opens.
+Config = namedtuple("Config", "name words match_one wants opens")
 
 
 class Broken(Exception):
@@ -45,12 +55,13 @@ class Members(list):
 
 
 class Machine:
-    """What stands: the FRUs that are present by place, the name of each configuration with what its probe looks
-    for, and whether a FRU was plugged. And for each configuration the indexes of all boards it ever had, by place."""
+    """What stands: the FRUs that are present by place, the configurations, and whether a FRU was plugged. For each
+    configuration the places at which each of its patterns matches, and the indexes of all boards it ever had, by
+    place."""
 
     def __init__(self):
         self.present, self.configs, self.plugged = {}, [], False
-        self.had = []
+        self.matched, self.had = [], []
 
 
 def demand(rule, holds):
@@ -222,26 +233,107 @@ def document_of(block):
     return last_ones(document)
 
 
+def wants_of(inner):
+    """What a pattern wants of each key, where this stands between its braces: a text, or a number. Raises ValueError
+    where it is no pattern."""
+    wants = document_of(("{" + inner.replace("\\", "\\\\").replace("'", '"') + "}").encode())
+    if len(wants) > MOST_MEMBERS:
+        raise ValueError("too many members")
+    for want in wants.values():
+        fits = len(want.encode()) <= LONGEST_WANT if isinstance(want, str) else type(want) is int
+        if not fits:
+            raise ValueError("neither a short text nor a whole number")
+    return wants
+
+
+def operand_of(word, wants):
+    """What an operand is: a truth, the name of a configuration, or the number of a pattern, which joins the others."""
+    if word in ("TRUE", "FALSE"):
+        return word == "TRUE"
+    found, pattern = FOUND.fullmatch(word), PATTERN.fullmatch(word)
+    if found and 1 <= len(found[1].encode()) <= 64:
+        return found[1]
+    demand("ProbeSyntax", pattern)
+    try:
+        wants.append(wants_of(pattern[1]))
+    except ValueError:
+        raise Broken("ProbeSyntax") from None
+    return len(wants) - 1
+
+
+def probe_of(texts):
+    """The operands of a probe, each with the operator before it, whether it ends with MATCH_ONE, and its patterns."""
+    texts = [it.strip(" ") for it in texts]
+    match_one = len(texts) % 2 == 0 and texts[-1] == "MATCH_ONE"
+    texts, wants = texts[: len(texts) - match_one], []
+    demand("ProbeSyntax", len(texts) % 2 and all(it in ("AND", "OR") for it in texts[1::2]))
+    words = [(operator, operand_of(word, wants)) for operator, word in zip(["OR", *texts[1::2]], texts[::2])]
+    return words, match_one, wants
+
+
+def member(value, key, kind):
+    """A member that has to be there, and be of this kind. A truth is no number."""
+    demand("MissingKey", key in value)
+    demand("WrongKind", isinstance(value[key], kind))
+    return value[key]
+
+
+def text_in(value, key, longest):
+    """A text of 1 byte to so many."""
+    text = member(value, key, str)
+    demand("OutOfRange", 1 <= len(text.encode()) <= longest)
+    return text
+
+
+def channel_of(value):
+    """The bus to which a fixed channel leads."""
+    demand("ExposeForm", not isinstance(value, str))
+    demand("WrongKind", type(value) is int)
+    demand("OutOfRange", 0 <= value <= 255)
+    return value
+
+
+def channels_of(expose):
+    """The buses that an expose opens."""
+    demand("WrongKind", isinstance(expose, dict))
+    demand("ExposeForm", "$" not in text_in(expose, "Name", LONGEST_EXPOSE_NAME))
+    demand("ExposeForm", text_in(expose, "Type", 64) == "Mux")
+    channels = member(expose, "Channels", list)
+    demand("OutOfRange", 1 <= len(channels) <= MOST_CHANNELS)
+    return [channel_of(it) for it in channels]
+
+
+def texts_of(probe):
+    """The texts of a probe, of which there are 1 to 33."""
+    texts = probe if isinstance(probe, list) else [probe]
+    demand("OutOfRange", 1 <= len(texts) <= MOST_WORDS)
+    demand("WrongKind", all(isinstance(it, str) for it in texts))
+    return texts
+
+
+def with_pattern(want):
+    """A text as the pattern that it is, and a number as it is."""
+    try:
+        return patterns.compiled(want) if isinstance(want, str) else want
+    except patterns.Bad:
+        raise Broken("PatternSyntax") from None
+
+
 def config_of(block):
-    """The name of a configuration, and the field and the text that its probe looks for, which are None where it is
-    always found. Raises Broken with the first rule that it breaks by itself."""
+    """The configuration of these bytes. Raises Broken with the first rule that it breaks by itself."""
     try:
         document = document_of(block)
     except ValueError:
         raise Broken("NotJson") from None
     demand("Fraction", not any(isinstance(it, float) for it in parts(document)))
     demand("WrongKind", isinstance(document, dict))
-    demand("MissingKey", "Name" in document)
-    name = document["Name"]
-    demand("WrongKind", isinstance(name, str))
-    demand("OutOfRange", 1 <= len(name.encode()) <= 64)
-    demand("MissingKey", "Probe" in document)
-    probe = document["Probe"]
-    demand("WrongKind", isinstance(probe, (str, list)))
-    found = isinstance(probe, str) and PLAIN_PROBE.fullmatch(probe)
-    demand("ProbeForm", found)
-    demand("ProbeForm", "Exposes" not in document)
-    return name, *found.groups()
+    name = text_in(document, "Name", 64)
+    words, match_one, wants = probe_of(texts_of(member(document, "Probe", (str, list))))
+    exposes = member(document, "Exposes", list) if "Exposes" in document else []
+    demand("OutOfRange", len(exposes) <= MOST_EXPOSES)
+    opens = [bus for it in exposes for bus in channels_of(it)]
+    wants = [{key: with_pattern(want) for key, want in it.items()} for it in wants]
+    return Config(name, words, match_one, wants, set(opens))
 
 
 def config(size, block, machine):
@@ -250,10 +342,27 @@ def config(size, block, machine):
     demand("ConfigShort", len(block) == size)
     found = config_of(block)
     demand("ConfigAfterPlug", not machine.plugged)
-    demand("DuplicateName", found[0] not in [name for name, _, _ in machine.configs])
+    demand("DuplicateName", found.name not in [it.name for it in machine.configs])
     demand("ConfigLimit", len(machine.configs) < MOST_CONFIGS)
     machine.configs.append(found)
+    machine.matched.append([set() for _ in found.wants])
     machine.had.append({})
+
+
+def is_wanted(want, text):
+    """Whether the text of a key, if there is one, is as a pattern wants it."""
+    if text is None:
+        return False
+    return text == str(want) if isinstance(want, int) else bool(want.search(text))
+
+
+def match(place, fields, machine):
+    """Notes the patterns that match the record at a place."""
+    texts = {**fields, "BUS": str(place[0]), "ADDRESS": str(place[1])}
+    for config, matched in zip(machine.configs, machine.matched):
+        for wants, places in zip(config.wants, matched):
+            if all(is_wanted(want, texts.get(key)) for key, want in wants.items()):
+                places.add(place)
 
 
 def plug(place, record, machine):
@@ -261,6 +370,14 @@ def plug(place, record, machine):
     demand("Occupied", place not in machine.present)
     machine.present[place] = fields_of(record)
     machine.plugged = True
+    match(place, machine.present[place], machine)
+
+
+def unplug(place, machine):
+    """Takes the FRU at a place away."""
+    demand("NotPresent", machine.present.pop(place, None) is not None)
+    for places in (it for matched in machine.matched for it in matched):
+        places.discard(place)
 
 
 def line_alone(line, machine):
@@ -272,17 +389,39 @@ def line_alone(line, machine):
     if plugged:
         plug(place, bytes.fromhex(plugged[3].decode()), machine)
     else:
-        demand("NotPresent", machine.present.pop(place, None) is not None)
+        unplug(place, machine)
+
+
+def found_on(buses, machine):
+    """The names of the configurations that are found over the FRUs on these buses. Each asks for those before it."""
+    found = set()
+    for config, matched in zip(machine.configs, machine.matched):
+        value = False
+        for operator, word in config.words:
+            if isinstance(word, str):
+                truth = word in found
+            elif isinstance(word, bool):
+                truth = word
+            else:
+                truth = any(bus in buses for bus, _ in matched[word])
+            value = value or truth if operator == "OR" else value and truth
+        if value:
+            found.add(config.name)
+    return found
 
 
 def boards_of(machine):
     """The boards that stand: each by the number of its configuration and its place, which is None where it has none.
     They are in the order of configurations, and for one of them in that of places."""
-    present = machine.present
-    places, boards = sorted(it for it in present if it[0] < VISIBLE), []
-    for number, (_, field, text) in enumerate(machine.configs):
-        found = [it for it in places if text in present[it].get(field, "")] if field else [None]
-        boards += [(number, place) for place in found]
+    buses, boards = set(range(ROOTS)), []
+    on_roots = found_on(buses, machine)
+    for config in machine.configs:
+        buses |= config.opens if config.name in on_roots else set()
+    found = found_on(buses, machine)
+    for number, (config, matched) in enumerate(zip(machine.configs, machine.matched)):
+        if config.name in found:
+            places = sorted(it for it in set().union(*matched) if it[0] in buses) or [None]
+            boards += [(number, place) for place in (places[:1] if config.match_one else places)]
     return boards
 
 
@@ -290,7 +429,7 @@ def board_line(change, board, machine):
     """The line of a board that is new or gone."""
     number, place = board
     where = f" at {place[0]} {place[1]}" if place else ""
-    return f"0 {change} board {quoted(machine.configs[number][0])} {machine.had[number][place]}{where}"
+    return f"0 {change} board {quoted(machine.configs[number].name)} {machine.had[number][place]}{where}"
 
 
 def changed(before, machine):

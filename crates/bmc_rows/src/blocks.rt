@@ -12,7 +12,7 @@ const LOWER: &str = r#"{"Name":"a","Probe":"TRUE"}"#;
 
 const ESCAPED: &str = r#"{"Name":"\u0041","Probe":"TRUE"}"#;
 
-const EXPOSING: &str = r#"{"Name":"A","Probe":"TRUE","Exposes":[]}"#;
+const EXPOSING: &str = r#"{"Name":"A","Probe":"TRUE","Exposes":[{"Name":"x","Type":"Fan"}]}"#;
 
 // What stands behind a block.
 const ENDS: [Row; 13] = [
@@ -175,12 +175,12 @@ const ORDERS: [Row; 16] = [
     (
         &[Config(EXPOSING), Text("\n"), Config(ALWAYS), Text("\n")],
         Refused,
-        "line 1 refused ProbeForm\n0 new board \"A\" 1\n",
+        "line 1 refused ExposeForm\n0 new board \"A\" 1\n",
     ),
     (
         &[Config(ALWAYS), Text("\n"), Config(EXPOSING), Text("\n")],
         Refused,
-        "0 new board \"A\" 1\nline 2 refused ProbeForm\n",
+        "0 new board \"A\" 1\nline 2 refused ExposeForm\n",
     ),
     (
         &[

@@ -36,7 +36,7 @@ const LONGER_MAKER: &str =
     r#"{"Name":"F","Probe":"xyz.openbmc_project.FruDevice({'BOARD_MANUFACTURER': 'ACMA'})"}"#;
 
 const SCRIPTS: [Row; 9] = [
-    // a FRU on a visible bus has a board, and the same on bus 20 has none
+    // a FRU on a root bus has a board, and the same on bus 20 has none
     (
         &[
             Config(PRODUCT),
@@ -48,7 +48,7 @@ const SCRIPTS: [Row; 9] = [
 fru 20 80$
 "#,
     ),
-    // the last visible bus, and the first that is not
+    // the last root bus, and the first bus that is none
     (
         &[
             Config(PRODUCT),

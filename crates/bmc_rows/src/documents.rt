@@ -1,4 +1,4 @@
-use crate::play::Part::{self, Block, Config, Nested};
+use crate::play::Part::{self, Block, Config, Nested, Repeats};
 use crate::play::{ALWAYS_BOARD, Row, play_parts};
 use bmc_replay::Status::{Done, Refused};
 use std::test::Fail;
@@ -11,20 +11,21 @@ const FOUND: &[Part] = &[
     ),
     Config(r#"{"Name":"A","Probe":"TRUE","exposes":[],"name":5,"":{}}"#),
     Config(r#"{"Name":"A","Probe":"TRUE","x":{"y":[1e9]},"x":{}}"#),
-];
-
-// Documents whose patterns no record matches, since there is none.
-const PATTERNS: &[Part] = &[
-    Config(
-        r#"{"Name":"R","Probe":"xyz.openbmc_project.FruDevice({'BOARD_MANUFACTURER': 'ACM'})"}"#,
-    ),
-    Config(r#"{"Name":"R","Probe":"xyz.openbmc_project.FruDevice({'BOARD_PRODUCT_NAME': '0'})"}"#),
-    Config(
-        r#"{"Name":"R","Probe":"xyz.openbmc_project.FruDevice({'BOARD_SERIAL_NUMBER': 'azAZ09'})"}"#,
-    ),
-    Config(r#"{"Name":"R","Probe":"xyz.openbmc_project.FruDevice({'BOARD_PART_NUMBER': 'P1'})"}"#),
-    Config(
-        r#"{"Name":"R","Probe":"xyz.openbmc_project.FruDevice({'BOARD_FRU_VERSION_ID': 'A1A1A1A1A1A1A1A1A1A1A1A1A1A1A1A1A1A1A1A1A1A1A1A1A1A1A1A1A1A1A1A1'})"}"#,
+    // spaces around a word, and lists of words
+    Config(r#"{"Name":"A","Probe":"TRUE "}"#),
+    Config(r#"{"Name":"A","Probe":" TRUE"}"#),
+    Config(r#"{"Name":"A","Probe":["  TRUE  "]}"#),
+    Config(r#"{"Name":"A","Probe":["TRUE"]}"#),
+    Config(r#"{"Name":"A","Probe":["TRUE"," MATCH_ONE "]}"#),
+    Config(r#"{"Name":"A","Probe":[" FALSE","OR ","TRUE"]}"#),
+    Config(r#"{"Name":"A","Probe":["TRUE","AND","TRUE","MATCH_ONE"]}"#),
+    Config(r#"{"Name":"A","Probe":["FOUND('A')","OR","TRUE"]}"#),
+    // 33 words
+    Repeats(
+        r#"{"Name":"A","Probe":["TRUE""#,
+        r#","OR","TRUE""#,
+        16,
+        "]}",
     ),
 ];
 
@@ -84,6 +85,8 @@ const FRACTIONS: &[Part] = &[
     Config(r#"{"Name":"A","Probe":"TRUE","x":-9223372036854775809}"#),
     Config(r#"{"Name":"A","Probe":"TRUE","Exposes":[{"Index":0.1}]}"#),
     Config(r#"{"Name":"A","Probe":"TRUE","x":1,"x":0.5}"#),
+    Config(r#"{"Name":"A","Probe":["x",0.5]}"#),
+    Config(r#"{"Name":"A","Probe":"x","Exposes":[{"Channels":[1.0]}]}"#),
 ];
 
 // Documents of the wrong kind, and those with such a name or probe.
@@ -102,6 +105,10 @@ const WRONG_KINDS: &[Part] = &[
     Config(r#"{"Name":"A","Probe":false}"#),
     Config(r#"{"Name":"A","Probe":{}}"#),
     Config(r#"{"Name":"A","Name":5,"Probe":"TRUE"}"#),
+    // words of a probe, before one that is wrong
+    Config(r#"{"Name":"A","Probe":["TRUE",5]}"#),
+    Config(r#"{"Name":"A","Probe":[null,"x"]}"#),
+    Config(r#"{"Name":"A","Probe":["x",["TRUE"]]}"#),
 ];
 
 // Documents without a name, and those without a probe.
@@ -116,7 +123,7 @@ const MISSING_KEYS: &[Part] = &[
     Config(r#"{"Name":"A","probe":"TRUE"}"#),
 ];
 
-// Documents whose name has no bytes, or more than 64.
+// Documents whose name has no bytes, or more than 64, and those with too few or too many words.
 const OUT_OF_RANGE: &[Part] = &[
     Config(r#"{"Name":""}"#),
     Config(r#"{"Name":"","Probe":5}"#),
@@ -124,79 +131,26 @@ const OUT_OF_RANGE: &[Part] = &[
         r#"{"Name":"aaaaaaaaaaaaaaaaaaaaaaaaaaaaaaaaaaaaaaaaaaaaaaaaaaaaaaaaaaaaaaaaa","Probe":"TRUE"}"#,
     ),
     Config(r#"{"Name":"ééééééééééééééééééééééééééééééééa","Probe":"TRUE"}"#),
-];
-
-// Documents with probes that are not plain, and those with exposes.
-const OTHER_FORMS: &[Part] = &[
+    // words: none, 34 with MATCH_ONE, 35, and 34 that are no texts
     Config(r#"{"Name":"A","Probe":[]}"#),
-    Config(r#"{"Name":"A","Probe":["TRUE"]}"#),
-    Config(r#"{"Name":"A","Probe":"TRUE","Exposes":[]}"#),
-    Config(r#"{"Name":"A","Probe":"TRUE","Exposes":null}"#),
-    Config(r#"{"Name":"A","Probe":"TRUE","Exposes":[{"Name":"x"}]}"#),
-    Config(r#"{"Name":"R","Probe":""}"#),
-    Config(r#"{"Name":"R","Probe":"true"}"#),
-    Config(r#"{"Name":"R","Probe":"TRUE "}"#),
-    Config(r#"{"Name":"R","Probe":" TRUE"}"#),
-    Config(r#"{"Name":"R","Probe":"FALSE"}"#),
-    Config(r#"{"Name":"R","Probe":"TRUE\n"}"#),
-    Config(r#"{"Name":"R","Probe":"xyz.openbmc_project.FruDevice({})"}"#),
-    Config(
-        r#"{"Name":"R","Probe":"xyz.openbmc_project.FruDevice({'PRODUCT_PRODUCT_NAME': 'RSR1'})"}"#,
+    Repeats(
+        r#"{"Name":"A","Probe":["TRUE""#,
+        r#","OR","TRUE""#,
+        16,
+        r#","MATCH_ONE"]}"#,
     ),
-    Config(
-        r#"{"Name":"R","Probe":"xyz.openbmc_project.FruDevice({'CHASSIS_PART_NUMBER': 'P1'})"}"#,
+    Repeats(
+        r#"{"Name":"A","Probe":["TRUE""#,
+        r#","OR","TRUE""#,
+        17,
+        "]}",
     ),
-    Config(
-        r#"{"Name":"R","Probe":"xyz.openbmc_project.FruDevice({'BOARD_MANUFACTURE_DATE': '1'})"}"#,
-    ),
-    Config(r#"{"Name":"R","Probe":"xyz.openbmc_project.FruDevice({'BOARD_INFO_AM1': 'A'})"}"#),
-    Config(r#"{"Name":"R","Probe":"xyz.openbmc_project.FruDevice({'board_product_name': 'A'})"}"#),
-    Config(r#"{"Name":"R","Probe":"xyz.openbmc_project.FruDevice({'BOARD_PRODUCT_NAME': ''})"}"#),
-    Config(
-        "{\"Name\":\"R\",\"Probe\":\"xyz.openbmc_project.FruDevice({'BOARD_PRODUCT_NAME': \
-        'A1A1A1A1A1A1A1A1A1A1A1A1A1A1A1A1A1A1A1A1A1A1A1A1A1A1A1A1A1A1A1A1A'})\"}",
-    ),
-    Config(
-        r#"{"Name":"R","Probe":"xyz.openbmc_project.FruDevice({'BOARD_PRODUCT_NAME': 'RSR-1'})"}"#,
-    ),
-    Config(
-        r#"{"Name":"R","Probe":"xyz.openbmc_project.FruDevice({'BOARD_PRODUCT_NAME': 'RSR 1'})"}"#,
-    ),
-    Config(r#"{"Name":"R","Probe":"xyz.openbmc_project.FruDevice({'BOARD_PRODUCT_NAME': '.*'})"}"#),
-    Config(r#"{"Name":"R","Probe":"xyz.openbmc_project.FruDevice({'BOARD_PRODUCT_NAME': 'é'})"}"#),
-    Config(
-        r#"{"Name":"R","Probe":"xyz.openbmc_project.FruDevice({'BOARD_PRODUCT_NAME': '\u0663'})"}"#,
-    ),
-    Config(
-        r#"{"Name":"R","Probe":"xyz.openbmc_project.FruDevice({'BOARD_PRODUCT_NAME':'RSR1'})"}"#,
-    ),
-    Config(
-        r#"{"Name":"R","Probe":"xyz.openbmc_project.FruDevice({'BOARD_PRODUCT_NAME' : 'RSR1'})"}"#,
-    ),
-    Config(
-        r#"{"Name":"R","Probe":"xyz.openbmc_project.FruDevice({ 'BOARD_PRODUCT_NAME': 'RSR1'})"}"#,
-    ),
-    Config(
-        r#"{"Name":"R","Probe":"xyz.openbmc_project.FruDevice ({'BOARD_PRODUCT_NAME': 'RSR1'})"}"#,
-    ),
-    Config(
-        r#"{"Name":"R","Probe":"xyz.openbmc_project.FruDevice({'BOARD_PRODUCT_NAME': 'RSR1'}) "}"#,
-    ),
-    Config(r#"{"Name":"R","Probe":"xyz.openbmc_project.FruDevice({'BOARD_PRODUCT_NAME': 'RSR1'"}"#),
-    Config(r#"{"Name":"R","Probe":"xyz.openbmc_project.FruDevice({'BOARD_PRODUCT_NAME': 5})"}"#),
-    Config(
-        r#"{"Name":"R","Probe":"xyz.openbmc_project.FruDevice({'BOARD_PRODUCT_NAME': 'RSR1', 'BOARD_PART_NUMBER': 'P1'})"}"#,
-    ),
-    Config(r#"{"Name":"R","Probe":"FruDevice({'BOARD_PRODUCT_NAME': 'RSR1'})"}"#),
-    Config(
-        r#"{"Name":"R","Probe":"xyz-openbmc_project.FruDevice({'BOARD_PRODUCT_NAME': 'RSR1'})"}"#,
-    ),
+    Repeats(r#"{"Name":"A","Probe":[0"#, ",0", 33, "]}"),
 ];
 
 // Documents that are answered alike: how a script of one of them ends, and what is printed.
-const DOCUMENTS: [Row; 15] = [
+const DOCUMENTS: [Row; 13] = [
     (FOUND, Done, ALWAYS_BOARD),
-    (PATTERNS, Done, ""),
     (
         &[Config(" {\t\"Probe\" : \"TRUE\" ,\n\"Name\" : \"A B\" }\r\n")],
         Done,
@@ -235,7 +189,6 @@ const DOCUMENTS: [Row; 15] = [
     (WRONG_KINDS, Refused, "line 1 refused WrongKind\n"),
     (MISSING_KEYS, Refused, "line 1 refused MissingKey\n"),
     (OUT_OF_RANGE, Refused, "line 1 refused OutOfRange\n"),
-    (OTHER_FORMS, Refused, "line 1 refused ProbeForm\n"),
 ];
 
 #[test]

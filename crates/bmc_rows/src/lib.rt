@@ -14,8 +14,16 @@ mod limits;
 #[cfg(test)]
 mod lines;
 #[cfg(test)]
+mod muxes;
+#[cfg(test)]
+mod patterns;
+#[cfg(test)]
 mod play;
+#[cfg(test)]
+mod probes;
 #[cfg(test)]
 mod records;
 #[cfg(test)]
 mod scripts;
+#[cfg(test)]
+mod words;

@@ -1,6 +1,7 @@
-use bmc_base::OutOfMemory;
+use bmc_base::{OutOfMemory, Silent, Steps};
 use bmc_io::{MemSink, MemSource};
 use bmc_replay::{Status, replay};
+use pat_gate::{ListMaker, PatternMaker, RegexMaker};
 use std::alloc::Global;
 use std::process::Abort;
 use std::str;
@@ -43,8 +44,13 @@ pub enum Part {
     Block(&'static [u8]),
     /// The line and a document in which so many arrays stand in one another.
     Nested(usize),
+    /// The line and a document in three parts, of which the second stands so many times.
+    Repeats(&'static str, &'static str, usize, &'static str),
     /// So many configurations that find a record with the product name `RSR9`. Their names are the numbers from 1.
     Many(usize),
+    /// So many configurations that each find a record with its name in the serial number. Their names are the numbers
+    /// from 1.
+    Numbered(usize),
 }
 
 /// A script, how its run ends, and what is printed, where `$` stands for the fields of the board record.
@@ -120,11 +126,37 @@ fn push_nested(script: &mut Vec<u8>, alloc: Global, arrays: usize) -> Result<(),
     push_block(script, alloc, document.as_bytes())
 }
 
+// Appends a document in three parts, of which the second stands so many times.
+fn push_repeats(
+    script: &mut Vec<u8>,
+    alloc: Global,
+    (head, part, count, tail): (&str, &str, usize, &str),
+) -> Result<(), OutOfMemory> {
+    let mut document = String::from_str(alloc, head)?;
+    for _ in 0..count {
+        document.push_str(part)?;
+    }
+    document.push_str(tail)?;
+    push_block(script, alloc, document.as_bytes())
+}
+
 // Appends so many configurations.
 fn push_many(script: &mut Vec<u8>, alloc: Global, count: usize) -> Result<(), OutOfMemory> {
     let probe = "xyz.openbmc_project.FruDevice({'BOARD_PRODUCT_NAME': 'RSR9'})";
     for number in 1..=count {
         let document = format!(in alloc; "{{\"Name\":\"{number}\",\"Probe\":\"{probe}\"}}")?;
+        push_block(script, alloc, document.as_bytes())?;
+    }
+    Ok(())
+}
+
+// Appends so many configurations with a pattern each.
+fn push_numbered(script: &mut Vec<u8>, alloc: Global, count: usize) -> Result<(), OutOfMemory> {
+    let head = "xyz.openbmc_project.FruDevice({'BOARD_SERIAL_NUMBER'";
+    for number in 1..=count {
+        let document = format!(in alloc;
+            "{{\"Name\":\"{number}\",\"Probe\":\"{head}: '{number}'}})\"}}"
+        )?;
         push_block(script, alloc, document.as_bytes())?;
     }
     Ok(())
@@ -145,7 +177,11 @@ fn push_part(script: &mut Vec<u8>, alloc: Global, part: Part) -> Result<(), OutO
         Part::Config(document) => push_block(script, alloc, document.as_bytes())?,
         Part::Block(bytes) => push_block(script, alloc, bytes)?,
         Part::Nested(arrays) => push_nested(script, alloc, arrays)?,
+        Part::Repeats(head, part, count, tail) => {
+            push_repeats(script, alloc, (head, part, count, tail))?;
+        }
         Part::Many(count) => push_many(script, alloc, count)?,
+        Part::Numbered(count) => push_numbered(script, alloc, count)?,
     }
     Ok(())
 }
@@ -159,6 +195,25 @@ pub fn script_of(alloc: Global, parts: &[Part]) -> Result<Vec<u8>, OutOfMemory> 
     Ok(script)
 }
 
+// Plays a script with the patterns that a maker compiles, and returns the status and what the sink took.
+fn played_with<R: Abort, M: PatternMaker>(
+    rt: &R,
+    alloc: Global,
+    script: &[u8],
+    outside: Outside,
+    maker: &mut M,
+) -> Result<(Status, Vec<u8>), OutOfMemory> {
+    assert!(rt; outside.takes > 0);
+    let pieces = [outside.gives];
+    assert!(rt; pieces.iter().all(|size| *size > 0));
+    let mut source = MemSource::new(alloc, script, &pieces, &[outside.read_fail])?;
+    let mut sink = MemSink::new(alloc, outside.takes, outside.room, &[outside.write_fail])?;
+    let mut steps = Steps::new(Silent);
+    let status = replay(alloc, &mut source, &mut sink, maker, &mut steps);
+    let text = Vec::from_slice(alloc, sink.bytes())?;
+    Ok((status, text))
+}
+
 /// Plays a script, and returns the status and what the sink took.
 pub fn played<R: Abort>(
     rt: &R,
@@ -166,14 +221,25 @@ pub fn played<R: Abort>(
     script: &[u8],
     outside: Outside,
 ) -> Result<(Status, Vec<u8>), OutOfMemory> {
-    assert!(rt; outside.takes > 0);
-    let pieces = [outside.gives];
-    assert!(rt; pieces.iter().all(|size| *size > 0));
-    let mut source = MemSource::new(alloc, script, &pieces, &[outside.read_fail])?;
-    let mut sink = MemSink::new(alloc, outside.takes, outside.room, &[outside.write_fail])?;
-    let status = replay(alloc, &mut source, &mut sink);
-    let text = Vec::from_slice(alloc, sink.bytes())?;
-    Ok((status, text))
+    played_with(rt, alloc, script, outside, &mut RegexMaker::new(alloc))
+}
+
+/// Plays a script with a maker that refuses one text as too large, and asserts that it refused this text once, how the
+/// run ends and what is printed.
+pub fn play_refusing<R: Abort>(
+    rt: &R,
+    alloc: Global,
+    script: &[u8],
+    too_large: &str,
+    status: Status,
+    text: &str,
+) -> Result<(), Fail> {
+    let mut maker = ListMaker::new(alloc, &[too_large])?;
+    let (ended, taken) = played_with(rt, alloc, script, SOUND, &mut maker)?;
+    assert_eq!(rt; str::from_utf8(taken.as_slice()), Ok(text));
+    assert_eq!(rt; ended, status);
+    assert_eq!(rt; maker.refused().len(), 1);
+    Ok(())
 }
 
 /// Plays a script, and asserts how its run ends and what the sink took.

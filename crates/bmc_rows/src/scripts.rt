@@ -90,7 +90,9 @@ const REFUSALS: [Row; 1] = [(
         Config("[]"),
         Config("{}"),
         Config(r#"{"Name":""}"#),
-        Config(r#"{"Name":"A","Probe":"FALSE"}"#),
+        Config(r#"{"Name":"A","Probe":"TRU"}"#),
+        Config(r#"{"Name":"A","Probe":"TRUE","Exposes":[{"Name":"x","Type":"Fan"}]}"#),
+        Config(r#"{"Name":"A","Probe":"xyz.openbmc_project.FruDevice({'BUS': '('})"}"#),
         Config(r#"{"Name":"1","Probe":"TRUE"}"#),
         Config(ALWAYS),
         Text("unplug 1 80\n"),
@@ -119,23 +121,25 @@ line 260 refused Fraction
 line 261 refused WrongKind
 line 262 refused MissingKey
 line 263 refused OutOfRange
-line 264 refused ProbeForm
-line 265 refused DuplicateName
-line 266 refused ConfigLimit
-line 267 refused NotPresent
-line 268 refused FruShort
-line 269 refused FruTooLong
-line 270 refused HeaderVersion
-line 271 refused HeaderChecksum
-line 272 refused AreaOutside Chassis
-line 273 refused AreaVersion Board
-line 274 refused AreaLength Product
-line 275 refused AreaChecksum Chassis
-line 276 refused FieldOutside Board
-line 277 refused NoEnd Product
-line 279 refused Occupied
-line 280 refused ConfigAfterPlug
-line 281 refused ConfigShort
+line 264 refused ProbeSyntax
+line 265 refused ExposeForm
+line 266 refused PatternSyntax
+line 267 refused DuplicateName
+line 268 refused ConfigLimit
+line 269 refused NotPresent
+line 270 refused FruShort
+line 271 refused FruTooLong
+line 272 refused HeaderVersion
+line 273 refused HeaderChecksum
+line 274 refused AreaOutside Chassis
+line 275 refused AreaVersion Board
+line 276 refused AreaLength Product
+line 277 refused AreaChecksum Chassis
+line 278 refused FieldOutside Board
+line 279 refused NoEnd Product
+line 281 refused Occupied
+line 282 refused ConfigAfterPlug
+line 283 refused ConfigShort
 fru 1 80$
 "#,
 )];

@@ -3,24 +3,29 @@ ghost use Rattle.bmc_replay.specs.Outside.{outside};
 ghost use Rattle.bmcreplay.specs.Ends.{Ends};
 
 use crate::statuses::{exit_code, reason_of};
+use bmc_base::{Ledger, Steps};
 use bmc_io::{Sink, Source};
 use bmc_replay::replay;
+use pat_gate::PatternMaker;
 use std::alloc::Global;
 use std::io::Write;
 use std::process::ExitCode;
 
-/// Replays the script of `input` to `output`, and writes to `errors` a line that says why it ended early,
-/// if it did. What becomes of that line is part of no clause.
-pub fn run<S: Source, K: Sink, E: Write>(
+/// Replays the script of `input` to `output`, with the patterns that `maker` compiles, and writes to `errors`
+/// a line that says why it ended early, if it did. What becomes of that line is part of no clause.
+pub fn run<S: Source, K: Sink, M: PatternMaker, L: Ledger, E: Write>(
     alloc: Global,
     input: &mut S,
     output: &mut K,
+    maker: &mut M,
+    steps: &mut Steps<L>,
     errors: &mut E,
 ) -> ExitCode
     // The process ends with the number of the status of this replay.
-    ensures { Ends (exit_status result) (outside (S.seen input.old) (K.seen output.old)) (outside (S.seen input.new) (K.seen output.new)) }
+    ensures { Ends (exit_status result) (outside (S.seen input.old) (K.seen output.old)) (outside (S.seen input.new) (K.seen output.new))
+        (M.seen maker.old) (M.seen maker.new) }
 {
-    let status = replay(alloc, input, output);
+    let status = replay(alloc, input, output, maker, steps);
     if let Some(reason) = reason_of(status) {
         let _written = errors.write_all(reason.as_bytes());
     }
