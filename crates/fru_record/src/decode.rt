@@ -5,7 +5,7 @@ ghost use Rattle.fru_area.specs.Headers.{unit, longest_area};
 ghost use Rattle.fru_area.specs.Names.{name_text};
 ghost use Rattle.fru_record.specs.Dates.{minutes_limit, minutes_of};
 ghost use Rattle.fru_record.specs.Records.{record_of, names_of, fields_start, is_english, fixed_fields, fields_of_area, fields_at};
-ghost use Rattle.fru_record.specs.Lookups.{text_named};
+ghost use Rattle.fru_record.specs.Lookups.{text_named, AreNamed};
 
 use crate::date::date_field;
 use bmc_base::OutOfMemory;
@@ -53,6 +53,14 @@ impl FruRecord {
         ensures { result.now ≡ self.now }
     {
         self.fields.as_slice()
+    }
+
+    /// Tells callers' proofs that each field has the name of one, so that a text that names no field finds
+    /// none. It does nothing.
+    pub fn fields_are_named(&self)
+        ensures { AreNamed self.now }
+    {
+        let _fields = &self.fields;
     }
 
     /// Returns the text of the first field with this name, as it is printed, or none where no field has it.

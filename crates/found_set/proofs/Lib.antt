@@ -1,0 +1,11 @@
+pub mod NamedLemmas
+pub mod FoundLemmas
+pub mod StepsLemmas
+pub mod BusesLemmas
+pub mod MarksLemmas
+pub mod RowsLemmas
+pub mod IdleLemmas
+pub mod InsidesLemmas
+pub mod EventsLemmas
+pub mod SetsLemmas
+pub mod LawsLemmas

@@ -1,0 +1,48 @@
+-- First over the root buses, then over those that are reachable.
+use Rattle.std.proofs.Common.{◌∙◌, ◌*◌, Bool, List, ap₂, false, length, arith, rules as plain, sym}
+use Rattle.std.proofs.lemmas.List.FromFn.{fill_by_all}
+use Rattle.found_set.specs.declared.facts.Facts.{Facts}
+use Rattle.found_set.specs.Found.{is_root, is_reached, is_found, matched_by, on_buses}
+use Rattle.found_set.specs.Rows.{sights_of}
+use Rattle.found_set.specs.Buses.{is_beyond}
+use Rattle.found_set.proofs.StepsLemmas.{evals_more}
+use Rattle.found_set.proofs.MarksLemmas.{first_marked, then_marked, still_marked}
+use Rattle.found_set.proofs.evaluate.evaluate.Goals as goal
+
+pub returns-then-not-are_on-clause-facts : goal.returns-then-not-are_on-clause-facts
+returns-then-not-are_on-clause-facts g c =
+    let rules = c.args.rules.now in
+    let rows = c.args.rows.now in
+    let sights = sights_of rows in
+    let one = first_marked rows c.mark.new.marks (c.mark.ensures is_root c.mark_roots-roots.ensures) in
+    let reached = c.reach_of-reach.ensures (c.found_by-first.ensures.found (matched_by (on_buses is_root sights)) one) in
+    let beyond = c.beyond_roots-beyond.ensures (is_reached rules sights) reached in
+    let none = sym (c.are_on.ensures (is_beyond (is_reached rules sights)) beyond) ∙ c.if-not-are_on.true in
+    let found = c.found_by-first.ensures.found (matched_by (on_buses (is_reached rules sights) sights)) (still_marked rules rows c.mark.new.marks one none) in
+    ap₂ (λ (found reach : List Bool). let f : Facts = record { found = found; reach = reach } in f)
+    (fill_by_all (is_found rules sights) c.found_by-first.result 256 false (search plain) found)
+    (fill_by_all (is_reached rules sights) c.reach_of-reach.result 256 false (search plain) reached)
+
+pub returns-clause-facts : goal.returns-clause-facts
+returns-clause-facts g c =
+    let rules = c.args.rules.now in
+    let rows = c.args.rows.now in
+    let sights = sights_of rows in
+    let one = first_marked rows c.mark.new.marks (c.mark.ensures is_root c.mark_roots-roots.ensures) in
+    let reached = c.reach_of-reach.ensures (c.found_by-first.ensures.found (matched_by (on_buses is_root sights)) one) in
+    let beyond = c.beyond_roots-beyond.ensures (is_reached rules sights) reached in
+    let two = then_marked rules rows c.mark.new.marks c.mark-2.new.marks one (c.mark-2.ensures (is_beyond (is_reached rules sights)) beyond) in
+    let found = c.found_by-found.ensures.found (matched_by (on_buses (is_reached rules sights) sights)) two in
+    ap₂ (λ (found reach : List Bool). let f : Facts = record { found = found; reach = reach } in f)
+    (fill_by_all (is_found rules sights) c.found_by-found.result 256 false (search plain) found)
+    (fill_by_all (is_reached rules sights) c.reach_of-reach.result 256 false (search plain) reached)
+
+pub returns-clause-counted : goal.returns-clause-counted
+returns-clause-counted g c =
+    let n = length c.args.rules.now in
+    record {
+      more = 2 * n;
+      within = omega arith;
+      counted = evals_more c.args.steps.now c.found_by-first.new.steps c.found_by-found.new.steps n n
+          (2 * n) c.found_by-first.ensures.counted c.found_by-found.ensures.counted (omega arith);
+    }

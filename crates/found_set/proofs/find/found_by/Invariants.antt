@@ -1,0 +1,13 @@
+use Rattle.std.proofs.Common.{◌≡◌, ◌≤◌, ℕ, Bool, false, [], take, drop, length}
+use Rattle.bmc_base.specs.Steps.{with_evals}
+use Rattle.found_set.specs.Marks.{is_marked, AreTrue}
+use Rattle.found_set.specs.Found.{found_from}
+use Rattle.found_set.proofs.find.found_by.Given as goal
+
+abbrev pub invariant-loop-i : goal.invariant-loop-i
+invariant-loop-i g l = record {
+  many : length l.found ≡ 256;
+  told : (test : ℕ → ℕ → Bool) → AreTrue l.marks test → found_from l.rules (drop l.i l.rules) test (take l.i l.found) ≡ found_from l.rules l.rules test [];
+  none : (n : ℕ) → l.i ≤ n → is_marked l.found n ≡ false;
+  counted : l.steps ≡ with_evals l.fn.steps l.i;
+}

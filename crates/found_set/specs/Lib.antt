@@ -1,0 +1,10 @@
+pub mod Marks
+pub mod Named
+pub mod Found
+pub mod Rows
+pub mod Buses
+pub mod Events
+pub mod Staging
+pub mod Sets
+pub mod Insides
+pub mod Laws

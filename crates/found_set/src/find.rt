@@ -1,0 +1,72 @@
+ghost use Rattle.std.specs.Prelude.{◌≡◌, ◌≤◌, ℕ, Bool, [], length};
+ghost use Rattle.bmc_base.specs.Steps.{with_evals};
+ghost use Rattle.found_set.specs.Marks.{is_marked, AreMarked, AreTrue, most_rules};
+ghost use Rattle.found_set.specs.Found.{found_from, names_of};
+ghost use Rattle.found_set.specs.Named.{AreNames};
+
+use crate::facts::MOST_RULES;
+use crate::marks::{MOST_PATTERNS, PATTERN_MARKS, is_marked};
+use crate::names::Names;
+use crate::rule::Rule;
+use bmc_base::{Ledger, Name, Steps};
+use probe_lang::Truths;
+
+// What is true of the patterns of one configuration, and of the configurations before it.
+#[derive(Drop)]
+struct Known<'a> {
+    names: &'a Names,
+    marks: &'a [bool; PATTERN_MARKS],
+    config: u8,
+    found: &'a [bool; MOST_RULES],
+}
+
+impl<'a> Truths for Known<'a> {
+    ghost use Rattle.std.specs.Prelude.{◌&&◌, nat_lt, bytes_eq, position};
+    ghost use Rattle.probe_lang.specs.Values.{most_patterns};
+    ghost use Rattle.found_set.specs.Marks.{is_true};
+    ghost use Rattle.found_set.specs.Named.{mark_of};
+
+    ghost patterns = { λ known number. nat_lt number most_patterns && is_true known.marks.now known.config number };
+
+    ghost founds = { λ known name. mark_of (position (bytes_eq name) known.names.now.names) known.found.now };
+
+    fn pattern(&self, n: u32) -> bool {
+        let pattern = n as usize;
+        pattern < MOST_PATTERNS && self.marks[MOST_PATTERNS * self.config as usize + pattern]
+    }
+
+    fn found(&self, name: &Name) -> bool {
+        match self.names.number(name) {
+            Some(number) => is_marked(self.found, number),
+            None => false,
+        }
+    }
+}
+
+// Marks the configurations that are found, each over those before it, where the patterns are true that are
+// marked.
+pub(crate) fn found_by<L: Ledger>(
+    rules: &[Rule<L>],
+    names: &Names,
+    marks: &[bool; PATTERN_MARKS],
+    steps: &mut Steps<L>,
+) -> [bool; MOST_RULES]
+    requires few { length rules.now ≤ most_rules }
+    requires named { AreNames names.now.names (names_of rules.now) }
+    ensures found { (test : ℕ → ℕ → Bool) → AreTrue marks.now test
+        → AreMarked result (is_marked (found_from rules.now rules.now test [])) }
+    ensures counted { steps.new ≡ with_evals steps.old (length rules.now) }
+{
+    let mut found = [false; MOST_RULES];
+    for (i, rule) in rules.iter().enumerate() {
+        let known = Known {
+            names,
+            marks,
+            config: i as u8,
+            found: &found,
+        };
+        let is_found = rule.holds(&known, steps);
+        found[i] = is_found;
+    }
+    found
+}

@@ -1,0 +1,119 @@
+ghost use Rattle.std.specs.Prelude.{◌≡◌, ℕ, Bool, ◌||◌, ◌&&◌, ◌≤◌, nat_eq, length};
+ghost use Rattle.std.specs.List.{list_any};
+ghost use Rattle.found_set.specs.Marks.{is_marked, AreMarked, most_rules};
+ghost use Rattle.found_set.specs.Found.{is_root, found, roots, is_reached};
+ghost use Rattle.found_set.specs.Rows.{sights_of};
+ghost use Rattle.found_set.specs.Buses.{leads, leads_on, fixed_opens, is_beyond};
+
+use crate::facts::{BUSES, MOST_RULES};
+use crate::marks::is_marked;
+use crate::parts::Parts;
+use crate::row::Row;
+use crate::rule::Rule;
+use bmc_base::Ledger;
+use probe_lang::Channel;
+
+// How many root buses there are: those with the lowest numbers.
+const ROOT_BUSES: usize = 16;
+
+// Marks the bus of a channel, if its configuration is found.
+fn open_channel(reach: &mut [bool; BUSES], channel: Channel, found: &[bool; MOST_RULES])
+    ensures { AreMarked reach.new (λ bus. is_marked reach.old bus || leads found.now bus channel) }
+{
+    if is_marked(found, channel.config as usize) {
+        reach[channel.bus as usize] = true;
+    }
+}
+
+// Marks the buses of the channels whose configurations are found.
+fn open_channels(reach: &mut [bool; BUSES], channels: &[Channel], found: &[bool; MOST_RULES])
+    ensures { AreMarked reach.new (λ bus. is_marked reach.old bus || list_any (leads found.now bus) channels.now) }
+{
+    for channel in channels {
+        open_channel(reach, *channel, found);
+    }
+}
+
+// Marks the buses to which the channels of a row lead, if it is on a root bus.
+pub(crate) fn open_row(reach: &mut [bool; BUSES], row: &Row, found: &[bool; MOST_RULES])
+    ensures { AreMarked reach.new (λ bus. is_marked reach.old bus || leads_on found.now bus row.now) }
+{
+    if (row.place.bus() as usize) < ROOT_BUSES {
+        open_channels(reach, row.channels.as_slice(), found);
+    }
+}
+
+// Marks the buses to which the channels of the rows on root buses lead.
+pub(crate) fn open_rows(reach: &mut [bool; BUSES], rows: &[Row], found: &[bool; MOST_RULES])
+    ensures { AreMarked reach.new (λ bus. is_marked reach.old bus || list_any (leads_on found.now bus) rows.now) }
+{
+    for row in rows {
+        open_row(reach, row, found);
+    }
+}
+
+// Marks these buses.
+fn open_fixed(reach: &mut [bool; BUSES], fixed: &[u8])
+    ensures { AreMarked reach.new (λ bus. is_marked reach.old bus || list_any (nat_eq bus) fixed.now) }
+{
+    for bus in fixed {
+        reach[*bus as usize] = true;
+    }
+}
+
+// Marks the buses of the fixed channels of a configuration, if it is found.
+fn open_rule<L: Ledger>(reach: &mut [bool; BUSES], rule: &Rule<L>, is_found: bool)
+    ensures { AreMarked reach.new (λ bus. is_marked reach.old bus || (is_found && list_any (nat_eq bus) rule.now.fixed)) }
+{
+    if is_found {
+        open_fixed(reach, rule.fixed());
+    }
+}
+
+// Marks the buses of the fixed channels of the configurations that are found.
+fn open_rules<L: Ledger>(reach: &mut [bool; BUSES], rules: &[Rule<L>], found: &[bool; MOST_RULES])
+    requires { length rules.now ≤ most_rules }
+    ensures { AreMarked reach.new (λ bus. is_marked reach.old bus || fixed_opens rules.now found.now bus) }
+{
+    for (i, rule) in rules.iter().enumerate() {
+        open_rule(reach, rule, found[i]);
+    }
+}
+
+// Marks the root buses.
+pub(crate) fn mark_roots() -> [bool; BUSES]
+    ensures { AreMarked result is_root }
+{
+    let mut roots = [false; BUSES];
+    for bus in 0..ROOT_BUSES {
+        roots[bus] = true;
+    }
+    roots
+}
+
+// Marks the reachable buses, where these configurations are found over the rows on root buses.
+pub(crate) fn reach_of<L: Ledger>(
+    rules: &[Rule<L>],
+    rows: &Parts<'_>,
+    first: &[bool; MOST_RULES],
+) -> [bool; BUSES]
+    requires { length rules.now ≤ most_rules }
+    ensures { AreMarked first.now (is_marked (found rules.now (roots (sights_of rows.now))))
+        → AreMarked result (is_reached rules.now (sights_of rows.now)) }
+{
+    let mut reach = mark_roots();
+    open_rules(&mut reach, rules, first);
+    rows.open(&mut reach, first);
+    reach
+}
+
+// Marks the buses that are marked here, but for the root buses.
+pub(crate) fn beyond_roots(reach: &[bool; BUSES]) -> [bool; BUSES]
+    ensures { (test : ℕ → Bool) → AreMarked reach.now test → AreMarked result (is_beyond test) }
+{
+    let mut beyond = *reach;
+    for bus in 0..ROOT_BUSES {
+        beyond[bus] = false;
+    }
+    beyond
+}
