@@ -94,7 +94,8 @@ fn plug(
     requires free { holds_place set.old.rows place ≡ false }
     requires known { config < length set.old.rules }
     ensures rules { OnOk result (set.new.rules ≡ set.old.rules) }
-    ensures rows { OnOk result (set.new.rows ≡ with_row (record { place = place; hits = record { config = config; pattern = 0 } ∷ []; channels = [] }) set.old.rows) }
+    ensures rows { OnOk result (set.new.rows
+        ≡ with_row (record { place = place; hits = record { config = config; pattern = 0 } ∷ []; channels = [] }) set.old.rows) }
 {
     let mut hits = Hits::new(alloc)?;
     hits.push(alloc, Hit { config, pattern: 0 })?;
@@ -129,5 +130,24 @@ fn entries_open_buses(rt: HostRuntime) -> Result<(), Fail> {
     assert_facts(&rt, &set.facts(), &[(0, true), (1, true)], true);
     set.commit(next);
     assert_facts(&rt, &set.facts(), &[(0, false), (1, false)], false);
+    Ok(())
+}
+
+#[test]
+fn idle_entries_cost_nothing(rt: HostRuntime) -> Result<(), Fail> {
+    let alloc = rt.alloc();
+    let mut steps = Steps::new(Silent);
+    let mut set = FoundSet::new(alloc)?;
+    configure(&mut set, alloc, RISER, &mut steps)?;
+    let entry = Entry {
+        place: Place::new(1, 80).unwrap(),
+        fru: FruRecord::decode(alloc, EMPTY)?,
+        hits: Hits::new(alloc)?,
+        channels: Channels::new(alloc)?,
+    };
+    let next = set.prepare_plug(alloc, &entry, &mut steps)?;
+    set.commit(next);
+    assert_facts(&rt, &set.facts(), &[(0, false)], false);
+    assert_eq!(rt; steps.evals(), 1);
     Ok(())
 }
