@@ -15,6 +15,8 @@ mod row;
 mod rule;
 mod set;
 mod staged;
+#[cfg(test)]
+mod tests;
 
 pub use facts::{Facts, MOST_RULES};
 pub use law::{idle_row, kept_is_scan, later_is_not_found, roots_are_reached};
