@@ -8,3 +8,4 @@ pub mod EventsLemmas
 pub mod RunsLemmas
 pub mod GatheringLemmas
 pub mod Along
+pub mod ReasonsLemmas

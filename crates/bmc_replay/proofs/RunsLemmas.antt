@@ -28,7 +28,7 @@ use Rattle.bmc_replay.specs.Steps.{Accepts, Refuses, IsTried, Tries}
 use Rattle.bmc_replay.specs.declared.run.Run.{Run}
 use Rattle.bmc_replay.specs.declared.run.Effect.{Effect}
 use Rattle.bmc_replay.specs.declared.run.Effect.TheVariants.{Nothing, Changed, Refused}
-use Rattle.bmc_replay.specs.Runs.{effect_text, effect_of, is_refused, IsAnswer, Answers, IsVerdict, AnswersItem, LeavesItem, CountsItem, TakesItem}
+use Rattle.bmc_replay.specs.Runs.{effect_text, effect_of, is_refused, IsAnswer, Answers, IsVerdict, AnswersItem, AnswersNext, LeavesItem, LeavesNext, CountsItem, TakesItem}
 
 -- nothing comes of it
 pub silent_answers : (view : View) → Answers (λ line past. silent past) Nothing view view
@@ -92,6 +92,15 @@ left_with item verdict maker maker_now is = record {
   tied = (is.tied, tt);
   large = is.large ∙ ap (λ (texts : List (List ℕ)). maker.refused ++ texts) (sym (append-nil (large_in verdict)));
 }
+
+-- what was answered and not counted
+pub left_answered : {L : Type 0} (item : Option Item) (effect : Option Effect) (old new : Run L) (maker maker_now : Maker)
+    → AnswersNext item effect old new maker maker_now → LeavesNext item maker maker_now
+left_answered None None old new maker maker_now answers = answers.1
+left_answered None (Some effect) old new maker maker_now answers = absurd answers
+left_answered (Some item) None old new maker maker_now answers = absurd answers
+left_answered (Some item) (Some effect) old new maker maker_now answers =
+    left_with item answers.0.verdict maker maker_now answers.0.is_verdict
 
 -- what reading a block answers is a verdict on it
 pub read_verdict : (bytes : List ℕ) (result : Result Config ConfigFault) (maker maker_now : Maker)

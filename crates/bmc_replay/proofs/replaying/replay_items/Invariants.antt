@@ -7,7 +7,8 @@ use Rattle.bmc_replay.proofs.replaying.replay_items.Given as goal
 abbrev pub invariant-items : goal.invariant-items
 invariant-items g l = record {
   along :
-      Along false (outside (g.S.Source.seen l.fn.input) (g.K.Sink.seen l.fn.output)) (outside (g.S.Source.seen l.input) (g.K.Sink.seen l.output)) l.items l.run;
+      Along false (outside (g.S.Source.seen l.fn.input) (g.K.Sink.seen l.fn.output)) (outside (g.S.Source.seen l.input) (g.K.Sink.seen l.output))
+      (g.M.PatternMaker.seen l.fn.maker) (g.M.PatternMaker.seen l.maker) l.items l.run;
   goes_on : l.items.ended ≡ false;
   number : l.run.number + length l.items.waiting ≤ l.items.read + 1;
   limit : l.items.read ≤ longest_script;
