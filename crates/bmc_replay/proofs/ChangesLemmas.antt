@@ -32,8 +32,8 @@ pub change_more : (gone : Bool) (configs : List Config) (kept : ℕ → List (Op
 change_more gone configs kept keys i key config start so_far now within is found before grown =
     let same : Board gone config.name (index_in (kept key.config) key.place) key.place ≡ board_change gone configs kept key =
     ap (λ (config : Option Config). Board gone (unwrap_or (option_map (λ config. config.name) config) []) (index_in (kept key.config) key.place) key.place) found in
-    grown ∙ ap (λ (front : List Change). front ++ _) before
-    ∙ append_assoc start (map (board_change gone configs kept) (take i keys)) _
+    grown ∙ ap (λ (front : List Change). front ++ Board gone config.name (index_in (kept key.config) key.place) key.place ∷ []) before
+    ∙ append_assoc start (map (board_change gone configs kept) (take i keys)) (Board gone config.name (index_in (kept key.config) key.place) key.place ∷ [])
     ∙ ap (λ (changes : List Change). start ++ changes)
       (ap (λ (change : Change). map (board_change gone configs kept) (take i keys) ++ change ∷ []) same
       ∙ sym (map-append (board_change gone configs kept) (take i keys) (key ∷ []))

@@ -1,4 +1,4 @@
-use Rattle.std.proofs.Common.{◌≡◌, ◌∙◌, [], true, refl, ap, sym, subst, append-nil, inl}
+use Rattle.std.proofs.Common.{◌∙◌, [], true, refl, ap, sym, subst, append-nil, inl}
 use Rattle.probe_lang.specs.declared.rows.Entry.{Entry}
 use Rattle.bmc_replay.specs.States.{View}
 use Rattle.bmc_replay.specs.Steps.{AddsFru}

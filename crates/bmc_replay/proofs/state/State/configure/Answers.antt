@@ -1,11 +1,10 @@
-use Rattle.std.proofs.Common.{arith, ◌≡◌, ◌∙◌, List, [], ◌∷◌, ◌++◌, map, length, None, refl, ap, sym, subst}
+use Rattle.std.proofs.Common.{arith, ◌∙◌, List, [], ◌∷◌, ◌++◌, map, length, None, refl, ap, sym, subst}
 use Rattle.std.proofs.lemmas.Bool.{lt-leb}
 use Rattle.cfg_json.specs.Shelves.{most_configs}
 use Rattle.probe_lang.specs.Sights.{entry_sight}
 use Rattle.cfg_json.specs.Configs.{Config}
-use Rattle.found_set.specs.Found.{rule_of, facts}
+use Rattle.found_set.specs.Found.{facts}
 use Rattle.found_set.specs.Rows.{sights_of}
-use Rattle.found_set.specs.Events.{ConfigEvent}
 use Rattle.found_set.specs.Sets.{SetView}
 use Rattle.found_set.specs.declared.next_facts.NextFacts.{NextFacts}
 use Rattle.inventory.specs.Boards.{boards_in}
@@ -16,7 +15,7 @@ use Rattle.bmc_replay.specs.Changes.{IsDifference, AreWithin}
 use Rattle.bmc_replay.specs.Steps.{Tries}
 use Rattle.bmc_replay.proofs.KeysLemmas.{moves}
 use Rattle.bmc_replay.proofs.StepsLemmas.{configured}
-use Rattle.bmc_replay.proofs.EventsLemmas.{on_err, no_number, new_name, rules_more, difference_is, gone_within, within_more, staged_within, tells_those, set_after, no_entries}
+use Rattle.bmc_replay.proofs.EventsLemmas.{on_err, no_number, new_name, rules_more, difference_is, gone_within, within_more, staged_within, tells_those, no_entries}
 use Rattle.bmc_replay.proofs.state.State.configure.Goals as goal
 
 pub prepare_config-requires-clause-new : goal.prepare_config-requires-clause-new

@@ -1,4 +1,4 @@
-use Rattle.std.proofs.Common.{◌≡◌, ◌∙◌, [], Option, None, refl, ap, sym, subst, append-nil, inr, false, true}
+use Rattle.std.proofs.Common.{◌∙◌, [], Option, None, refl, ap, sym, subst, append-nil, inr, true}
 use Rattle.probe_lang.specs.Presents.{without_entry, holds_place}
 use Rattle.found_set.specs.Found.{facts}
 use Rattle.found_set.specs.Rows.{sights_of}
