@@ -171,9 +171,10 @@ so_far_begins : (left left_now : Option (List ℕ)) (taken waiting : List ℕ) (
 so_far_begins None left_now taken waiting verdicts number so_far consumed machine = tt
 so_far_begins (Some script) None taken waiting verdicts number so_far consumed machine = absurd consumed
 so_far_begins (Some script) (Some rest) taken waiting verdicts number so_far consumed machine = λ later_verdicts.
-    let later : Answer = answers number so_far.past later_verdicts (items_of (waiting ++ rest)) in
-    (later.text ++ final_list (standing later.past).frus,
-    ap (out (verdicts ++ later_verdicts)) consumed ∙ ap with_list (machine.all rest later_verdicts) ∙ printed_after so_far later)
+    let later : Answer = answers number so_far.past later_verdicts (items_of (waiting ++ rest)) in (
+      later.text ++ final_list (standing later.past).frus,
+      ap (out (verdicts ++ later_verdicts)) consumed ∙ ap with_list (machine.all rest later_verdicts) ∙ printed_after so_far later,
+    )
 
 -- the script was what was taken, where the source was read to its end
 taken_all : (script taken rest : List ℕ) → script ≡ taken ++ rest → rest ≡ [] → script ≡ taken

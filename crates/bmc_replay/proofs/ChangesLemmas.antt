@@ -35,6 +35,6 @@ change_more gone configs kept keys i key config start so_far now within is found
     grown ∙ ap (λ (front : List Change). front ++ Board gone config.name (index_in (kept key.config) key.place) key.place ∷ []) before
     ∙ append_assoc start (map (board_change gone configs kept) (take i keys)) (Board gone config.name (index_in (kept key.config) key.place) key.place ∷ [])
     ∙ ap (λ (changes : List Change). start ++ changes)
-      (ap (λ (change : Change). map (board_change gone configs kept) (take i keys) ++ change ∷ []) same
-      ∙ sym (map-append (board_change gone configs kept) (take i keys) (key ∷ []))
-      ∙ ap (map (board_change gone configs kept)) (sym (take_more keys i key within ∙ ap (λ (last : BoardKey). take i keys ++ last ∷ []) (sym is))))
+    (ap (λ (change : Change). map (board_change gone configs kept) (take i keys) ++ change ∷ []) same
+    ∙ sym (map-append (board_change gone configs kept) (take i keys) (key ∷ []))
+    ∙ ap (map (board_change gone configs kept)) (sym (take_more keys i key within ∙ ap (λ (last : BoardKey). take i keys ++ last ∷ []) (sym is))))

@@ -133,8 +133,8 @@ pub difference_is : (configs configs_after : List Config) (before behind : Momen
     → rules_behind ≡ rules_of configs_after → rows_behind ≡ map row_of entries_after → behind.facts ≡ facts rules_behind (sights_of rows_behind)
     → behind.entries ≡ entries_after
     → ((found reach found_after reach_after : ℕ → Bool) → IsMarkedBy before.facts found reach → IsMarkedBy behind.facts found_after reach_after
-        → (gone ≡ keys_left (length configs) (boards_at configs found reach before) (boards_at configs_after found_after reach_after behind))
-        × (new ≡ keys_left (length configs_after) (boards_at configs_after found_after reach_after behind) (boards_at configs found reach before)))
+    → (gone ≡ keys_left (length configs) (boards_at configs found reach before) (boards_at configs_after found_after reach_after behind))
+    × (new ≡ keys_left (length configs_after) (boards_at configs_after found_after reach_after behind) (boards_at configs found reach before)))
     → IsDifference (length configs) (length configs_after) (boards_in configs (map entry_sight entries)) (boards_in configs_after (map entry_sight entries_after))
     gone new
 difference_is configs configs_after before behind rules rules_behind entries entries_after set_rows rows_behind gone new same rows_same facts_are entries_are

@@ -35,7 +35,7 @@ module _ (number : ℕ) where
   places_append front back =
       ap (map (λ (key : BoardKey). key.place)) (filter-append (λ (key : BoardKey). nat_eq key.config number) front back)
       ∙ map-append (λ (key : BoardKey). key.place) (filter (λ (key : BoardKey). nat_eq key.config number) front)
-        (filter (λ (key : BoardKey). nat_eq key.config number) back)
+      (filter (λ (key : BoardKey). nat_eq key.config number) back)
 
   places_own : (places : List (Option Place)) → places_of number (map (key_of number) places) ≡ places
   places_own [] = refl
@@ -56,16 +56,16 @@ module _ (number : ℕ) where
   places_outside places from (suc count) before =
       places_append (map (key_of from) (places from)) (keys_by places (from + 1) count)
       ∙ ap₂ (λ (front back : List (Option Place)). front ++ back)
-        (places_other from (places from) (false_from_ne_true _ (λ same. let is = eqb-true from number same in absurd (omega (arith, before, is)))))
-        (places_outside places (from + 1) count (omega (arith, before)))
+      (places_other from (places from) (false_from_ne_true _ (λ same. let is = eqb-true from number same in absurd (omega (arith, before, is)))))
+      (places_outside places (from + 1) count (omega (arith, before)))
 
   places_behind : (places : ℕ → List (Option Place)) (from count : ℕ) → from + count ≤ number → places_of number (keys_by places from count) ≡ []
   places_behind places from zero behind = refl
   places_behind places from (suc count) behind =
       places_append (map (key_of from) (places from)) (keys_by places (from + 1) count)
       ∙ ap₂ (λ (front back : List (Option Place)). front ++ back)
-        (places_other from (places from) (false_from_ne_true _ (λ same. let is = eqb-true from number same in absurd (omega (arith, behind, is)))))
-        (places_behind places (from + 1) count (omega (arith, behind)))
+      (places_other from (places from) (false_from_ne_true _ (λ same. let is = eqb-true from number same in absurd (omega (arith, behind, is)))))
+      (places_behind places (from + 1) count (omega (arith, behind)))
 
   places_within : (places : ℕ → List (Option Place)) (from count : ℕ) → from ≤ number → number < from + count
       → places_of number (keys_by places from count) ≡ places number
@@ -143,8 +143,8 @@ moves old new more gone fresh kept kept_now changes configs differs same tells k
   kept = λ number.
       ap (λ (lists : List (List (Option Place))). kept_of lists number) keeps ∙ tells.all_kept number
       ∙ ap₂ with_boards (same number)
-        (ap (places_of number) differs.those_new ∙ places_left number (length new.configs) (view_boards new) (view_boards old)
-        (λ few. no_boards new.configs _ number few));
+      (ap (places_of number) differs.those_new ∙ places_left number (length new.configs) (view_boards new) (view_boards old)
+      (λ few. no_boards new.configs _ number few));
   changes = told ∙ tells.told ∙ ap₂ (λ (front back : List Change). front ++ back) gone_changes fresh_changes;
 }
   where

@@ -197,7 +197,7 @@ answered_item {L} item effect old answered new maker maker_now same answers coun
         text =
             counts.text
             ∙ ap₂ (λ (text : List ℕ) (n : ℕ). text ++ effect_text (refused_line n) effect answered.state.changes)
-              (ap (λ (run : Run L). string_bytes run.text) same) (ap (λ (run : Run L). run.number) same)
+            (ap (λ (run : Run L). string_bytes run.text) same) (ap (λ (run : Run L). run.number) same)
             ∙ ap (λ (text : List ℕ). string_bytes old.text ++ text) is.text;
         refused =
             counts.refused

@@ -75,10 +75,10 @@ kept_after old new past step legal before held after moves number =
     ∙ ap₂ (λ (there here : List (Option Place)). with_boards there (except (has_board (view_boards old number)) here)) (held number) (after number)
     ∙ ap (λ (here : List (Option Place)). with_boards (kept past number) (except (has_board here) now)) (before number)
     ∙ with_boards_distinct (kept past number) (except (has_board (boards (standing past) number)) now)
-      (distinct_filter (option_eq place_eq) _ now (boards_differ (step ∷ past) number legal))
+    (distinct_filter (option_eq place_eq) _ now (boards_differ (step ∷ past) number legal))
     ∙ ap (λ (new : List (Option Place)). kept past number ++ new)
-      (except_twice (has_board (kept past number)) (has_board (boards (standing past) number)) now
-      (λ place has. all_pass (has_board (kept past number)) (boards (standing past) number) (kept_now past number) place has))
+    (except_twice (has_board (kept past number)) (has_board (boards (standing past) number)) now
+    (λ place has. all_pass (has_board (kept past number)) (boards (standing past) number) (kept_now past number) place has))
     ∙ sym (kept_next step past number)
   where
     now : List (Option Place)

@@ -13,7 +13,7 @@ returns-in_err-push_fru_row-clause-front g c =
 pub rows-preserved : goal.rows-preserved
 rows-preserved g c =
     let row = c.in_ok-push_fru_row.ensures
-        ∙ ap (λ (fields : List Field). string_bytes c.rows.text ++ fru_row c.entry-item.result.place fields) c.fields.ensures in
+    ∙ ap (λ (fields : List Field). string_bytes c.rows.text ++ fru_row c.entry-item.result.place fields) c.fields.ensures in
     record {
       rows = rows_more c.args.entries.now c.rows.entry-index c.entry-item.result _ _ _ _ _ _ _ c.rows-test.true c.entry-item.is c.rows.invariant.rows row
           c.in_ok-flush_large.ensures.all;
@@ -23,7 +23,7 @@ rows-preserved g c =
 pub returns-in_err-flush_large-clause-front : goal.returns-in_err-flush_large-clause-front
 returns-in_err-flush_large-clause-front g c =
     let row = c.in_ok-push_fru_row.ensures
-        ∙ ap (λ (fields : List Field). string_bytes c.rows.text ++ fru_row c.entry-item.result.place fields) c.fields.ensures in
+    ∙ ap (λ (fields : List Field). string_bytes c.rows.text ++ fru_row c.entry-item.result.place fields) c.fields.ensures in
     let p = err_from_is_err_and c.from_residual-in_err-flush_large.result c.from_residual-in_err-flush_large.ensures.1 in
     rw p.1 (rows_stopped c.args.entries.now c.rows.entry-index c.entry-item.result _ _ _ _ _ _ c.rows-test.true c.entry-item.is c.rows.invariant.rows row
     c.in_err-flush_large.ensures.front)

@@ -71,7 +71,7 @@ items-preserved g c =
     let number = numbered _ _ c.take.new.self _ _ c.advance.new.items.ended _ _ going c.in_ok-next.ensures.next.bytes c.in_ok-take.ensures.ok in
     record {
       along = along_told c.advance.new.items.ended false _ _ _ (g.K.Sink.seen c.flush_large.new.output) _ _
-    c.advance.new.items c.take.new.self (record c.take.new.self { text = c.flush_large.new.text }) going refl took c.in_ok-flush_large.ensures.all;
+          c.advance.new.items c.take.new.self (record c.take.new.self { text = c.flush_large.new.text }) going refl took c.in_ok-flush_large.ensures.all;
       goes_on = going;
       number = omega (arith, spent, number, c.items.invariant.number);
       limit = c.in_ok-next.ensures.limit.limit;

@@ -99,16 +99,16 @@ returns-clause-ok g c =
       plugged = refl;
       moves =
           moves old new [] _ _ _ _ _ (sym (append-nil c.self.inside.shelf)) (difference_is c.self.inside.shelf c.self.inside.shelf c.of-before.result c.with-after.result c.self.inside.set.rules c.self.inside.set.rules
-    c.self.inside.rows.entries c.plug.new.self.entries c.self.inside.set.rows _
-    c.in_ok-difference.difference.gone_boards c.in_ok-difference.difference.new_boards c.self.invariant.rules c.self.invariant.rows
-    (c.of-before.ensures.facts ∙ c.facts.ensures.current
-    ∙ ap (λ (set : SetView). facts set.rules (sights_of set.rows)) c.in_ok-next.ensures.ok)
-    (c.of-before.ensures.entries ∙ c.entries.ensures.value ∙ c.in_ok-reserve.ensures.entries) c.self.invariant.rules
-    (rows_plugged c.self.inside.set.rows c.self.inside.rows.entries c.plug.new.self.entries c.in_ok-entry.entry
-    c.self.invariant.rows (c.plug.ensures ∙ ap (with_entry c.in_ok-entry.entry) c.in_ok-reserve.ensures.entries))
-    (c.with-after.ensures.facts ∙ c.facts-2.ensures ∙ ap (λ (next : NextFacts). next.facts) c.in_ok-next.ensures.next)
-    (c.with-after.ensures.entries ∙ ap (with_entry c.in_ok-entry.entry) c.entries-2.ensures.value ∙ sym c.plug.ensures)
-    c.in_ok-difference.ensures) c.stage_changes.ensures.kept
+          c.self.inside.rows.entries c.plug.new.self.entries c.self.inside.set.rows _
+          c.in_ok-difference.difference.gone_boards c.in_ok-difference.difference.new_boards c.self.invariant.rules c.self.invariant.rows
+          (c.of-before.ensures.facts ∙ c.facts.ensures.current
+          ∙ ap (λ (set : SetView). facts set.rules (sights_of set.rows)) c.in_ok-next.ensures.ok)
+          (c.of-before.ensures.entries ∙ c.entries.ensures.value ∙ c.in_ok-reserve.ensures.entries) c.self.invariant.rules
+          (rows_plugged c.self.inside.set.rows c.self.inside.rows.entries c.plug.new.self.entries c.in_ok-entry.entry
+          c.self.invariant.rows (c.plug.ensures ∙ ap (with_entry c.in_ok-entry.entry) c.in_ok-reserve.ensures.entries))
+          (c.with-after.ensures.facts ∙ c.facts-2.ensures ∙ ap (λ (next : NextFacts). next.facts) c.in_ok-next.ensures.next)
+          (c.with-after.ensures.entries ∙ ap (with_entry c.in_ok-entry.entry) c.entries-2.ensures.value ∙ sym c.plug.ensures)
+          c.in_ok-difference.ensures) c.stage_changes.ensures.kept
           (tells_those c.self.inside.shelf c.in_ok-difference.difference.gone_boards c.in_ok-difference.difference.new_boards c.in_ok-gone.gone
           c.stage_changes.new.keep.staged _ _ _ c.in_ok-gone.ensures.gone c.in_ok-gone.ensures.staged c.tell_changes.ensures) refl refl;
     })
