@@ -1,3 +1,4 @@
 pub mod PlacesLemmas
 pub mod RowsLemmas
+pub mod BoxesLemmas
 pub mod MatchingLemmas

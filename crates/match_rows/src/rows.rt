@@ -1,6 +1,6 @@
 ghost use Rattle.std.specs.Prelude.{◌≡◌, ◌<◌, ◌≤◌, [], false, true, length, find, option_map, Some, IfOk, OnOk, IsTrue};
 ghost use Rattle.std.specs.Option.{is_some};
-ghost use Rattle.probe_lang.specs.Presents.{is_entry_at, holds_place, with_entry, without_entry, are_by_place};
+ghost use Rattle.probe_lang.specs.Presents.{unboxed, is_entry_at, holds_place, with_entry, without_entry, are_by_place};
 ghost use Rattle.match_rows.specs.Rows.{count_before};
 
 use bmc_base::{OutOfMemory, Place};
@@ -8,22 +8,23 @@ use probe_lang::Entry;
 use std::alloc::Global;
 use std::marker::Model;
 
-/// The entries of the FRUs that are present, by place, and room for more of them.
+/// The entries of the FRUs that are present, by place, and room for more of them. Each is in a box of its own, so
+/// that little moves where one comes or goes.
 #[derive(Drop)]
 pub struct Rows {
-    entries: Vec<Entry>,
+    entries: Vec<Box<Entry>>,
 }
 
 impl Model for Rows {
     ghost use Rattle.std.specs.Prelude.{◌-◌, IsTrue, vec_len, vec_capacity};
-    ghost use Rattle.probe_lang.specs.Presents.{are_by_place};
+    ghost use Rattle.probe_lang.specs.Presents.{unboxed, are_by_place};
     ghost use Rattle.match_rows.specs.Rows.{RowsView};
 
     ghost Value = { RowsView };
 
-    ghost view = { λ r. record { entries = r.entries.items; spare = vec_capacity r.entries - vec_len r.entries } };
+    ghost view = { λ r. record { entries = unboxed r.entries.items; spare = vec_capacity r.entries - vec_len r.entries } };
 
-    ghost invariant = { λ r. IsTrue (are_by_place r.entries.items) };
+    ghost invariant = { λ r. IsTrue (are_by_place (unboxed r.entries.items)) };
 }
 
 // How many entries new rows have room for.
@@ -49,8 +50,8 @@ impl Rows {
     }
 
     /// Borrows the entries, by place.
-    pub fn entries(&self) -> &[Entry]
-        ensures value { result.now ≡ self.now.entries }
+    pub fn entries(&self) -> &[Box<Entry>]
+        ensures value { unboxed result.now ≡ self.now.entries }
         ensures order { IsTrue (are_by_place self.now.entries) }
     {
         &self.entries
@@ -62,7 +63,8 @@ impl Rows {
         ensures held { is_some result ≡ holds_place self.now.entries place }
     {
         let position = self.count_before(place);
-        let entry = self.entries.get(position)?;
+        let stored = self.entries.get(position)?;
+        let entry: &Entry = stored;
         if entry.place == place {
             Some(entry)
         } else {
@@ -71,10 +73,10 @@ impl Rows {
     }
 
     /// Puts an entry among the others, where there is room and its place is free. It takes no memory.
-    pub fn plug(&mut self, entry: Entry)
+    pub fn plug(&mut self, entry: Box<Entry>)
         requires room { 0 < self.old.spare }
-        requires free { holds_place self.old.entries entry.place ≡ false }
-        ensures { self.new.entries ≡ with_entry entry self.old.entries }
+        requires free { holds_place self.old.entries entry.value.place ≡ false }
+        ensures { self.new.entries ≡ with_entry entry.value self.old.entries }
     {
         let position = self.count_before(entry.place);
         match self.entries.insert(position, entry) {
@@ -84,10 +86,10 @@ impl Rows {
     }
 
     /// Takes out the entry at a place that is held, and returns it. It takes no memory.
-    pub fn unplug(&mut self, place: Place) -> Entry
+    pub fn unplug(&mut self, place: Place) -> Box<Entry>
         requires held { holds_place self.old.entries place ≡ true }
         ensures entries { self.new.entries ≡ without_entry place self.old.entries }
-        ensures entry { find (is_entry_at place) self.old.entries ≡ Some result }
+        ensures entry { find (is_entry_at place) self.old.entries ≡ Some result.value }
     {
         let position = self.count_before(place);
         self.entries.remove(position)

@@ -15,11 +15,11 @@ const BOARD: &[u8; 32] =
 const EMPTY: &[u8; 8] = b"\x01\x00\x00\x00\x00\x00\x00\xFF";
 
 // The entry of a record, by a shelf without configurations.
-fn entry_of(alloc: Global, place: Place, bytes: &[u8]) -> Result<Entry, Fail> {
+fn entry_of(alloc: Global, place: Place, bytes: &[u8]) -> Result<Box<Entry>, Fail> {
     let fru = FruRecord::decode(alloc, bytes)?;
     let shelf: Shelf<Silent> = Shelf::new(alloc)?;
     let entry = make(alloc, place, fru, &shelf, &mut Steps::new(Silent))?;
-    Ok(entry)
+    Ok(Box::new(alloc, entry)?)
 }
 
 // Puts a record at a place, where it is free.
@@ -33,7 +33,7 @@ fn plug(rows: &mut Rows, alloc: Global, place: Place, bytes: &[u8]) -> Result<()
 }
 
 // Takes out the entry at a place, if there is one.
-fn unplug(rows: &mut Rows, place: Place) -> Option<Entry> {
+fn unplug(rows: &mut Rows, place: Place) -> Option<Box<Entry>> {
     if rows.entry(place).is_some() {
         Some(rows.unplug(place))
     } else {

@@ -1,9 +1,14 @@
 -- The entries of the FRUs that are present, by place.
-use Rattle.std.specs.Prelude.{Bool, true, not, ◌&&◌, if◌then◌else◌, List, [], ◌∷◌, filter, Option, Some, None}
+use Rattle.std.specs.Prelude.{Bool, true, not, ◌&&◌, if◌then◌else◌, List, [], ◌∷◌, filter, map, Option, Some, None}
 use Rattle.std.specs.List.{list_all, list_any}
+use Rattle.std.specs.Global.{Box}
 use Rattle.std.specs.Ordering.{is_lt, is_eq}
 use Rattle.bmc_base.specs.Places.{Place, place_cmp}
 use Rattle.probe_lang.specs.declared.rows.Entry.{Entry}
+
+-- what these boxes hold
+abbrev pub unboxed : List (Box Entry) → List Entry
+unboxed boxes = map (λ (entry : Box Entry). entry.value) boxes
 
 abbrev pub is_entry_at : Place → Entry → Bool
 is_entry_at place entry = is_eq (place_cmp place entry.place)

@@ -1,17 +1,19 @@
-use Rattle.std.proofs.Common.{◌≡◌, ◌∙◌, ◌<◌, ℕ, List, true, length, refl, sym, ap, ap₂, subst, slice_get, rules}
+use Rattle.std.proofs.Common.{◌≡◌, ◌∙◌, ◌<◌, ℕ, List, true, length, refl, sym, ap, ap₂, subst, rules}
+use Rattle.std.specs.Global.{Box}
 use Rattle.std.specs.List.{remove}
-use Rattle.std.proofs.lemmas.Option.{slice_get_read}
 use Rattle.bmc_base.specs.Places.{Place}
 use Rattle.probe_lang.specs.declared.rows.Entry.{Entry}
-use Rattle.probe_lang.specs.Presents.{are_by_place, holds_place}
+use Rattle.probe_lang.specs.Presents.{unboxed, are_by_place, holds_place}
 use Rattle.match_rows.specs.Rows.{RowsView, count_before}
 use Rattle.match_rows.proofs.RowsLemmas.{count_below, find_held, without_entry_at, without_entry_by_place}
+use Rattle.match_rows.proofs.BoxesLemmas.{length_unboxed, unboxed_remove, unboxed_at}
 use Rattle.match_rows.proofs.rows.Rows.unplug.Goals as goal
 
-position_within : (place : Place) (entries old : List Entry) (position : ℕ) → entries ≡ old → holds_place old place ≡ true
-    → position ≡ count_before place old → position < length entries
-position_within place entries old position same held value =
-    subst (λ (entries : List Entry). position < length entries) (sym same) (subst (λ (n : ℕ). n < length old) (sym value) (count_below place old held))
+position_within : (place : Place) (boxes : List (Box Entry)) (old : List Entry) (position : ℕ) → unboxed boxes ≡ old → holds_place old place ≡ true
+    → position ≡ count_before place old → position < length boxes
+position_within place boxes old position same held value =
+    subst (λ (count : ℕ). position < count) (length_unboxed boxes)
+    (subst (λ (entries : List Entry). position < length entries) (sym same) (subst (λ (n : ℕ). n < length old) (sym value) (count_below place old held)))
 
 pub remove-requires : goal.remove-requires
 remove-requires c =
@@ -24,8 +26,10 @@ remove-requires c =
 pub returns-clause-entries : goal.returns-clause-entries
 returns-clause-entries c =
     let old = c.args.self.now.entries in
-    let same : c.self.inside.entries.items ≡ old = ap (λ (rows : RowsView). rows.entries) c.self.view_is in
-    c.remove.ensures.items ∙ ap₂ (λ entries n. remove entries n) same c.count_before-position.ensures.value
+    let same : unboxed c.self.inside.entries.items ≡ old = ap (λ (rows : RowsView). rows.entries) c.self.view_is in
+    ap (λ (boxes : List (Box Entry)). unboxed boxes) c.remove.ensures.items
+    ∙ unboxed_remove c.self.inside.entries.items c.count_before-position.result
+    ∙ ap₂ (λ entries n. remove entries n) same c.count_before-position.ensures.value
     ∙ without_entry_at c.args.place old c.count_before-position.ensures.order c.requires.held
 
 pub invariant_of-self : goal.invariant_of-self
@@ -35,11 +39,10 @@ invariant_of-self c =
 
 pub returns-clause-entry : goal.returns-clause-entry
 returns-clause-entry c =
-    let entries = c.self.inside.entries.items in
+    let boxes = c.self.inside.entries.items in
     let old = c.args.self.now.entries in
     let position = c.count_before-position.result in
-    let same : entries ≡ old = ap (λ (rows : RowsView). rows.entries) c.self.view_is in
-    let within = position_within c.args.place entries old position same c.requires.held c.count_before-position.ensures.value in
+    let same : unboxed boxes ≡ old = ap (λ (rows : RowsView). rows.entries) c.self.view_is in
+    let within = position_within c.args.place boxes old position same c.requires.held c.count_before-position.ensures.value in
     find_held c.args.place old c.count_before-position.ensures.order c.requires.held
-    ∙ ap₂ (λ entries n. slice_get entries n) (sym same) (sym c.count_before-position.ensures.value)
-    ∙ slice_get_read entries (length entries) position c.remove.result refl within c.remove.ensures.value
+    ∙ unboxed_at boxes old position _ c.remove.result same c.count_before-position.ensures.value within c.remove.ensures.value
