@@ -20,7 +20,7 @@ use Rattle.found_set.specs.declared.row.Row.{Row}
 use Rattle.found_set.specs.Found.{Rule, rule_of, has_name, number_of, facts, is_found, is_reached}
 use Rattle.found_set.specs.Marks.{AreMarked, marks, mark_count}
 use Rattle.found_set.specs.Rows as rows
-use Rattle.found_set.specs.Rows.{row_of, sights_of, IsKnown}
+use Rattle.found_set.specs.Rows.{row_of, sights_of, is_idle, IsKnown}
 use Rattle.found_set.specs.Events.{Event, ConfigEvent, PlugEvent, UnplugEvent, rules_after, rows_after}
 use Rattle.found_set.specs.Sets.{SetView, after, as_staged, committed}
 use Rattle.inventory.specs.Boards as of_configs
@@ -32,7 +32,9 @@ use Rattle.inventory.proofs.MomentsLemmas.{with_among, found_apart}
 use Rattle.bmc_report.specs.declared.change.Change.{Change}
 use Rattle.bmc_replay.specs.Changes.{IsDifference, AreWithin, Tells}
 use Rattle.bmc_replay.proofs.KeysLemmas.{keys_within}
-use Rattle.bmc_replay.proofs.RowsLemmas.{rows_sights, rows_hold, rows_with, rows_without, entry_is_known}
+use Rattle.bmc_replay.specs.Insides.{busy}
+use Rattle.bmc_replay.proofs.BusyLemmas.{busy_facts, busy_free, busy_held, busy_with, busy_without}
+use Rattle.bmc_replay.proofs.RowsLemmas.{rows_sights, rows_hold, rows_without, entry_is_known}
 
 pub on_err : {T E P : Type 0} (result : Result T E) → P → OnErr result P
 on_err (Ok value) fact = tt
@@ -41,15 +43,16 @@ on_err (Err fault) fact = fact
 -- ---- what the set asks for
 
 pub new_place : (set_rows : List Row) (entries : List Entry) (entry : Entry) (configs : List Config) (place : Place) (fields : List Field)
-    → set_rows ≡ map row_of entries → entry ≡ entry_of configs place fields → presents.holds_place entries place ≡ false
+    → set_rows ≡ busy (map row_of entries) → entry ≡ entry_of configs place fields → presents.holds_place entries place ≡ false
     → rows.holds_place set_rows entry.place ≡ false
 new_place set_rows entries entry configs place fields same is free =
-    ap₂ (λ (set_rows : List Row) (entry : Entry). rows.holds_place set_rows entry.place) same is ∙ rows_hold entries place ∙ free
+    ap₂ (λ (set_rows : List Row) (entry : Entry). rows.holds_place set_rows entry.place) same is
+    ∙ busy_free (map row_of entries) place (rows_hold entries place ∙ free)
 
-pub held_place : (set_rows : List Row) (entries : List Entry) (place : Place) (held : Bool) → set_rows ≡ map row_of entries
-    → presents.holds_place entries place ≡ held → rows.holds_place set_rows place ≡ held
-held_place set_rows entries place held same is =
-    ap (λ (set_rows : List Row). rows.holds_place set_rows place) same ∙ rows_hold entries place ∙ is
+pub held_place : (set_rows : List Row) (entries : List Entry) (place : Place) (entry : Entry) → set_rows ≡ busy (map row_of entries)
+    → find (is_entry_at place) entries ≡ Some entry → is_idle (row_of entry) ≡ false → rows.holds_place set_rows place ≡ true
+held_place set_rows entries place entry same found works =
+    ap (λ (set_rows : List Row). rows.holds_place set_rows place) same ∙ busy_held place entry entries found works
 
 pub known_entry : (rules : List Rule) (configs : List Config) (entry : Entry) (place : Place) (fields : List Field) → rules ≡ rules_of configs
     → entry ≡ entry_of configs place fields → IsKnown rules (row_of entry)
@@ -121,16 +124,16 @@ boards_same configs moment entries same number =
     (is_reached (rules_of configs) (map entry_sight entries)) (record { facts = moment.facts; entries = there }) number) same
 
 facts_same : (held : Facts) (configs : List Config) (rules : List Rule) (set_rows : List Row) (entries : List Entry) → held ≡ facts rules (sights_of set_rows)
-    → rules ≡ rules_of configs → set_rows ≡ map row_of entries → held ≡ facts (rules_of configs) (map entry_sight entries)
+    → rules ≡ rules_of configs → set_rows ≡ busy (map row_of entries) → held ≡ facts (rules_of configs) (map entry_sight entries)
 facts_same held configs rules set_rows entries is same rows_same =
     is ∙ ap₂ (λ (rules : List Rule) (set_rows : List Row). facts rules (sights_of set_rows)) same rows_same
-    ∙ ap (facts (rules_of configs)) (rows_sights entries)
+    ∙ busy_facts (rules_of configs) (map row_of entries) ∙ ap (facts (rules_of configs)) (rows_sights entries)
 
 -- what comparing the two moments gives, over what is known at each
 pub difference_is : (configs configs_after : List Config) (before behind : Moment) (rules rules_behind : List Rule) (entries entries_after : List Entry)
     (set_rows rows_behind : List Row) (gone new : List BoardKey)
-    → rules ≡ rules_of configs → set_rows ≡ map row_of entries → before.facts ≡ facts rules (sights_of set_rows) → before.entries ≡ entries
-    → rules_behind ≡ rules_of configs_after → rows_behind ≡ map row_of entries_after → behind.facts ≡ facts rules_behind (sights_of rows_behind)
+    → rules ≡ rules_of configs → set_rows ≡ busy (map row_of entries) → before.facts ≡ facts rules (sights_of set_rows) → before.entries ≡ entries
+    → rules_behind ≡ rules_of configs_after → rows_behind ≡ busy (map row_of entries_after) → behind.facts ≡ facts rules_behind (sights_of rows_behind)
     → behind.entries ≡ entries_after
     → ((found reach found_after reach_after : ℕ → Bool) → IsMarkedBy before.facts found reach → IsMarkedBy behind.facts found_after reach_after
     → (gone ≡ keys_left (length configs) (boards_at configs found reach before) (boards_at configs_after found_after reach_after behind))
@@ -189,15 +192,17 @@ pub set_after : (event : Event) (set staged_set now : SetView) → staged_set �
 set_after event set staged_set now staged commits =
     let is = commits ∙ ap committed staged in (ap (λ (set : SetView). set.rules) is, ap (λ (set : SetView). set.rows) is)
 
-pub rows_plugged : (set_rows : List Row) (entries entries_now : List Entry) (entry : Entry) → set_rows ≡ map row_of entries → entries_now ≡ with_entry entry entries
-    → rows_after (PlugEvent (row_of entry)) set_rows ≡ map row_of entries_now
-rows_plugged set_rows entries entries_now entry same now =
-    ap (rows.with_row (row_of entry)) same ∙ rows_with entry entries ∙ ap (map row_of) (sym now)
+pub rows_plugged : (set_rows : List Row) (entries entries_now : List Entry) (entry : Entry) → set_rows ≡ busy (map row_of entries)
+    → presents.are_by_place entries ≡ true → is_idle (row_of entry) ≡ false → entries_now ≡ with_entry entry entries
+    → rows_after (PlugEvent (row_of entry)) set_rows ≡ busy (map row_of entries_now)
+rows_plugged set_rows entries entries_now entry same order works now =
+    ap (rows.with_row (row_of entry)) same ∙ busy_with entry entries order works ∙ ap (λ (there : List Entry). busy (map row_of there)) (sym now)
 
-pub rows_unplugged : (set_rows : List Row) (entries entries_now : List Entry) (place : Place) → set_rows ≡ map row_of entries
-    → entries_now ≡ without_entry place entries → rows_after (UnplugEvent place) set_rows ≡ map row_of entries_now
+pub rows_unplugged : (set_rows : List Row) (entries entries_now : List Entry) (place : Place) → set_rows ≡ busy (map row_of entries)
+    → entries_now ≡ without_entry place entries → rows_after (UnplugEvent place) set_rows ≡ busy (map row_of entries_now)
 rows_unplugged set_rows entries entries_now place same now =
-    ap (rows.without_row place) same ∙ rows_without place entries ∙ ap (map row_of) (sym now)
+    ap (rows.without_row place) same ∙ busy_without place (map row_of entries)
+    ∙ ap busy (rows_without place entries ∙ ap (map row_of) (sym now))
 
 -- no FRU is left where none was ever plugged
 pub none_left : (plugged : Bool) (entries entries_now : List Entry) (place : Place) → (plugged || (length entries == 0)) ≡ true

@@ -2,7 +2,7 @@
 use Rattle.std.proofs.Common.{◌≡◌, ℕ, zero, suc, ◌+◌, ◌<◌, ◌≤◌, List, [], ◌∷◌, ◌++◌, map, length, Bool, true, false, not, cond, refl, ap, ap₂, sym, ◌∙◌, arith, subst}
 use Rattle.std.specs.Prelude.{◌||◌}
 use Rattle.std.specs.List.{All}
-use Rattle.std.specs.Ordering.{is_lt, is_eq}
+use Rattle.std.specs.Ordering.{is_eq}
 use Rattle.std.proofs.lemmas.List.{length-map}
 use Rattle.std.proofs.lemmas.List.Elements.{All-nil, All-cons, All-append}
 use Rattle.bmc_base.specs.Places.{Place, place_cmp}
@@ -27,16 +27,6 @@ rows_sights (entry ∷ entries) = ap (λ (later : List Sight). entry_sight entry
 pub rows_hold : (entries : List Entry) (place : Place) → rows.holds_place (map row_of entries) place ≡ presents.holds_place entries place
 rows_hold [] place = refl
 rows_hold (entry ∷ entries) place = ap (λ (later : Bool). is_eq (place_cmp place entry.place) || later) (rows_hold entries place)
-
-pub rows_with : (entry : Entry) (entries : List Entry) → rows.with_row (row_of entry) (map row_of entries) ≡ map row_of (presents.with_entry entry entries)
-rows_with entry [] = refl
-rows_with entry (other ∷ entries) = by (is_lt (place_cmp entry.place other.place)) (rows_with entry entries)
-  where
-    by : (is_before : Bool) → rows.with_row (row_of entry) (map row_of entries) ≡ map row_of (presents.with_entry entry entries)
-        → cond is_before (row_of entry ∷ row_of other ∷ map row_of entries) (row_of other ∷ rows.with_row (row_of entry) (map row_of entries))
-        ≡ map row_of (cond is_before (entry ∷ other ∷ entries) (other ∷ presents.with_entry entry entries))
-    by true rest = refl
-    by false rest = ap (λ (later : List Row). row_of other ∷ later) rest
 
 pub rows_without : (place : Place) (entries : List Entry) → rows.without_row place (map row_of entries) ≡ map row_of (presents.without_entry place entries)
 rows_without place [] = refl

@@ -1,7 +1,8 @@
 ghost use Rattle.std.specs.Prelude.{◌≡◌, [], false, IfOk, OnOk, OnErr, Some};
 ghost use Rattle.bmc_machine.specs.Histories as histories;
 ghost use Rattle.bmc_replay.specs.States.{no_view, IsSame};
-ghost use Rattle.probe_lang.specs.Presents.{holds_place};
+ghost use Rattle.found_set.specs.Rows.{row_of, is_idle};
+ghost use Rattle.probe_lang.specs.Presents.{unboxed, holds_place};
 ghost use Rattle.bmc_replay.specs.Steps.{AddsFru, Tries};
 
 use crate::changes::{fixed_channels, stage_changes, tell_changes};
@@ -41,6 +42,13 @@ impl<L: Ledger> Model for State<L> {
     ghost invariant = { IsSound };
 }
 
+// Whether a FRU has neither hits nor channels. The found set has no row of it, and no board changes with it.
+fn is_idle(entry: &Entry) -> bool
+    ensures { result ≡ is_idle (row_of entry.now) }
+{
+    entry.hits.as_slice().is_empty() && entry.channels.as_slice().is_empty()
+}
+
 impl<L: Ledger> State<L> {
     /// Returns the state in which nothing has happened.
     pub fn new(alloc: Global) -> Result<State<L>, OutOfMemory>
@@ -61,8 +69,8 @@ impl<L: Ledger> State<L> {
     }
 
     /// Borrows the entries of the FRUs that are present, by place.
-    pub fn entries(&self) -> &[Entry]
-        ensures { result.now ≡ self.now.entries }
+    pub fn entries(&self) -> &[Box<Entry>]
+        ensures { unboxed result.now ≡ self.now.entries }
     {
         self.rows.entries()
     }
@@ -159,9 +167,15 @@ impl<L: Ledger> State<L> {
         ensures ok { OnOk result (AddsFru place fru self.old self.new) }
         ensures same { OnErr result (IsSame self.old self.new) }
     {
-        let entry = make(alloc, place, fru, &self.shelf, steps)?;
-        let next = self.set.prepare_plug(alloc, &entry, steps)?;
+        let entry = Box::new(alloc, make(alloc, place, fru, &self.shelf, steps)?)?;
         self.rows.reserve(alloc)?;
+        if is_idle(&entry) {
+            self.rows.plug(entry);
+            self.plugged = true;
+            self.changes.clear();
+            return Ok(());
+        }
+        let next = self.set.prepare_plug(alloc, &entry, steps)?;
         let before = Moment::of(self.set.facts(), self.rows.entries());
         let after = Moment::with(next.facts(), self.rows.entries(), &entry);
         let difference = difference_by(alloc, &self.shelf, &entry, &before, &after)?;
@@ -187,6 +201,11 @@ impl<L: Ledger> State<L> {
         let Some(entry) = self.rows.entry(place) else {
             return Ok(self.refuse(Refusal::NotPresent));
         };
+        if is_idle(entry) {
+            self.rows.unplug(place);
+            self.changes.clear();
+            return Ok(None);
+        }
         let next = self.set.prepare_unplug(alloc, place, steps)?;
         let before = Moment::of(self.set.facts(), self.rows.entries());
         let after = Moment::without(next.facts(), self.rows.entries(), place);

@@ -1,0 +1,154 @@
+-- FRUs without hits and channels change nothing that is found, reachable or a board.
+use Rattle.std.proofs.Common.{◌≡◌, ℕ, zero, suc, ◌+◌, List, [], ◌∷◌, ◌++◌, map, filter, length, Bool, true, false, not, cond, ◌&&◌, ◌||◌, ◌==◌, nat_eq, Option, Some, None, refl, ap, ap₂, sym, ◌∙◌, inl}
+use Rattle.std.specs.Prelude.{slice_get, option_map}
+use Rattle.std.specs.List.{list_any, flat_map, range_with_len}
+use Rattle.std.specs.Option.{option_eq, unwrap_or}
+use Rattle.bmc_base.specs.Places.{Place, place_eq}
+use Rattle.probe_lang.specs.Sights.{Sight, entry_sight, has_hit, has_config, has_channel}
+use Rattle.probe_lang.specs.declared.rows.Entry.{Entry}
+use Rattle.probe_lang.specs.declared.rows.Hit.{Hit}
+use Rattle.probe_lang.specs.declared.rows.Channel.{Channel}
+use Rattle.cfg_json.specs.Configs.{Config}
+use Rattle.found_set.specs.declared.row.Row.{Row}
+use Rattle.found_set.specs.Marks.{is_marked}
+use Rattle.found_set.specs.Found.{Rule, found_from, found, matched_by, on_buses, is_root, roots, moves_to, opens, is_reached, is_found}
+use Rattle.found_set.specs.Rows.{row_of, is_idle}
+use Rattle.found_set.proofs.IdleLemmas.{idle_parts}
+use Rattle.inventory.specs.Boards.{boards_in, board_places, config_places, hit_places, places_or_none, rules_of, has_board}
+use Rattle.inventory.specs.Indexes.{kept_of, except, with_boards}
+use Rattle.inventory.specs.Differences.{keys_left, key_of}
+use Rattle.inventory.specs.Moments.{IsAmong, AreSeenAlike}
+use Rattle.inventory.proofs.BoardLemmas.{pass_all, except_none}
+use Rattle.inventory.proofs.MomentsLemmas.{hits_stay}
+use Rattle.inventory.specs.declared.board.BoardKey.{BoardKey}
+use Rattle.bmc_machine.specs.Changes.{Inventory, changes_between, board_change}
+use Rattle.bmc_report.specs.declared.change.Change.{Change}
+use Rattle.bmc_replay.specs.States.{View, view_boards, view_inventory, Moves}
+
+-- ---- what is found and reachable over FRUs of which as much is seen
+
+opens_alike : (number : ℕ) (rules : List Rule) (marks : List Bool) (sights others : List Sight) (bus : ℕ)
+    → ((config : ℕ) → moves_to sights config bus ≡ moves_to others config bus) → opens number rules marks sights bus ≡ opens number rules marks others bus
+opens_alike number [] marks sights others bus alike = refl
+opens_alike number (rule ∷ rules) [] sights others bus alike = refl
+opens_alike number (rule ∷ rules) (first ∷ later) sights others bus alike =
+    ap₂ (λ (moved more : Bool). (first && (list_any (nat_eq bus) rule.fixed || moved)) || more) (alike number)
+    (opens_alike (number + 1) rules later sights others bus alike)
+
+module _ (sights others : List Sight)
+    (matched : (test : ℕ → Bool) (config pattern : ℕ) → matched_by (on_buses test sights) config pattern ≡ matched_by (on_buses test others) config pattern)
+    (moved : (config bus : ℕ) → moves_to (roots sights) config bus ≡ moves_to (roots others) config bus) (rules : List Rule) where
+  found_alike : (test : ℕ → Bool) → found rules (on_buses test sights) ≡ found rules (on_buses test others)
+  found_alike test =
+      let same : matched_by (on_buses test sights) ≡ matched_by (on_buses test others) = λ i config pattern. matched test config pattern i in
+      ap (λ (test : ℕ → ℕ → Bool). found_from rules rules test []) same
+
+  reached_alike : is_reached rules sights ≡ is_reached rules others
+  reached_alike = λ i bus. at bus i
+    where
+      at : (bus : ℕ) → is_reached rules sights bus ≡ is_reached rules others bus
+      at bus =
+          ap (λ (opened : Bool). is_root bus || opened)
+          (opens_alike 0 rules (found rules (roots sights)) (roots sights) (roots others) bus (λ config. moved config bus)
+          ∙ ap (λ (marks : List Bool). opens 0 rules marks (roots others) bus) (found_alike is_root))
+
+  is_found_alike : is_found rules sights ≡ is_found rules others
+  is_found_alike = λ i number. at number i
+    where
+      at : (number : ℕ) → is_found rules sights number ≡ is_found rules others number
+      at number =
+          ap (λ (marks : List Bool). is_marked marks number)
+          (found_alike (is_reached rules sights) ∙ ap (λ (test : ℕ → Bool). found rules (on_buses test others)) reached_alike)
+
+-- ---- one FRU that shows nothing, among others
+
+alike_self : (reach : ℕ → Bool) (entries : List Entry) → AreSeenAlike reach reach entries
+alike_self reach [] = tt
+alike_self reach (entry ∷ entries) = (refl, alike_self reach entries)
+
+module _ (entry : Entry) (hits : entry.hits ≡ []) (channels : entry.channels ≡ []) where
+  shows_none : (config pattern : ℕ) → (entry_sight entry).matched config pattern ≡ false
+  shows_none config pattern = ap (λ (hits : List Hit). has_hit hits config pattern) hits
+
+  leads_nowhere : (config bus : ℕ) → (entry_sight entry).opened config bus ≡ false
+  leads_nowhere config bus = ap (λ (channels : List Channel). has_channel channels config bus) channels
+
+  has_no_hit : (number : ℕ) → (entry_sight entry).hit number ≡ false
+  has_no_hit number = ap (λ (hits : List Hit). has_config hits number) hits
+
+  -- a test that it fails, over the FRUs on some buses
+  any_among : (buses : ℕ → Bool) (test : Sight → Bool) → test (entry_sight entry) ≡ false → (front back : List Entry)
+      → list_any test (on_buses buses (map entry_sight (front ++ entry ∷ back))) ≡ list_any test (on_buses buses (map entry_sight (front ++ back)))
+  any_among buses test fails [] back = by (buses entry.place.bus)
+    where
+      by : (is_on : Bool)
+          → list_any test (cond is_on (entry_sight entry ∷ on_buses buses (map entry_sight back)) (on_buses buses (map entry_sight back)))
+          ≡ list_any test (on_buses buses (map entry_sight back))
+      by true = ap (λ (here : Bool). here || list_any test (on_buses buses (map entry_sight back))) fails
+      by false = refl
+  any_among buses test fails (other ∷ front) back = by (buses other.place.bus) (any_among buses test fails front back)
+    where
+      by : (is_on : Bool)
+          → list_any test (on_buses buses (map entry_sight (front ++ entry ∷ back))) ≡ list_any test (on_buses buses (map entry_sight (front ++ back)))
+          → list_any test (cond is_on (entry_sight other ∷ on_buses buses (map entry_sight (front ++ entry ∷ back)))
+          (on_buses buses (map entry_sight (front ++ entry ∷ back))))
+          ≡ list_any test (cond is_on (entry_sight other ∷ on_buses buses (map entry_sight (front ++ back))) (on_buses buses (map entry_sight (front ++ back))))
+      by true rest = ap (λ (later : Bool). test (entry_sight other) || later) rest
+      by false rest = rest
+
+  boards_among : (configs : List Config) (front back : List Entry) (number : ℕ)
+      → boards_in configs (map entry_sight (front ++ entry ∷ back)) number ≡ boards_in configs (map entry_sight (front ++ back)) number
+  unfolding boards_in board_places
+  boards_among configs front back number =
+      let sights = map entry_sight (front ++ entry ∷ back) in
+      let others = map entry_sight (front ++ back) in
+      let matched = λ (test : ℕ → Bool) (config pattern : ℕ).
+      any_among test (λ (sight : Sight). sight.matched config pattern) (shows_none config pattern) front back in
+      let moved = λ (config bus : ℕ). any_among is_root (λ (sight : Sight). sight.opened config bus) (leads_nowhere config bus) front back in
+      let reach = reached_alike sights others matched moved (rules_of configs) in
+      let found = is_found_alike sights others matched moved (rules_of configs) in
+      ap₂ (λ (found reach : ℕ → Bool). board_places configs found reach sights number) found reach
+      ∙ ap (λ (places : List Place). unwrap_or (option_map (λ (config : Config).
+      cond (is_found (rules_of configs) others number) (places_or_none config.probe.match_one places) []) (slice_get configs number)) [])
+      (sym (hits_stay (is_reached (rules_of configs) others) (is_reached (rules_of configs) others) number entry (front ++ back) (front ++ entry ∷ back)
+      (inl (record { front = front; back = back; without = refl; with = refl })) (alike_self (is_reached (rules_of configs) others) (front ++ back))
+      (has_no_hit number)))
+
+-- ---- an idle FRU comes or goes
+
+-- the boards are the same with it and without it
+pub idle_boards : (configs : List Config) (entry : Entry) (others entries : List Entry) → IsAmong entry others entries → is_idle (row_of entry) ≡ true
+    → (number : ℕ) → boards_in configs (map entry_sight entries) number ≡ boards_in configs (map entry_sight others) number
+idle_boards configs entry others entries among idle number =
+    let parts = idle_parts (row_of entry) idle in
+    ap (λ (there : List Entry). boards_in configs (map entry_sight there) number) among.with
+    ∙ boards_among entry parts.0 parts.1 configs among.front among.back number
+    ∙ sym (ap (λ (there : List Entry). boards_in configs (map entry_sight there) number) among.without)
+
+-- no board is left over of those that are there too
+except_self : (boards : List (Option Place)) → except (has_board boards) boards ≡ []
+except_self boards = except_none (has_board boards) boards (pass_all (has_board boards) boards (λ place has. has))
+
+no_keys : (boards boards_after : ℕ → List (Option Place)) → ((number : ℕ) → boards_after number ≡ boards number) → (numbers : List ℕ)
+    → flat_map (λ number. map (key_of number) (except (has_board (boards_after number)) (boards number))) numbers ≡ []
+no_keys boards boards_after same [] = refl
+no_keys boards boards_after same (number ∷ numbers) =
+    ap₂ (λ (left : List (Option Place)) (later : List BoardKey). map (key_of number) left ++ later)
+    (ap (λ (there : List (Option Place)). except (has_board there) (boards number)) (same number) ∙ except_self (boards number))
+    (no_keys boards boards_after same numbers)
+
+-- where all boards are the same there are no changes
+pub idle_moves : (old new : View) → new.configs ≡ old.configs → ((number : ℕ) → view_boards new number ≡ view_boards old number) → new.kept ≡ old.kept
+    → new.changes ≡ [] → Moves old new
+unfolding changes_between
+idle_moves old new configs same kept none = record {
+  kept = λ number.
+      ap (λ (lists : List (List (Option Place))). kept_of lists number) kept
+      ∙ sym (ap (with_boards (kept_of old.kept number)) (ap (except (has_board (view_boards old number))) (same number) ∙ except_self (view_boards old number)));
+  changes =
+      none
+      ∙ sym (ap₂ (λ (gone fresh : List BoardKey). map (board_change true old.configs (kept_of old.kept)) gone
+      ++ map (board_change false new.configs (kept_of new.kept)) fresh)
+      (no_keys (view_boards old) (view_boards new) same (range_with_len 0 (length old.configs)))
+      (no_keys (view_boards new) (view_boards old) (λ number. sym (same number)) (range_with_len 0 (length new.configs))));
+}
