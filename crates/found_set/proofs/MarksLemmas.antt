@@ -1,12 +1,14 @@
 -- The two passes: what is marked after each.
-use Rattle.std.proofs.Common.{◌≡◌, ◌∙◌, ℕ, ◌+◌, ◌*◌, Bool, true, false, not, ◌&&◌, ◌||◌, List, [], ◌∷◌, replicate, refl, ap, ap₂, sym}
+use Rattle.std.proofs.Common.{◌≡◌, ◌∙◌, ℕ, ◌+◌, ◌*◌, Bool, true, false, not, ◌&&◌, ◌||◌, List, [], ◌∷◌, replicate, refl, ap, ap₂, sym, arith}
 use Rattle.std.specs.List.{list_any}
 use Rattle.std.proofs.Math.Bool.{or-false}
 use Rattle.std.proofs.lemmas.Bool.{or_parts}
+use Rattle.std.proofs.lemmas.List.FromFn.{get_or-map-range_with_len}
 use Rattle.probe_lang.specs.Sights.{Sight, has_hit}
 use Rattle.found_set.specs.declared.row.Row.{Row}
-use Rattle.found_set.specs.Marks.{is_true, AreTrue}
-use Rattle.found_set.specs.Found.{Rule, on_buses, matched_by, is_root, is_reached}
+use Rattle.found_set.specs.Marks.{is_marked, is_true, AreMarked, AreTrue}
+use Rattle.found_set.specs.declared.facts.Facts.{Facts}
+use Rattle.found_set.specs.Found.{Rule, on_buses, matched_by, is_root, is_reached, facts}
 use Rattle.found_set.specs.Rows.{sights_of}
 use Rattle.found_set.specs.Buses.{is_on_bus, has_on, is_beyond}
 use Rattle.found_set.proofs.FoundLemmas.{none_marked}
@@ -65,3 +67,7 @@ still_marked rules rows marks told none = λ c p hc hp.
     told c p hc hp ∙ sym (matched_on is_root rows c p) ∙ sym (or-false (list_any (has_on is_root c p) rows))
     ∙ ap (λ (b : Bool). list_any (has_on is_root c p) rows || b) (sym (none_has beyond c p rows none))
     ∙ all_visible rules (sights_of rows) c p rows ∙ matched_on (is_reached rules (sights_of rows)) rows c p
+
+-- facts tell by their marks
+pub reach_marked : (rules : List Rule) (sights : List Sight) (now : Facts) → now ≡ facts rules sights → AreMarked now.reach (is_reached rules sights)
+reach_marked rules sights now is = λ n small. ap (λ (f : Facts). is_marked f.reach n) is ∙ get_or-map-range_with_len (is_reached rules sights) 0 256 n n false small (omega arith)

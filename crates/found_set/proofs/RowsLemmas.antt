@@ -1,5 +1,5 @@
 -- Rows by place: with one more, and without one.
-use Rattle.std.proofs.Common.{◌≡◌, ◌∙◌, ℕ, suc, ◌+◌, ◌-◌, ◌≤◌, Bool, true, false, cond, not, ◌&&◌, ◌||◌, List, [], ◌∷◌, ◌++◌, length, take, drop, Some, None, refl, nat_lt, ap, ap₂, sym, arith}
+use Rattle.std.proofs.Common.{◌≡◌, ◌∙◌, ℕ, suc, ◌+◌, ◌-◌, ◌≤◌, ◌<◌, Bool, true, false, cond, not, ◌&&◌, ◌||◌, List, [], ◌∷◌, ◌++◌, length, get_or, take, drop, Some, None, refl, nat_lt, ap, ap₂, sym, arith}
 use Rattle.std.specs.Prelude.{position, filter}
 use Rattle.std.specs.List.{list_all, list_any, insert, remove, position_or_len}
 use Rattle.std.specs.Ordering.{is_lt, is_eq, ordering_reverse}
@@ -11,7 +11,7 @@ use Rattle.std.specs.Option.{unwrap_or}
 use Rattle.std.proofs.Math.Seq.{take-length}
 use Rattle.std.proofs.lemmas.Bool.{and_parts, or_parts}
 use Rattle.std.proofs.lemmas.Bool.Decides.{nat_tests}
-use Rattle.std.proofs.lemmas.List.{length-drop}
+use Rattle.std.proofs.lemmas.List.{drop_more, length-drop, take-append-drop}
 use Rattle.std.proofs.lemmas.List.Quantifiers.{position-Some}
 use Rattle.std.proofs.lemmas.List.Sums.{position_or_len_is}
 use Rattle.bmc_base.specs.Places.{Place, place_cmp}
@@ -200,3 +200,14 @@ first_or_end test rows =
 
 pub first_within : (test : Row → Bool) (rows : List Row) → unwrap_or (position test rows) (length rows) ≤ length rows
 first_within test rows = let same = first_or_end test rows in omega (arith, within test rows)
+
+-- what is before a position, and the rest
+pub all_sliced : (rows : List Row) (at : ℕ) → (take at rows ++ take (length rows - at) (drop at rows)) ≡ rows
+all_sliced rows at = ap (λ (rest : List Row). take at rows ++ rest) (to_end rows at) ∙ take-append-drop at rows
+
+-- what is before a row, the row, and the rest
+pub sliced_around : (row : Row) (rows : List Row) (at : ℕ) → at < length rows → row ≡ get_or rows at row
+    → rows ≡ take at rows ++ row ∷ take (length rows - (at + 1)) (drop (at + 1) rows)
+sliced_around row rows at below is =
+    sym (take-append-drop at rows) ∙ ap (λ (rest : List Row). take at rows ++ rest) (drop_more rows at row below
+    ∙ ap₂ (λ (first : Row) (rest : List Row). first ∷ rest) (sym is) (sym (to_end rows (at + 1))))

@@ -3,6 +3,7 @@ pub mod Named
 pub mod Found
 pub mod Rows
 pub mod Buses
+pub mod Covers
 pub mod Events
 pub mod Staging
 pub mod Sets

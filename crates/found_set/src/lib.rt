@@ -2,6 +2,7 @@
 //! go. Each event is evaluated before it is taken over.
 #![tactic(auto)]
 
+mod cover;
 mod evaluate;
 mod facts;
 mod find;

@@ -78,3 +78,29 @@ pub(crate) fn any_is_on(rows: &[Row], buses: &[bool; BUSES]) -> bool
     }
     false
 }
+
+// Whether this hit is among the hits.
+fn has_hit(hits: &[Hit], wanted: Hit) -> bool
+    ensures { result ≡ has_hit hits.now wanted.config wanted.pattern }
+{
+    hits.iter().any(|hit| hit.config == wanted.config && hit.pattern == wanted.pattern)
+}
+
+// Whether a row on a bus that is marked has this hit.
+pub(crate) fn has_on(row: &Row, hit: Hit, buses: &[bool; BUSES]) -> bool
+    ensures { (test : ℕ → Bool) → AreMarked buses.now test → result ≡ has_on test hit.config hit.pattern row.now }
+{
+    buses[row.place.bus() as usize] && has_hit(row.hits.as_slice(), hit)
+}
+
+// Whether one of the rows on buses that are marked has this hit.
+pub(crate) fn any_has_on(rows: &[Row], hit: Hit, buses: &[bool; BUSES]) -> bool
+    ensures { (test : ℕ → Bool) → AreMarked buses.now test → result ≡ list_any (has_on test hit.config hit.pattern) rows.now }
+{
+    for row in rows {
+        if has_on(row, hit, buses) {
+            return true;
+        }
+    }
+    false
+}

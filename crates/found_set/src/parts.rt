@@ -4,9 +4,10 @@ ghost use Rattle.found_set.specs.Marks.{is_marked, is_true, AreTrue, AreMarked};
 ghost use Rattle.found_set.specs.Buses.{has_on, is_on_bus, leads_on};
 
 use crate::facts::{BUSES, MOST_RULES};
-use crate::marks::{PATTERN_MARKS, any_is_on, is_on, mark_row, mark_rows};
+use crate::marks::{PATTERN_MARKS, any_has_on, any_is_on, has_on, is_on, mark_row, mark_rows};
 use crate::reach::{open_row, open_rows};
 use crate::row::Row;
+use probe_lang::Hit;
 use std::marker::Model;
 
 // Rows in three parts: those before a place, one more or none, and those behind it.
@@ -70,6 +71,17 @@ impl<'a> Parts<'a> {
             None => false,
         };
         plus_is_on || any_is_on(self.before, buses) || any_is_on(self.after, buses)
+    }
+
+    // Whether a row on a bus that is marked has this hit.
+    pub(crate) fn have_on(&self, hit: Hit, buses: &[bool; BUSES]) -> bool
+        ensures { (test : ℕ → Bool) → AreMarked buses.now test → result ≡ list_any (has_on test hit.config hit.pattern) self.now }
+    {
+        let plus_has = match self.plus {
+            Some(row) => has_on(row, hit, buses),
+            None => false,
+        };
+        plus_has || any_has_on(self.before, hit, buses) || any_has_on(self.after, hit, buses)
     }
 
     // Marks the buses to which the channels of the rows on root buses lead, where their configurations are

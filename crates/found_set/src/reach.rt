@@ -34,11 +34,18 @@ fn open_channels(reach: &mut [bool; BUSES], channels: &[Channel], found: &[bool;
     }
 }
 
+// Whether a row is on a root bus.
+pub(crate) fn is_on_root(row: &Row) -> bool
+    ensures { result ≡ is_root row.now.place.bus }
+{
+    (row.place.bus() as usize) < ROOT_BUSES
+}
+
 // Marks the buses to which the channels of a row lead, if it is on a root bus.
 pub(crate) fn open_row(reach: &mut [bool; BUSES], row: &Row, found: &[bool; MOST_RULES])
     ensures { AreMarked reach.new (λ bus. is_marked reach.old bus || leads_on found.now bus row.now) }
 {
-    if (row.place.bus() as usize) < ROOT_BUSES {
+    if is_on_root(row) {
         open_channels(reach, row.channels.as_slice(), found);
     }
 }

@@ -6,7 +6,7 @@ ghost use Rattle.found_set.specs.Rows.{row_of, sights_of, holds_place, IsKnown};
 ghost use Rattle.found_set.specs.Events.{facts_after, most_evals, ConfigEvent, PlugEvent, UnplugEvent};
 ghost use Rattle.found_set.specs.Sets.{Prepares, IsStaged, committed, empty_set, after, as_staged};
 
-use crate::evaluate::{evaluate, no_facts};
+use crate::evaluate::{evaluate, no_facts, reevaluate};
 use crate::facts::Facts;
 use crate::names::Names;
 use crate::next_facts::{EventKey, NextFacts};
@@ -167,12 +167,18 @@ impl<L: Ledger> FoundSet<L> {
         ensures facts { result ≡ facts_after (PlugEvent row.now) self.now.rules self.now.rows }
         ensures counted { IsWithin steps.old steps.new (most_evals (PlugEvent row.now) self.now.rules self.now.rows) }
     {
-        if row.is_idle() {
-            return self.facts;
-        }
         let at = position_for(&self.rows, row.place);
-        let parts = Parts::with(&self.rows[..at], row, &self.rows[at..]);
-        evaluate(&self.rules, &self.names, &parts, steps)
+        let others = Parts::of(&self.rows[..at], &self.rows[at..]);
+        let rows = Parts::with(&self.rows[..at], row, &self.rows[at..]);
+        reevaluate(
+            &self.rules,
+            &self.names,
+            &self.facts,
+            row,
+            &others,
+            &rows,
+            steps,
+        )
     }
 
     // Returns the facts without the row at a place.
@@ -183,11 +189,17 @@ impl<L: Ledger> FoundSet<L> {
         let Some(at) = position_at(&self.rows, place) else {
             return self.facts;
         };
-        if self.rows[at].is_idle() {
-            return self.facts;
-        }
-        let parts = Parts::of(&self.rows[..at], &self.rows[at + 1..]);
-        evaluate(&self.rules, &self.names, &parts, steps)
+        let row = &self.rows[at];
+        let others = Parts::of(&self.rows[..at], &self.rows[at + 1..]);
+        reevaluate(
+            &self.rules,
+            &self.names,
+            &self.facts,
+            row,
+            &others,
+            &others,
+            steps,
+        )
     }
 
     // Stages a rule, with room for it, and returns the facts with it.

@@ -1,13 +1,14 @@
--- A row that is idle changes nothing; else all is evaluated without it.
-use Rattle.std.proofs.Common.{◌≡◌, ◌∙◌, ◌+◌, ◌-◌, ◌*◌, ◌++◌, List, length, get_or, false, take, drop, Some, ap, ap₂, sym, subst}
+-- What changes without a row.
+use Rattle.std.proofs.Common.{◌≡◌, ◌∙◌, ◌+◌, ◌-◌, ◌*◌, ◌≤◌, ◌++◌, List, length, take, drop, Some, refl, ap, ap₂, sym, subst, cond}
 use Rattle.std.specs.Prelude.{position}
 use Rattle.std.proofs.lemmas.List.Quantifiers.{position-Some}
 use Rattle.bmc_base.specs.Steps.{IsWithin}
 use Rattle.found_set.specs.declared.row.Row.{Row}
-use Rattle.found_set.specs.Found.{Rule, facts}
-use Rattle.found_set.specs.Rows.{sights_of, is_row_at, is_idle, without_row}
-use Rattle.found_set.proofs.RowsLemmas.{without_row_at, without_sliced, none_without}
-use Rattle.found_set.proofs.IdleLemmas.{idle_parts, idle_remove}
+use Rattle.found_set.specs.Found.{Rule, facts, names_of}
+use Rattle.found_set.specs.Rows.{sights_of, is_row_at, is_idle}
+use Rattle.found_set.proofs.NamedLemmas.{all_named}
+use Rattle.found_set.proofs.RowsLemmas.{without_sliced, none_without, sliced_around}
+use Rattle.found_set.proofs.IdleLemmas.{are_with, are_without}
 use Rattle.found_set.proofs.EventsLemmas.{none_within, unplug_evals}
 use Rattle.found_set.proofs.set.FoundSet.facts_without.Goals as goal
 
@@ -21,42 +22,41 @@ returns-in_default-clause-facts g c =
 pub returns-in_default-clause-counted : goal.returns-in_default-clause-counted
 returns-in_default-clause-counted g c = none_within _ _
 
-pub returns-then-is_idle-clause-facts : goal.returns-then-is_idle-clause-facts
-returns-then-is_idle-clause-facts g c =
-    let rules = c.self.inside.rules.items in
-    let rows = c.self.inside.rows.items in
-    let found : position (is_row_at c.args.place) rows ≡ Some c.in-Some.at = sym (ap (position (is_row_at c.args.place)) c.deref.ensures.value)
-    ∙ sym c.position_at.ensures ∙ c.in-Some.is in
-    let parts = idle_parts c.index.result.now (sym c.if-is_idle.ensures) in
-    rw (← c.self.view_is) (c.self.invariant.facts
-    ∙ idle_remove c.index.result.now parts.0 parts.1 rules rows c.in-Some.at
-    (position-Some (is_row_at c.args.place) rows c.in-Some.at c.index.result.now found).0 c.index.ensures
-    ∙ ap (λ (after : List Row). facts rules (sights_of after))
-    (sym (without_row_at c.args.place rows c.in-Some.at c.index.result.now c.self.invariant.by_place found)))
-
-pub returns-then-is_idle-clause-counted : goal.returns-then-is_idle-clause-counted
-returns-then-is_idle-clause-counted g c = none_within _ _
+pub reevaluate-requires : goal.reevaluate-requires
+reevaluate-requires g c = record {
+  few = subst (λ (rules : List Rule). length rules ≤ 256) (sym c.deref-4.ensures.value) c.self.invariant.few;
+  named = all_named _ _ (c.self.invariant.named ∙ ap names_of (sym c.deref-4.ensures.value));
+  beside = are_without c.index-row.result.now c.of-others.result c.of-others.result refl;
+}
 
 pub returns-clause-facts : goal.returns-clause-facts
 returns-clause-facts g c =
     let rows = c.self.inside.rows.items in
     let at = c.in-Some.at in
+    let row = c.index-row.result.now in
     let found : position (is_row_at c.args.place) rows ≡ Some at = sym (ap (position (is_row_at c.args.place)) c.deref.ensures.value)
     ∙ sym c.position_at.ensures ∙ c.in-Some.is in
-    let parts : c.of-parts.result ≡ without_row c.args.place rows =
-    c.of-parts.ensures
-    ∙ ap₂ (λ (first rest : List Row). take at first ++ take (length rest - (at + 1)) (drop (at + 1) rest)) c.deref-2.ensures.value c.deref-3.ensures.value
-    ∙ without_sliced c.args.place rows at c.index.result.now c.self.invariant.by_place found in
-    rw (← c.self.view_is) (c.evaluate.ensures.facts ∙ ap₂ (λ (rules : List Rule) (rows : List Row). facts rules (sights_of rows)) c.deref-4.ensures.value parts)
+    let here = position-Some (is_row_at c.args.place) rows at row found in
+    let others : c.of-others.result ≡ take at rows ++ take (length rows - (at + 1)) (drop (at + 1) rows) =
+    c.of-others.ensures
+    ∙ ap₂ (λ (first rest : List Row). take at first ++ take (length rest - (at + 1)) (drop (at + 1) rest)) c.deref-2.ensures.value c.deref-3.ensures.value in
+    let before = are_with (take at rows) (take (length rows - (at + 1)) (drop (at + 1) rows)) row c.of-others.result rows others
+    (sliced_around row rows at here.0 c.index-row.ensures) in
+    rw (← c.self.view_is) (c.reevaluate.ensures.facts rows before (c.self.invariant.facts
+    ∙ ap (λ (rules : List Rule). facts rules (sights_of rows)) (sym c.deref-4.ensures.value))
+    ∙ ap₂ (λ (rules : List Rule) (rows : List Row). facts rules (sights_of rows)) c.deref-4.ensures.value
+    (others ∙ without_sliced c.args.place rows at row c.self.invariant.by_place found))
 
 pub returns-clause-counted : goal.returns-clause-counted
 returns-clause-counted g c =
     let rules = c.self.inside.rules.items in
     let rows = c.self.inside.rows.items in
     let at = c.in-Some.at in
+    let row = c.index-row.result.now in
     let found : position (is_row_at c.args.place) rows ≡ Some at = sym (ap (position (is_row_at c.args.place)) c.deref.ensures.value)
     ∙ sym c.position_at.ensures ∙ c.in-Some.is in
-    let busy : is_idle (get_or rows at c.index.result.now) ≡ false = ap is_idle (sym c.index.ensures) ∙ sym c.if-is_idle.ensures in
-    let within : IsWithin c.args.steps.now c.evaluate.new.steps (2 * length rules) =
-    subst (λ (rules : List Rule). IsWithin c.args.steps.now c.evaluate.new.steps (2 * length rules)) c.deref-4.ensures.value c.evaluate.ensures.counted in
-    rw (← c.self.view_is) (unplug_evals c.args.place rules rows at c.index.result.now _ _ found busy within)
+    let within : IsWithin c.args.steps.now c.reevaluate.new.steps (cond (is_idle row) 0 (2 * length rules)) =
+    subst (λ (rules : List Rule). IsWithin c.args.steps.now c.reevaluate.new.steps (cond (is_idle row) 0 (2 * length rules)))
+    c.deref-4.ensures.value c.reevaluate.ensures.counted in
+    let told = subst (λ (r : Row). IsWithin c.args.steps.now c.reevaluate.new.steps (cond (is_idle r) 0 (2 * length rules))) c.index-row.ensures within in
+    rw (← c.self.view_is) (unplug_evals c.args.place rules rows at row _ _ found told)
