@@ -2,3 +2,4 @@ pub mod PlainReading
 pub mod PlainMatching
 pub mod PlainTests
 pub mod Regexes
+pub mod Searches

@@ -1,10 +1,7 @@
 -- What a regex says of its text, and an error of one that was refused.
-use Rattle.std.proofs.Common.{◌≡◌, ◌≢◌, ◌⊎◌, ℕ, ◌<◌, ◌≤◌, Bool, true, false, List, Option, None, Some, IsSomeAnd, IfSome, is_some, All, chars, refl, sym, ap, ◌∙◌, subst, inl, inr, nat_le, arith}
+use Rattle.std.proofs.Common.{◌≡◌, ◌≢◌, ◌⊎◌, ℕ, ◌<◌, ◌≤◌, Bool, true, false, List, Option, None, Some, IsSomeAnd, IfSome, is_some, All, chars, refl, sym, ap, ◌∙◌, inl, inr, nat_le, arith}
 use Rattle.std.proofs.lemmas.Bool.Decides.{nat_tests}
-use Rattle.regex.specs.Names.{names_of}
-use Rattle.regex.specs.Patterns.{Re, Config, find_str, default_config, SameCaptures, Reads, Refuses}
-use Rattle.regex.specs.Strings.{regex_source, regex_config, regex_pattern, IsReadFromSource}
-use Rattle.regex.specs.declared.string.regex.Regex.{Regex}
+use Rattle.regex.specs.Patterns.{Re, find_str, default_config, SameCaptures, Reads, Refuses}
 use Rattle.regex_hir.specs.Meaning.{meaning}
 use Rattle.regex_hir.specs.Text.{is_some_and}
 use Rattle.regex_hir.specs.declared.hir.Hir.{Hir}
@@ -38,7 +35,8 @@ match_by P re same (Some found) h hay bytes =
     ∙ ap is_some (find_str_alike re found.0.value (same found h) hay bytes 0)
     ∙ is_some-option_map spans (find_str found.0.value hay 0)
 
-reads_match : (text : List ℕ) (hir : Hir) (names : Names) → Reads default_config text hir names
+-- what the grammar reads in a text has a match where the text says so
+pub reads_match : (text : List ℕ) (hir : Hir) (names : Names) → Reads default_config text hir names
     → (hay : List ℕ) → All (λ x. x < 256) hay → is_some (find_str (meaning hir) hay 0) ≡ has_match text hay
 unfolding Reads has_match
 reads_match text hir names reads hay bytes = match_by _ (meaning hir) (λ found h. h.1) (read default_config (chars text)) reads hay bytes
@@ -59,17 +57,3 @@ refuses_bad text kind refuses own = elim refuses [
   | inl memory ↦ absurd (own memory)
   | inr bad ↦ bad_by kind (read default_config (chars text)) bad
 ]
-
-module _ (regex : Regex) (config : regex_config regex ≡ default_config) (is_read : IsReadFromSource regex) where
-  reads : Reads default_config (regex_source regex) regex.pattern.program.hir (names_of regex.pattern.names.items)
-  reads =
-      subst (λ (c : Config). Reads c (regex_source regex) regex.pattern.program.hir (names_of regex.pattern.names.items)) config is_read
-
-  -- a regex stands for a pattern
-  pub source_is_pattern : IsPattern (regex_source regex)
-  source_is_pattern = reads_pattern (regex_source regex) _ _ reads
-
-  -- and finds what its text says
-  pub source_match : (hay : List ℕ) → All (λ x. x < 256) hay
-      → is_some (find_str (regex_pattern regex) hay 0) ≡ has_match (regex_source regex) hay
-  source_match hay bytes = reads_match (regex_source regex) _ _ reads hay bytes

@@ -2,3 +2,4 @@ pub mod Grammar
 pub mod Plain
 pub mod Makers
 pub mod Forms
+pub mod Searches

@@ -3,10 +3,10 @@ ghost use Rattle.pat_gate.specs.Grammar.{has_match, IsPattern};
 ghost use Rattle.pat_gate.specs.Makers.{Builds};
 
 use crate::MakeFault;
-use crate::form::{Form, is_match};
+use crate::form::Form;
 use crate::plain::Plain;
+use crate::shared_engine::SharedEngine;
 use bmc_base::OutOfMemory;
-use regex::Regex;
 use std::alloc::Global;
 use std::marker::Model;
 
@@ -29,13 +29,14 @@ impl Model for Compiled {
 
 impl Compiled {
     /// Whether the pattern has a match in a text, by the definition of `regex`. A pattern that is plain, or
-    /// plain behind `^`, before `$` or between both, takes no memory.
+    /// plain behind `^`, before `$` or between both, takes no memory. Another one keeps what the search
+    /// builds, so that later ones are quick.
     pub fn found_in(&self, alloc: Global, text: &str) -> Result<bool, OutOfMemory>
         ensures { IfOk result (λ found. found ≡ has_match self.now text.now) }
     {
         match &self.form {
             Form::Plain(plain) => Ok(plain.found_in(text)),
-            Form::Regex(regex) => is_match(alloc, regex, text),
+            Form::Regex(engine) => engine.found_in(alloc, text),
         }
     }
 
@@ -52,20 +53,12 @@ impl Compiled {
         }
     }
 
-    // Builds the pattern of this text with `regex`.
-    #[tactic(auto, using(crate::proofs::Regexes::reads_pattern, crate::proofs::Regexes::refuses_bad))]
+    // Builds the pattern of this text with the parts of `regex`.
     pub(crate) fn build(alloc: Global, text: &str) -> Result<Compiled, MakeFault>
         ensures { Builds text.now result }
     {
-        match Regex::new(alloc, text) {
-            Ok(regex) => Ok(Compiled {
-                form: Form::Regex(regex),
-            }),
-            Err(regex::Error::Syntax(_)) => Err(MakeFault::PatternSyntax),
-            Err(regex::Error::CompiledTooBig | regex::Error::Internal) => {
-                Err(MakeFault::PatternTooLarge)
-            }
-            Err(regex::Error::OutOfMemory) => Err(MakeFault::OutOfMemory),
-        }
+        Ok(Compiled {
+            form: Form::Regex(SharedEngine::build(alloc, text)?),
+        })
     }
 }

@@ -2,12 +2,15 @@
 #![tactic(auto)]
 
 mod compiled;
+mod engine;
 mod form;
 mod list_maker;
 mod make_fault;
 mod pattern_maker;
 mod plain;
 mod regex_maker;
+mod searcher;
+mod shared_engine;
 #[cfg(test)]
 mod tests;
 

@@ -25,3 +25,18 @@ impl From<OutOfMemory> for MakeFault {
         MakeFault::OutOfMemory
     }
 }
+
+impl From<regex_compile::Error> for MakeFault {
+    ghost use Rattle.pat_gate.specs.Makers.{IsRefusal};
+
+    ghost from_gives = { λ _ fault. IsRefusal fault };
+
+    fn from(error: regex_compile::Error) -> Self {
+        match error {
+            regex_compile::Error::TooBig | regex_compile::Error::Malformed => {
+                MakeFault::PatternTooLarge
+            }
+            regex_compile::Error::OutOfMemory => MakeFault::OutOfMemory,
+        }
+    }
+}

@@ -43,7 +43,7 @@ const PLAIN: [(&str, &str, bool); 31] = [
 ];
 
 // The same of patterns with operators.
-const OTHERS: [(&str, &str, bool); 51] = [
+const OTHERS: [(&str, &str, bool); 65] = [
     // no characters of their own
     ("", "", true),
     ("", "any", true),
@@ -102,10 +102,25 @@ const OTHERS: [(&str, &str, bool); 51] = [
     ("(?i)^rsr$", "RsR", true),
     ("(?i)rsr", "RS", false),
     ("^(?P<a>x)(?P<b>y)?$", "x", true),
+    // texts that are not ASCII
+    ("x*", "äö", true),
+    ("^x*$", "äö", false),
+    ("x*$", "äö", true),
+    ("^(?:ä|)$", "ä", true),
+    ("\\B", "ä", false),
+    ("\\B", "äö", true),
+    ("\\bä", "a ä", true),
+    ("\\bb", "äb", false),
+    ("ä\\b", "ä-", true),
+    ("^\\w+$", "äö1", true),
+    ("^\\W+$", "äö1", false),
+    ("(?i)^äÖ$", "Äö", true),
+    ("^[ä-ü]{2}$", "äö", true),
+    ("^..$", "äö", true),
 ];
 
 // The same where Python differs, by the documentation of the regex crate.
-const DOCUMENTED: [(&str, &str, bool); 12] = [
+const DOCUMENTED: [(&str, &str, bool); 17] = [
     ("RSR$", "RSR\n", false),
     ("^RSR$", "RSR\n", false),
     ("R.R$", "RSR\n", false),
@@ -118,6 +133,12 @@ const DOCUMENTED: [(&str, &str, bool); 12] = [
     ("(?x) R S R # a riser", "RSR1", true),
     ("(?i)k", "\u{212A}", true),
     ("(?s)a.b", "a\nb", true),
+    ("\\p{Lu}$", "aÄ", true),
+    ("\\p{Lu}$", "Aä", false),
+    // an empty match inside a character is none
+    ("(?-u:\\B)", "aäb", false),
+    ("(?-u:\\B)", "aä b", true),
+    ("(?-u:\\B|ä)", "aäb", true),
 ];
 
 // Texts of which the regex crate says that they are no patterns.
@@ -291,5 +312,45 @@ fn a_pattern_is_matched_again(rt: HostRuntime) -> Result<(), Fail> {
     let pattern = maker.compile(alloc, "^RSR[12]")?;
     assert!(rt; found_in_all(alloc, &pattern, &["RSR1", "RSR2", "RSR1 "])?);
     assert!(rt; !found_in_all(alloc, &pattern, &["RSR1", "RSR3", "RSR1"])?);
+    Ok(())
+}
+
+// A text of so many letters, each `a` or `b`, with no plan in them.
+fn letters(alloc: Global, count: usize) -> Result<String, Fail> {
+    let mut text = String::new(alloc);
+    let mut seed = 1u32;
+    for _ in 0..count {
+        seed = seed.wrapping_mul(1_103_515_245).wrapping_add(12_345);
+        text.push(if seed & 0x1_0000 == 0 { 'a' } else { 'b' })?;
+    }
+    Ok(text)
+}
+
+#[test]
+fn a_pattern_is_matched_many_times(rt: HostRuntime) -> Result<(), Fail> {
+    let alloc = rt.alloc();
+    let mut maker = RegexMaker::new(alloc);
+    let pattern = maker.compile(alloc, "a[ab]{3}$")?;
+    let text = letters(alloc, 2000)?;
+    for end in 4..text.len() {
+        let wanted = text.as_bytes().get(end - 4) == Some(&b'a');
+        let found = pattern.found_in(alloc, text.get(..end).unwrap_or(""))?;
+        assert_eq!(rt; found, wanted, "up to {end}");
+    }
+    Ok(())
+}
+
+// The DFA of this pattern has 2^17 states, so it gives up in so long a text.
+#[test]
+fn a_search_goes_on_without_its_dfa(rt: HostRuntime) -> Result<(), Fail> {
+    let alloc = rt.alloc();
+    let mut maker = RegexMaker::new(alloc);
+    let pattern = maker.compile(alloc, "a[ab]{16}$")?;
+    let text = letters(alloc, 100_000)?;
+    for end in [90_000, 90_001, 90_002, 90_003, 100_000usize] {
+        let wanted = text.as_bytes().get(end - 17) == Some(&b'a');
+        let found = pattern.found_in(alloc, text.get(..end).unwrap_or(""))?;
+        assert_eq!(rt; found, wanted, "up to {end}");
+    }
     Ok(())
 }
