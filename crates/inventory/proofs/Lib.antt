@@ -5,3 +5,4 @@ pub mod IndexesLemmas
 pub mod MomentsLemmas
 pub mod KeepingLemmas
 pub mod DifferencesLemmas
+pub mod OrderLemmas

@@ -1,140 +1,26 @@
 -- Entries with one more among them, and without one.
-use Rattle.std.proofs.Common.{◌≡◌, ℕ, zero, suc, ◌+◌, ◌-◌, ◌<◌, ◌≤◌, List, [], ◌∷◌, ◌++◌, Bool, true, false, not, cond, ◌&&◌, Option, Some, None, length}
-use Rattle.std.proofs.Common.{take, drop, filter, find, map, get_or, position}
-use Rattle.std.proofs.Common.{refl, sym, ap, ap₂, ◌∙◌, arith, length-drop, append_assoc, subst, inl, inr}
-use Rattle.std.specs.Prelude.{nat_lt, slice_get}
+use Rattle.std.proofs.Common.{◌≡◌, ℕ, zero, suc, ◌+◌, ◌<◌, List, [], ◌∷◌, ◌++◌, Bool, true, false, not, cond, ◌&&◌, Option, Some, length}
+use Rattle.std.proofs.Common.{take, filter, find, map, get_or}
+use Rattle.std.proofs.Common.{refl, sym, ap, ◌∙◌, append_assoc, subst, inl, inr}
+use Rattle.std.specs.Prelude.{slice_get}
+use Rattle.std.specs.Global.{Box}
 use mathlib.Core.Bool.{beq}
 use Rattle.found_set.specs.Marks.{AreMarked, is_marked}
-use Rattle.std.specs.Option.{unwrap_or}
 use Rattle.std.specs.Ordering.{is_lt, is_eq}
 use Rattle.std.specs.declared.cmp.Ordering.{Ordering}
 use Rattle.std.specs.declared.cmp.Ordering.TheVariants.{Less, Equal, Greater}
-use Rattle.std.specs.List.{list_all, position_or_len, AllByRecursion}
-use Rattle.std.proofs.lemmas.Bool.Decides.{nat_tests}
-use Rattle.std.proofs.lemmas.List.{take_all, take-append-drop, append-nil, map-append, take_more}
+use Rattle.std.specs.List.{list_all, AllByRecursion}
+use Rattle.std.proofs.lemmas.List.{map-append, take_more}
 use Rattle.std.proofs.lemmas.List.Elements.{filter-append}
-use Rattle.std.proofs.lemmas.List.Sums.{prefix_len-le-length}
 use Rattle.bmc_base.specs.Places.{Place, place_cmp}
 use Rattle.probe_lang.specs.declared.rows.Entry.{Entry}
 use Rattle.probe_lang.specs.Sights.{Sight, entry_sight, has_config}
 use Rattle.found_set.specs.Found.{on_buses}
 use Rattle.probe_lang.specs.Presents.{is_entry_at, are_by_place, with_entry, without_entry}
 use Rattle.inventory.specs.Boards.{hit_places}
-use Rattle.inventory.specs.Moments.{is_behind, hits_in, AreSeenAlike, IsAmong, IsApartBy}
+use Rattle.inventory.specs.Moments.{unboxed, hits_in, AreSeenAlike, IsAmong, IsApartBy}
 use Rattle.inventory.proofs.BoardLemmas.{and_first, and_second, place_cmp_eq, place_same}
 use Rattle.inventory.proofs.ListLemmas.{all_append, all_map, filter_all, filter_alike}
-
--- ---- positions
-
-position_within : {X : Type 0} (test : X → Bool) (xs : List X) → position_or_len test xs ≤ length xs
-position_within test xs = prefix_len-le-length _ xs
-
--- the first that passes, or the length
-position_is : {X : Type 0} (test : X → Bool) (xs : List X) → unwrap_or (position test xs) (length xs) ≡ position_or_len test xs
-position_is test xs = by (nat_lt (position_or_len test xs) (length xs)) refl
-  where
-    by : (b : Bool) → nat_lt (position_or_len test xs) (length xs) ≡ b
-        → unwrap_or (cond b (Some (position_or_len test xs)) None) (length xs) ≡ position_or_len test xs
-    by true e = refl
-    by false e = let most : position_or_len test xs ≤ length xs = position_within test xs in grind (arith, nat_tests, e, most)
-
-position_some : {X : Type 0} (test : X → Bool) (xs : List X) (at : ℕ) → position test xs ≡ Some at → position_or_len test xs ≡ at
-position_some test xs at e = sym (position_is test xs) ∙ ap (λ (o : Option ℕ). unwrap_or o (length xs)) e
-
-position_none : {X : Type 0} (test : X → Bool) (xs : List X) → position test xs ≡ None → position_or_len test xs ≡ length xs
-position_none test xs e = sym (position_is test xs) ∙ ap (λ (o : Option ℕ). unwrap_or o (length xs)) e
-
--- ---- with one more
-
-put_in : (entry : Entry) (entries : List Entry)
-    → take (position_or_len (is_behind entry.place) entries) entries ++ entry ∷ drop (position_or_len (is_behind entry.place) entries) entries ≡
-    with_entry entry entries
-put_in entry [] = refl
-put_in entry (other ∷ entries) = by (is_behind entry.place other) (put_in entry entries)
-  where
-    at : ℕ
-    at = position_or_len (is_behind entry.place) entries
-
-    by : (b : Bool) → take at entries ++ entry ∷ drop at entries ≡ with_entry entry entries
-        → take (cond (not b) (1 + at) 0) (other ∷ entries) ++ entry ∷ drop (cond (not b) (1 + at) 0) (other ∷ entries) ≡
-        cond b (entry ∷ other ∷ entries) (other ∷ with_entry entry entries)
-    by true rest = refl
-    by false rest =
-        let next : 1 + at ≡ suc at = omega arith in
-        ap (λ (n : ℕ). take n (other ∷ entries) ++ entry ∷ drop n (other ∷ entries)) next ∙ ap (λ (l : List Entry). other ∷ l) rest
-
-pub with_within : (entry : Entry) (entries : List Entry) (found : Option ℕ) (at : ℕ) → found ≡ position (is_behind entry.place) entries
-    → at ≡ unwrap_or found (length entries)
-    → at ≤ length entries
-with_within entry entries found at e is =
-    let there : at ≡ position_or_len (is_behind entry.place) entries = is ∙ ap (λ (o : Option ℕ). unwrap_or o (length entries)) e
-    ∙ position_is (is_behind entry.place) entries in
-    omega (arith, there, position_within (is_behind entry.place) entries)
-
-pub with_parts : (entry : Entry) (entries : List Entry) (found : Option ℕ) (at : ℕ) (front back : List Entry) → found ≡ position (is_behind entry.place) entries
-    → at ≡ unwrap_or found (length entries) → front ≡ take at entries → back ≡ drop at entries → front ++ entry ∷ [] ++ back ≡ with_entry entry entries
-with_parts entry entries found at front back e is fore aft =
-    let there : at ≡ position_or_len (is_behind entry.place) entries = is ∙ ap (λ (o : Option ℕ). unwrap_or o (length entries)) e
-    ∙ position_is (is_behind entry.place) entries in
-    append_assoc front (entry ∷ []) back
-    ∙ ap₂ (λ (one other : List Entry). one ++ entry ∷ other) (fore ∙ ap (λ (n : ℕ). take n entries) there) (aft ∙ ap (λ (n : ℕ). drop n entries) there)
-    ∙ put_in entry entries
-
--- ---- without one
-
-less_differs : (o : Ordering) → is_lt o ≡ true → is_eq o ≡ false
-less_differs Less less = refl
-less_differs Equal less = absurd (cc)
-less_differs Greater less = refl
-
--- an entry stands at a place, so those behind it do not
-none_later : (place : Place) (entry : Entry) (entries : List Entry) → is_entry_at place entry ≡ true
-    → list_all (λ (later : Entry). is_lt (place_cmp entry.place later.place)) entries ≡ true
-    → AllByRecursion (λ (later : Entry). not (is_entry_at place later) ≡ true) entries
-none_later place entry [] at ordered = tt
-none_later place entry (later ∷ entries) at ordered =
-    let same : place ≡ entry.place = place_same place entry.place (sym (place_cmp_eq place entry.place) ∙ at) in (
-      ap not (ap (λ (it : Place). is_eq (place_cmp it later.place)) same
-          ∙ less_differs _ (and_first _ _ ordered)),
-      none_later place entry entries at (and_second _ _ ordered),
-    )
-
-take_out : (place : Place) (entries : List Entry) → are_by_place entries ≡ true
-    → take (position_or_len (is_entry_at place) entries) entries ++ drop (suc (position_or_len (is_entry_at place) entries)) entries ≡
-    without_entry place entries
-take_out place [] ordered = refl
-take_out place (other ∷ entries) ordered = by (is_entry_at place other) refl (take_out place entries (and_second _ _ ordered))
-  where
-    at : ℕ
-    at = position_or_len (is_entry_at place) entries
-
-    by : (b : Bool) → is_entry_at place other ≡ b → take at entries ++ drop (suc at) entries ≡ without_entry place entries
-        → take (cond (not b) (1 + at) 0) (other ∷ entries) ++ drop (suc (cond (not b) (1 + at) 0)) (other ∷ entries) ≡
-        cond (not b) (other ∷ without_entry place entries) (without_entry place entries)
-    by true is rest = sym (filter_all (λ (entry : Entry). not (is_entry_at place entry)) entries (none_later place other entries is (and_first _ _ ordered)))
-    by false is rest =
-        let next : 1 + at ≡ suc at = omega arith in
-        ap (λ (n : ℕ). take n (other ∷ entries) ++ drop (suc n) (other ∷ entries)) next ∙ ap (λ (l : List Entry). other ∷ l) rest
-
-pub without_parts : (place : Place) (entries : List Entry) (at : ℕ) → are_by_place entries ≡ true → position (is_entry_at place) entries ≡ Some at
-    → take at entries ++ [] ++ take (length entries - (at + 1)) (drop (at + 1) entries) ≡ without_entry place entries
-without_parts place entries at ordered e =
-    let there : position_or_len (is_entry_at place) entries ≡ at = position_some (is_entry_at place) entries at e in
-    let next : at + 1 ≡ suc (position_or_len (is_entry_at place) entries) = omega arith in
-    let all : length (drop (at + 1) entries) ≤ length entries - (at + 1) = omega (arith, length-drop (at + 1) entries) in
-    ap₂ (λ (front back : List Entry). front ++ back) (append-nil (take at entries) ∙ ap (λ (n : ℕ). take n entries) (sym there))
-    (take_all (length entries - (at + 1)) (drop (at + 1) entries) all ∙ ap (λ (n : ℕ). drop n entries) next)
-    ∙ take_out place entries ordered
-
-pub without_none : (place : Place) (entries : List Entry) → are_by_place entries ≡ true → position (is_entry_at place) entries ≡ None
-    → entries ≡ without_entry place entries
-without_none place entries ordered e =
-    let there : position_or_len (is_entry_at place) entries ≡ length entries = position_none (is_entry_at place) entries e in
-    sym (ap (λ (n : ℕ). take n entries ++ drop (suc n) entries) there ∙ whole entries) ∙ take_out place entries ordered
-  where
-    whole : (l : List Entry) → take (length l) l ++ drop (suc (length l)) l ≡ l
-    whole [] = refl
-    whole (first ∷ l) = ap (λ (rest : List Entry). first ∷ rest) (whole l)
 
 -- ---- the places of hits
 
@@ -168,15 +54,23 @@ hit_one reach number entry = by (reach entry.place.bus)
         then false = refl
     by false = refl
 
-pub hits_more : (reach : ℕ → Bool) (number : ℕ) (entries : List Entry) (i : ℕ) (entry : Entry) (start so_far now : List (Option Place)) → i < length entries
-    → entry ≡ get_or entries i entry → so_far ≡ start ++ hits_in reach (take i entries) number → now ≡ so_far ++ hits_in reach (entry ∷ []) number
-    → now ≡ start ++ hits_in reach (take (i + 1) entries) number
-hits_more reach number entries i entry start so_far now within is before e =
+-- one box more
+pub unboxed_more : (boxes : List (Box Entry)) (i : ℕ) (box : Box Entry) (entry : Entry) → i < length boxes → box ≡ get_or boxes i box → entry ≡ box.value
+    → unboxed (take (i + 1) boxes) ≡ unboxed (take i boxes) ++ entry ∷ []
+unboxed_more boxes i box entry within is holds =
+    ap unboxed (take_more boxes i box within ∙ ap (λ (last : Box Entry). take i boxes ++ last ∷ []) (sym is))
+    ∙ map-append (λ (each : Box Entry). each.value) (take i boxes) (box ∷ []) ∙ ap (λ (last : Entry). unboxed (take i boxes) ++ last ∷ []) (sym holds)
+
+pub hits_more : (reach : ℕ → Bool) (number : ℕ) (boxes : List (Box Entry)) (i : ℕ) (box : Box Entry) (entry : Entry) (start so_far now : List (Option Place))
+    → i < length boxes → box ≡ get_or boxes i box → entry ≡ box.value → so_far ≡ start ++ hits_in reach (unboxed (take i boxes)) number
+    → now ≡ so_far ++ hits_in reach (entry ∷ []) number
+    → now ≡ start ++ hits_in reach (unboxed (take (i + 1) boxes)) number
+hits_more reach number boxes i box entry start so_far now within is holds before e =
+    let entries : List Entry = unboxed (take i boxes) in
     e ∙ ap (λ (places : List (Option Place)). places ++ hits_in reach (entry ∷ []) number) before
-    ∙ append_assoc start (hits_in reach (take i entries) number) (hits_in reach (entry ∷ []) number)
-    ∙ ap (λ (places : List (Option Place)). start ++ places) (sym (hits_append reach number (take i entries) (entry ∷ [])))
-    ∙ ap (λ (them : List Entry). start ++ hits_in reach them number) (ap (λ (last : Entry). take i entries ++ last ∷ []) is
-    ∙ sym (take_more entries i entry within))
+    ∙ append_assoc start (hits_in reach entries number) (hits_in reach (entry ∷ []) number)
+    ∙ ap (λ (places : List (Option Place)). start ++ places) (sym (hits_append reach number entries (entry ∷ [])))
+    ∙ ap (λ (them : List Entry). start ++ hits_in reach them number) (sym (unboxed_more boxes i box entry within is holds))
 
 -- in three parts
 pub hits_parts : (reach : ℕ → Bool) (number : ℕ) (front middle back : List Entry) (start one two three : List (Option Place))
@@ -204,12 +98,13 @@ pub alike_bus : (reach reach_after : ℕ → Bool) (marks marks_after : List Boo
 alike_bus reach reach_after marks marks_after bus at one other marked marked_after small is e f same =
     subst (λ n. reach n ≡ reach_after n) is (sym (marked bus small) ∙ sym e ∙ same_answer one other same ∙ f ∙ marked_after bus small)
 
-pub alike_more : (reach reach_after : ℕ → Bool) (entries : List Entry) (i : ℕ) (entry : Entry) → i < length entries → entry ≡ get_or entries i entry
-    → AreSeenAlike reach reach_after (take i entries) → reach entry.place.bus ≡ reach_after entry.place.bus
-    → AreSeenAlike reach reach_after (take (i + 1) entries)
-alike_more reach reach_after entries i entry within is before now =
-    subst (AreSeenAlike reach reach_after) (ap (λ (last : Entry). take i entries ++ last ∷ []) is ∙ sym (take_more entries i entry within))
-    (all_append (λ (each : Entry). reach each.place.bus ≡ reach_after each.place.bus) (take i entries) (entry ∷ []) before (now, tt))
+pub alike_more : (reach reach_after : ℕ → Bool) (boxes : List (Box Entry)) (i : ℕ) (box : Box Entry) (entry : Entry) → i < length boxes
+    → box ≡ get_or boxes i box → entry ≡ box.value
+    → AreSeenAlike reach reach_after (unboxed (take i boxes)) → reach entry.place.bus ≡ reach_after entry.place.bus
+    → AreSeenAlike reach reach_after (unboxed (take (i + 1) boxes))
+alike_more reach reach_after boxes i box entry within is holds before now =
+    subst (AreSeenAlike reach reach_after) (sym (unboxed_more boxes i box entry within is holds))
+    (all_append (λ (each : Entry). reach each.place.bus ≡ reach_after each.place.bus) (unboxed (take i boxes)) (entry ∷ []) before (now, tt))
 
 pub alike_parts : (reach reach_after : ℕ → Bool) (front middle back : List Entry) → AreSeenAlike reach reach_after front → AreSeenAlike reach reach_after middle
     → AreSeenAlike reach reach_after back → AreSeenAlike reach reach_after (front ++ middle ++ back)
@@ -258,12 +153,35 @@ hits_stay reach reach_after number entry before after apart alike none =
 
 -- an entry that is put in comes alone
 pub with_among : (entry : Entry) (entries : List Entry) → IsAmong entry entries (with_entry entry entries)
-with_among entry entries = record {
-  front = take (position_or_len (is_behind entry.place) entries) entries;
-  back = drop (position_or_len (is_behind entry.place) entries) entries;
-  without = sym (take-append-drop (position_or_len (is_behind entry.place) entries) entries);
-  with = sym (put_in entry entries);
-}
+with_among entry [] = record { front = []; back = []; without = refl; with = refl }
+with_among entry (other ∷ entries) = by (is_lt (place_cmp entry.place other.place)) (with_among entry entries)
+  where
+    by : (first : Bool) → IsAmong entry entries (with_entry entry entries)
+        → IsAmong entry (other ∷ entries) (cond first (entry ∷ other ∷ entries) (other ∷ with_entry entry entries))
+    by true rest = record { front = []; back = other ∷ entries; without = refl; with = refl }
+    by false rest = record {
+      front = other ∷ rest.front;
+      back = rest.back;
+      without = ap (λ (them : List Entry). other ∷ them) rest.without;
+      with = ap (λ (them : List Entry). other ∷ them) rest.with;
+    }
+
+less_differs : (o : Ordering) → is_lt o ≡ true → is_eq o ≡ false
+less_differs Less less = refl
+less_differs Equal less = absurd (cc)
+less_differs Greater less = refl
+
+-- an entry stands at a place, so those behind it do not
+none_later : (place : Place) (entry : Entry) (entries : List Entry) → is_entry_at place entry ≡ true
+    → list_all (λ (later : Entry). is_lt (place_cmp entry.place later.place)) entries ≡ true
+    → AllByRecursion (λ (later : Entry). not (is_entry_at place later) ≡ true) entries
+none_later place entry [] at ordered = tt
+none_later place entry (later ∷ entries) at ordered =
+    let same : place ≡ entry.place = place_same place entry.place (sym (place_cmp_eq place entry.place) ∙ at) in (
+      ap not (ap (λ (it : Place). is_eq (place_cmp it later.place)) same
+          ∙ less_differs _ (and_first _ _ ordered)),
+      none_later place entry entries at (and_second _ _ ordered),
+    )
 
 before_it : (place : Place) (other entry : Entry) → is_lt (place_cmp other.place entry.place) ≡ true → is_entry_at place entry ≡ true
     → is_entry_at place other ≡ false

@@ -1,6 +1,7 @@
 -- The entries of a moment, and the boards of one configuration.
 use Rattle.std.specs.Prelude.{ℕ, ◌≡◌, Bool, false, ⊤, ◌⊎◌, if◌then◌else◌, List, [], ◌∷◌, ◌++◌, map, Option, Some, None}
-use Rattle.std.specs.List.{AllByRecursion}
+use Rattle.std.specs.Global.{Box}
+use Rattle.std.specs.List.{AllByRecursion, prefix_len}
 use Rattle.found_set.specs.Marks.{AreMarked}
 use Rattle.std.specs.Ordering.{is_lt}
 use Rattle.bmc_base.specs.Places.{Place, place_cmp}
@@ -12,9 +13,13 @@ use Rattle.inventory.specs.Indexes.{except}
 use Rattle.inventory.specs.Differences.{Moment, key_of}
 use Rattle.inventory.specs.declared.board.BoardKey.{BoardKey}
 
--- whether an entry comes behind a place
-abbrev pub is_behind : Place → Entry → Bool
-is_behind place entry = is_lt (place_cmp place entry.place)
+-- what boxes hold
+abbrev pub unboxed : List (Box Entry) → List Entry
+unboxed boxes = map (λ (entry : Box Entry). entry.value) boxes
+
+-- how many entries at the front come before a place
+abbrev pub count_before : Place → List Entry → ℕ
+count_before place entries = prefix_len (λ (entry : Entry). is_lt (place_cmp entry.place place)) entries
 
 -- the places of the entries on reachable buses that a pattern of a configuration matches
 abbrev pub hits_in : (ℕ → Bool) → List Entry → ℕ → List (Option Place)

@@ -1,6 +1,6 @@
 ghost use Rattle.std.specs.Prelude.{◌≡◌, ◌∷◌, ◌++◌, [], ℕ, Bool, true, OnOk};
 ghost use Rattle.found_set.specs.Marks.{AreMarked};
-ghost use Rattle.inventory.specs.Moments.{hits_in, AreSeenAlike};
+ghost use Rattle.inventory.specs.Moments.{hits_in, unboxed, AreSeenAlike};
 
 use bmc_base::{OutOfMemory, Place};
 use found_set::Facts;
@@ -26,12 +26,12 @@ fn push_hit(
 /// Appends the places of the FRUs on reachable buses that a pattern of this configuration matches.
 pub fn push_hits(
     places: &mut Vec<Option<Place>>,
-    entries: &[Entry],
+    entries: &[Box<Entry>],
     facts: &Facts,
     number: u32,
 ) -> Result<(), OutOfMemory>
     ensures { (reach : ℕ → Bool) → AreMarked facts.now.reach reach
-        → OnOk result (places.new.items ≡ places.old.items ++ hits_in reach entries.now number) }
+        → OnOk result (places.new.items ≡ places.old.items ++ hits_in reach (unboxed entries.now) number) }
 {
     for entry in entries {
         push_hit(places, entry, facts, number)?;
@@ -40,9 +40,9 @@ pub fn push_hits(
 }
 
 /// Whether each FRU is on a bus that is reachable in both cases or in neither.
-pub fn are_seen_alike(entries: &[Entry], facts: &Facts, facts_after: &Facts) -> bool
+pub fn are_seen_alike(entries: &[Box<Entry>], facts: &Facts, facts_after: &Facts) -> bool
     ensures { (reach reach_after : ℕ → Bool) → AreMarked facts.now.reach reach → AreMarked facts_after.now.reach reach_after → result ≡ true
-        → AreSeenAlike reach reach_after entries.now }
+        → AreSeenAlike reach reach_after (unboxed entries.now) }
 {
     for entry in entries {
         let bus = entry.place.bus();

@@ -1,7 +1,7 @@
-ghost use Rattle.std.specs.Prelude.{◌≡◌, ◌++◌, ℕ, Bool, true, IsTrue, OnOk, position};
+ghost use Rattle.std.specs.Prelude.{◌≡◌, ◌++◌, ◌≤◌, ℕ, Bool, true, false, IsTrue, OnOk, length};
 ghost use Rattle.found_set.specs.Marks.{AreMarked, is_marked};
-ghost use Rattle.probe_lang.specs.Presents.{are_by_place, is_entry_at, with_entry, without_entry};
-ghost use Rattle.inventory.specs.Moments.{hits_in, is_behind, AreSeenAlike};
+ghost use Rattle.probe_lang.specs.Presents.{are_by_place, holds_place, with_entry, without_entry};
+ghost use Rattle.inventory.specs.Moments.{hits_in, unboxed, count_before, AreSeenAlike};
 
 use crate::hits::{are_seen_alike, push_hits};
 use bmc_base::{OutOfMemory, Place};
@@ -14,39 +14,39 @@ use std::slice;
 #[derive(Drop)]
 pub struct Moment<'a> {
     facts: Facts,
-    before: &'a [Entry],
-    plus: &'a [Entry],
-    behind: &'a [Entry],
+    before: &'a [Box<Entry>],
+    plus: &'a [Box<Entry>],
+    behind: &'a [Box<Entry>],
 }
 
 impl<'a> Model for Moment<'a> {
-    ghost use Rattle.std.specs.Prelude.{◌++◌};
+    ghost use Rattle.std.specs.Prelude.{◌++◌, IsTrue};
+    ghost use Rattle.probe_lang.specs.Presents.{are_by_place};
     ghost use Rattle.inventory.specs.Differences.{Moment};
+    ghost use Rattle.inventory.specs.Moments.{unboxed};
 
     ghost Value = { Moment };
 
-    ghost view = { λ m. record { facts = m.facts; entries = m.before.now ++ m.plus.now ++ m.behind.now } };
+    ghost view = { λ m. record { facts = m.facts; entries = unboxed m.before.now ++ unboxed m.plus.now ++ unboxed m.behind.now } };
+
+    ghost invariant = { λ m. IsTrue (are_by_place (unboxed m.before.now ++ unboxed m.plus.now ++ unboxed m.behind.now)) };
 }
 
-// Returns where the first entry behind this place stands, if there is one.
-fn first_behind(entries: &[Entry], place: Place) -> Option<usize>
-    ensures { result ≡ position (is_behind place) entries.now }
+// Counts the entries that come before a place.
+fn count_before(entries: &[Box<Entry>], place: Place) -> usize
+    requires { IsTrue (are_by_place (unboxed entries.now)) }
+    ensures value { result ≡ count_before place (unboxed entries.now) }
+    ensures range { result ≤ length entries.now }
 {
-    entries.iter().position(|entry| place < entry.place)
-}
-
-// Returns where the first entry at this place stands, if there is one.
-fn position_at(entries: &[Entry], place: Place) -> Option<usize>
-    ensures { result ≡ position (is_entry_at place) entries.now }
-{
-    entries.iter().position(|entry| place == entry.place)
+    entries.partition_point(|entry| entry.place < place)
 }
 
 impl<'a> Moment<'a> {
-    /// Returns the moment of these entries.
-    pub fn of(facts: Facts, entries: &'a [Entry]) -> Moment<'a>
+    /// Returns the moment of these entries, each of which comes before those behind it.
+    pub fn of(facts: Facts, entries: &'a [Box<Entry>]) -> Moment<'a>
+        requires { IsTrue (are_by_place (unboxed entries.now)) }
         ensures facts { result.facts ≡ facts }
-        ensures entries { result.entries ≡ entries.now }
+        ensures entries { result.entries ≡ unboxed entries.now }
     {
         Moment {
             facts,
@@ -56,12 +56,15 @@ impl<'a> Moment<'a> {
         }
     }
 
-    /// Returns the moment of these entries with one more, at its place.
-    pub fn with(facts: Facts, entries: &'a [Entry], plus: &'a Entry) -> Moment<'a>
+    /// Returns the moment of these entries, each of which comes before those behind it, with one more at its
+    /// place, which is free.
+    pub fn with(facts: Facts, entries: &'a [Box<Entry>], plus: &'a Box<Entry>) -> Moment<'a>
+        requires order { IsTrue (are_by_place (unboxed entries.now)) }
+        requires free { holds_place (unboxed entries.now) plus.now.value.place ≡ false }
         ensures facts { result.facts ≡ facts }
-        ensures entries { result.entries ≡ with_entry plus.now entries.now }
+        ensures entries { result.entries ≡ with_entry plus.now.value (unboxed entries.now) }
     {
-        let at = first_behind(entries, plus.place).unwrap_or(entries.len());
+        let at = count_before(entries, plus.place);
         let (before, behind) = entries.split_at(at);
         Moment {
             facts,
@@ -72,21 +75,23 @@ impl<'a> Moment<'a> {
     }
 
     /// Returns the moment of these entries, each of which comes before those behind it, without the one at this place.
-    pub fn without(facts: Facts, entries: &'a [Entry], place: Place) -> Moment<'a>
-        requires { IsTrue (are_by_place entries.now) }
+    pub fn without(facts: Facts, entries: &'a [Box<Entry>], place: Place) -> Moment<'a>
+        requires { IsTrue (are_by_place (unboxed entries.now)) }
         ensures facts { result.facts ≡ facts }
-        ensures entries { result.entries ≡ without_entry place entries.now }
+        ensures entries { result.entries ≡ without_entry place (unboxed entries.now) }
     {
-        match position_at(entries, place) {
-            Some(at) => Moment {
+        let at = count_before(entries, place);
+        if at < entries.len() && entries[at].place == place {
+            return Moment {
                 facts,
                 before: &entries[..at],
                 plus: &[],
                 behind: &entries[at + 1..],
-            },
-            None => Moment::of(facts, entries),
+            };
         }
+        Moment::of(facts, entries)
     }
+
     // Whether the configuration with this number is found.
     pub(crate) fn found(&self, number: u32) -> bool
         ensures { result ≡ is_marked self.now.facts.found number }
@@ -108,6 +113,7 @@ impl<'a> Moment<'a> {
         push_hits(places, self.behind, &self.facts, number)?;
         Ok(())
     }
+
     // Whether each FRU is on a bus that is reachable at both moments or at neither.
     pub(crate) fn is_seen_alike(&self, after: &Moment<'_>) -> bool
         ensures { (reach reach_after : ℕ → Bool) → AreMarked self.now.facts.reach reach → AreMarked after.now.facts.reach reach_after → result ≡ true

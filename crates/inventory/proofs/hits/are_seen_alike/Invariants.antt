@@ -1,8 +1,8 @@
 use Rattle.std.proofs.Common.{ℕ, Bool, take}
 use Rattle.found_set.specs.Marks.{AreMarked}
-use Rattle.inventory.specs.Moments.{AreSeenAlike}
+use Rattle.inventory.specs.Moments.{unboxed, AreSeenAlike}
 use Rattle.inventory.proofs.hits.are_seen_alike.Given as goal
 
 abbrev pub invariant-loop-entry : goal.invariant-loop-entry
 invariant-loop-entry l = (reach reach_after : ℕ → Bool) → AreMarked l.facts.reach reach → AreMarked l.facts_after.reach reach_after
-    → AreSeenAlike reach reach_after (take l.entry-index l.entries)
+    → AreSeenAlike reach reach_after (unboxed (take l.entry-index l.entries))

@@ -1,9 +1,18 @@
-use Rattle.inventory.proofs.MomentsLemmas.{with_parts}
+use Rattle.std.proofs.Common.{◌∙◌, ap}
+use Rattle.probe_lang.specs.declared.rows.Entry.{Entry}
+use Rattle.probe_lang.specs.Presents.{are_by_place}
+use Rattle.inventory.specs.Moments.{unboxed, count_before}
+use Rattle.inventory.proofs.OrderLemmas.{with_parts, with_entry_by_place}
 use Rattle.inventory.proofs.moment.Moment.with.Goals as goal
 
 pub returns-clause-entries : goal.returns-clause-entries
 returns-clause-entries c =
     rw c.from_ref.ensures.value
-    (with_parts c.args.plus.now c.args.entries.now c.first_behind.result c.unwrap_or-at.result c.split_at.result.0.now c.split_at.result.1.now
-    c.first_behind.ensures
-    c.unwrap_or-at.ensures c.split_at.ensures.front c.split_at.ensures.back)
+    (with_parts c.args.plus.now.value c.args.entries.now c.count_before-at.result c.split_at.result.0.now c.split_at.result.1.now
+    c.requires.free
+    (c.count_before-at.ensures.value ∙ ap (λ (entry : Entry). count_before entry.place (unboxed c.args.entries.now)) c.deref.ensures) c.split_at.ensures.front c.split_at.ensures.back)
+
+pub invariant_of-result : goal.invariant_of-result
+invariant_of-result c =
+    ap are_by_place (returns-clause-entries c)
+    ∙ with_entry_by_place c.args.plus.now.value (unboxed c.args.entries.now) c.requires.order c.requires.free
