@@ -1,9 +1,10 @@
 -- The rows that the found set has: those of FRUs with hits or channels.
-use Rattle.std.proofs.Common.{◌≡◌, ℕ, List, [], ◌∷◌, ◌++◌, map, filter, Bool, true, false, not, cond, ◌&&◌, ◌||◌, Option, Some, None, find, refl, ap, ap₂, sym, subst, ◌∙◌}
+use Rattle.std.proofs.Common.{◌≡◌, ℕ, List, [], ◌∷◌, ◌++◌, map, filter, Bool, true, false, not, cond, ◌&&◌, ◌||◌, Option, Some, None, length, ◌==◌, find, arith, refl, ap, sym, ◌∙◌}
 use Rattle.std.specs.List.{list_any, list_all}
 use Rattle.std.specs.Ordering.{is_lt, is_eq}
 use Rattle.std.proofs.Math.Bool.{and-false}
 use Rattle.std.proofs.lemmas.Bool.{and_parts, and_from, or_parts, or_from}
+use Rattle.std.proofs.lemmas.Bool.Decides.{nat_tests}
 use Rattle.std.proofs.lemmas.Option.{same_Some}
 use Rattle.bmc_base.specs.Places.{Place, place_cmp}
 use Rattle.probe_lang.specs.Sights.{has_hit, has_channel}
@@ -19,9 +20,18 @@ use Rattle.found_set.specs.Rows as rows
 use Rattle.found_set.specs.Rows.{row_of, row_sight, sights_of, is_idle, with_row, without_row, is_row_at, is_row_after}
 use Rattle.found_set.specs.Buses.{has_on}
 use Rattle.found_set.proofs.BusesLemmas.{any_on}
-use Rattle.found_set.proofs.IdleLemmas.{facts_same, idle_parts}
+use Rattle.found_set.proofs.IdleLemmas.{facts_same}
 use Rattle.inventory.specs.Moments.{IsAmong}
 use Rattle.bmc_replay.specs.Insides.{busy}
+
+empties : (hits : List Hit) (channels : List Channel) → (length hits == 0 && length channels == 0) ≡ true → (hits ≡ []) × (channels ≡ [])
+empties [] [] none = (refl, refl)
+empties [] (channel ∷ channels) none = absurd (grind (arith, nat_tests))
+empties (hit ∷ hits) channels none = absurd (grind (arith, nat_tests))
+
+-- what an idle row has
+pub idle_parts : (row : Row) → is_idle row ≡ true → (row.hits ≡ []) × (row.channels ≡ [])
+idle_parts row idle = empties row.hits row.channels idle
 
 -- ---- what is found over them
 

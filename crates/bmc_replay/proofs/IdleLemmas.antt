@@ -13,7 +13,6 @@ use Rattle.found_set.specs.declared.row.Row.{Row}
 use Rattle.found_set.specs.Marks.{is_marked}
 use Rattle.found_set.specs.Found.{Rule, found_from, found, matched_by, on_buses, is_root, roots, moves_to, opens, is_reached, is_found}
 use Rattle.found_set.specs.Rows.{row_of, is_idle}
-use Rattle.found_set.proofs.IdleLemmas.{idle_parts}
 use Rattle.inventory.specs.Boards.{boards_in, board_places, config_places, hit_places, places_or_none, rules_of, has_board}
 use Rattle.inventory.specs.Indexes.{kept_of, except, with_boards}
 use Rattle.inventory.specs.Differences.{keys_left, key_of}
@@ -23,6 +22,7 @@ use Rattle.inventory.proofs.MomentsLemmas.{hits_stay}
 use Rattle.inventory.specs.declared.board.BoardKey.{BoardKey}
 use Rattle.bmc_machine.specs.Changes.{Inventory, changes_between, board_change}
 use Rattle.bmc_report.specs.declared.change.Change.{Change}
+use Rattle.bmc_replay.proofs.BusyLemmas.{idle_parts}
 use Rattle.bmc_replay.specs.States.{View, view_boards, view_inventory, Moves}
 
 -- ---- what is found and reachable over FRUs of which as much is seen

@@ -3,8 +3,8 @@ pub mod StatesLemmas
 pub mod StepsLemmas
 pub mod ChangesLemmas
 pub mod KeysLemmas
-pub mod IdleLemmas
 pub mod BusyLemmas
+pub mod IdleLemmas
 pub mod RowsLemmas
 pub mod EventsLemmas
 pub mod RunsLemmas

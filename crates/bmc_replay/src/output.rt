@@ -2,6 +2,7 @@ ghost use Rattle.std.specs.Prelude.{◌≡◌, ◌<◌, ◌++◌, [], length, On
 ghost use Rattle.bmc_base.specs.Calls.{HasCause};
 ghost use Rattle.bmc_io.specs.Told.{added};
 ghost use Rattle.bmc_io.specs.Sinks.{AppendsFront};
+ghost use Rattle.probe_lang.specs.Presents.{unboxed};
 ghost use Rattle.bmc_replay.specs.Statuses.{WriteCause};
 ghost use Rattle.bmc_replay.specs.Gathering.{Gathers, most_gathered, entry_rows};
 
@@ -42,14 +43,15 @@ pub fn flush_large<K: Sink>(text: &mut String, output: &mut K) -> Result<(), IoF
 }
 
 /// Gathers the row of each FRU, and writes what grows large on the way.
-pub fn push_list<K: Sink>(entries: &[Entry], text: &mut String, output: &mut K) -> Result<(), Stop>
+pub fn push_list<K: Sink>(entries: &[Box<Entry>], text: &mut String, output: &mut K) -> Result<(), Stop>
     ensures all { OnOk result (Gathers (K.seen output.old).taken (K.seen output.new).taken (string_bytes text.old) (string_bytes text.new)
-        (entry_rows entries.now)) }
-    ensures front { OnErr result (AppendsFront (K.seen output.old).taken (K.seen output.new).taken (string_bytes text.old ++ entry_rows entries.now)) }
+        (entry_rows (unboxed entries.now))) }
+    ensures front { OnErr result (AppendsFront (K.seen output.old).taken (K.seen output.new).taken (string_bytes text.old ++ entry_rows (unboxed entries.now))) }
     ensures cause { MatchResult result (λ _. (K.seen output.new).calls.faults ≡ (K.seen output.old).calls.faults)
         (λ stop. WriteCause stop (K.seen output.old).calls (K.seen output.new).calls) }
 {
-    'rows: for entry in entries {
+    'rows: for stored in entries {
+        let entry: &Entry = stored;
         push_fru_row(text, entry.place, entry.fru.fields())?;
         flush_large(text, output)?;
     }

@@ -167,21 +167,23 @@ impl<L: Ledger> State<L> {
         ensures ok { OnOk result (AddsFru place fru self.old self.new) }
         ensures same { OnErr result (IsSame self.old self.new) }
     {
-        let entry = Box::new(alloc, make(alloc, place, fru, &self.shelf, steps)?)?;
+        let made = make(alloc, place, fru, &self.shelf, steps)?;
+        let boxed = Box::new(alloc, made)?;
+        let entry: &Entry = &boxed;
         self.rows.reserve(alloc)?;
-        if is_idle(&entry) {
-            self.rows.plug(entry);
+        if is_idle(entry) {
+            self.rows.plug(boxed);
             self.plugged = true;
             self.changes.clear();
             return Ok(());
         }
-        let next = self.set.prepare_plug(alloc, &entry, steps)?;
+        let next = self.set.prepare_plug(alloc, entry, steps)?;
         let before = Moment::of(self.set.facts(), self.rows.entries());
-        let after = Moment::with(next.facts(), self.rows.entries(), &entry);
-        let difference = difference_by(alloc, &self.shelf, &entry, &before, &after)?;
+        let after = Moment::with(next.facts(), self.rows.entries(), &boxed);
+        let difference = difference_by(alloc, &self.shelf, entry, &before, &after)?;
         let gone = stage_changes(alloc, difference, &mut self.keep, &mut self.changes)?;
         self.set.commit(next);
-        self.rows.plug(entry);
+        self.rows.plug(boxed);
         self.plugged = true;
         tell_changes(&self.shelf, &mut self.keep, &gone, &mut self.changes);
         Ok(())

@@ -61,6 +61,7 @@ impl Rows {
     pub fn entry(&self, place: Place) -> Option<&Entry>
         ensures value { option_map (λ entry. entry.now) result ≡ find (is_entry_at place) self.now.entries }
         ensures held { is_some result ≡ holds_place self.now.entries place }
+        ensures order { IsTrue (are_by_place self.now.entries) }
     {
         let position = self.count_before(place);
         let stored = self.entries.get(position)?;

@@ -1,8 +1,8 @@
-use Rattle.std.proofs.Common.{◌∙◌, [], true, refl, ap, sym, subst, append-nil, inl}
+use Rattle.std.proofs.Common.{◌≡◌, ◌∙◌, [], true, refl, ap, ap₂, sym, subst, append-nil, inl}
 use Rattle.probe_lang.specs.declared.rows.Entry.{Entry}
 use Rattle.bmc_replay.specs.States.{View}
 use Rattle.bmc_replay.specs.Steps.{AddsFru}
-use Rattle.probe_lang.specs.Presents.{with_entry}
+use Rattle.probe_lang.specs.Presents.{with_entry, are_by_place}
 use Rattle.found_set.specs.Found.{facts}
 use Rattle.found_set.specs.Sets.{SetView}
 use Rattle.found_set.specs.declared.next_facts.NextFacts.{NextFacts}
@@ -10,24 +10,26 @@ use Rattle.inventory.specs.Indexes.{kept_of}
 use Rattle.found_set.specs.Rows.{row_of, sights_of}
 use Rattle.found_set.specs.Events.{PlugEvent}
 use Rattle.bmc_replay.proofs.KeysLemmas.{moves}
+use Rattle.bmc_replay.proofs.BusyLemmas.{busy_among}
+use Rattle.bmc_replay.proofs.IdleLemmas.{idle_boards, idle_moves}
 use Rattle.bmc_replay.proofs.EventsLemmas.{on_err, new_place, known_entry, plug_among, difference_is, gone_within, staged_within, tells_those, set_after, rows_plugged}
 use Rattle.bmc_replay.proofs.state.State.add_fru.Goals as goal
 
 pub prepare_plug-requires-clause-new : goal.prepare_plug-requires-clause-new
 prepare_plug-requires-clause-new g c =
-    new_place c.self.inside.set.rows c.self.inside.rows.entries c.in_ok-entry.entry c.self.inside.shelf c.args.place c.args.fru c.self.invariant.rows
-    c.in_ok-entry.ensures.ok (rw (← c.self.view_is) at c.requires)
+    new_place c.self.inside.set.rows c.self.inside.rows.entries c.deref-entry.result.now c.self.inside.shelf c.args.place c.args.fru c.self.invariant.rows
+    (c.deref-entry.ensures ∙ c.in_ok-boxed.ensures.ok ∙ c.in_ok-made.ensures.ok) (rw (← c.self.view_is) at c.requires)
 
 pub prepare_plug-requires-clause-known : goal.prepare_plug-requires-clause-known
 prepare_plug-requires-clause-known g c =
-    known_entry c.self.inside.set.rules c.self.inside.shelf c.in_ok-entry.entry c.args.place c.args.fru c.self.invariant.rules c.in_ok-entry.ensures.ok
+    known_entry c.self.inside.set.rules c.self.inside.shelf c.deref-entry.result.now c.args.place c.args.fru c.self.invariant.rules (c.deref-entry.ensures ∙ c.in_ok-boxed.ensures.ok ∙ c.in_ok-made.ensures.ok)
 
 pub difference_by-requires : goal.difference_by-requires
 difference_by-requires g c =
-    inl (plug_among c.in_ok-entry.entry c.self.inside.rows.entries c.of-before.result.entries c.with-after.result.entries
+    inl (plug_among c.deref-entry.result.now c.self.inside.rows.entries c.of-before.result.entries c.with-after.result.entries
     (c.of-before.ensures.entries ∙ c.entries.ensures.value ∙ c.in_ok-reserve.ensures.entries)
-    (c.with-after.ensures.entries ∙ ap (with_entry c.in_ok-entry.entry)
-    (c.entries-2.ensures.value ∙ c.in_ok-reserve.ensures.entries)))
+    (c.with-after.ensures.entries ∙ ap (with_entry c.in_ok-boxed.boxed.value) (c.entries-2.ensures.value ∙ c.in_ok-reserve.ensures.entries)
+    ∙ ap (λ (entry : Entry). with_entry entry c.self.inside.rows.entries) (sym c.deref-entry.ensures)))
 
 pub returns-in_err-gone-clause-same : goal.returns-in_err-gone-clause-same
 returns-in_err-gone-clause-same g c =
@@ -42,38 +44,87 @@ returns-in_err-gone-clause-same g c =
 pub tell_changes-requires-clause-staged : goal.tell_changes-requires-clause-staged
 tell_changes-requires-clause-staged g c =
     staged_within _ _ _ _ _ _ _ (difference_is c.self.inside.shelf c.self.inside.shelf c.of-before.result c.with-after.result c.self.inside.set.rules c.self.inside.set.rules
-    c.self.inside.rows.entries (with_entry c.in_ok-entry.entry c.self.inside.rows.entries) c.self.inside.set.rows _
+    c.self.inside.rows.entries (with_entry c.in_ok-boxed.boxed.value c.self.inside.rows.entries) c.self.inside.set.rows _
     c.in_ok-difference.difference.gone_boards c.in_ok-difference.difference.new_boards c.self.invariant.rules c.self.invariant.rows
     (c.of-before.ensures.facts ∙ c.facts.ensures.current
     ∙ ap (λ (set : SetView). facts set.rules (sights_of set.rows)) c.in_ok-next.ensures.ok)
     (c.of-before.ensures.entries ∙ c.entries.ensures.value ∙ c.in_ok-reserve.ensures.entries) c.self.invariant.rules
-    (rows_plugged c.self.inside.set.rows c.self.inside.rows.entries (with_entry c.in_ok-entry.entry c.self.inside.rows.entries) c.in_ok-entry.entry
-    c.self.invariant.rows refl)
+    (rows_plugged c.self.inside.set.rows c.self.inside.rows.entries (with_entry c.in_ok-boxed.boxed.value c.self.inside.rows.entries) c.deref-entry.result.now
+    c.self.invariant.rows (ap are_by_place (sym c.in_ok-reserve.ensures.entries) ∙ c.entries.ensures.order) (sym c.is_idle.ensures ∙ c.if-is_idle.false)
+    (ap (λ (entry : Entry). with_entry entry c.self.inside.rows.entries) (sym c.deref-entry.ensures)))
     (c.with-after.ensures.facts ∙ c.facts-2.ensures ∙ ap (λ (next : NextFacts). next.facts) c.in_ok-next.ensures.next)
-    (c.with-after.ensures.entries ∙ ap (with_entry c.in_ok-entry.entry) (c.entries-2.ensures.value ∙ c.in_ok-reserve.ensures.entries))
+    (c.with-after.ensures.entries ∙ ap (with_entry c.in_ok-boxed.boxed.value) (c.entries-2.ensures.value ∙ c.in_ok-reserve.ensures.entries))
     c.in_ok-difference.ensures) c.in_ok-gone.ensures.staged
 
 pub tell_changes-requires-clause-gone : goal.tell_changes-requires-clause-gone
 tell_changes-requires-clause-gone g c =
     gone_within _ _ _ _ _ _ _ (difference_is c.self.inside.shelf c.self.inside.shelf c.of-before.result c.with-after.result c.self.inside.set.rules c.self.inside.set.rules
-    c.self.inside.rows.entries (with_entry c.in_ok-entry.entry c.self.inside.rows.entries) c.self.inside.set.rows _
+    c.self.inside.rows.entries (with_entry c.in_ok-boxed.boxed.value c.self.inside.rows.entries) c.self.inside.set.rows _
     c.in_ok-difference.difference.gone_boards c.in_ok-difference.difference.new_boards c.self.invariant.rules c.self.invariant.rows
     (c.of-before.ensures.facts ∙ c.facts.ensures.current
     ∙ ap (λ (set : SetView). facts set.rules (sights_of set.rows)) c.in_ok-next.ensures.ok)
     (c.of-before.ensures.entries ∙ c.entries.ensures.value ∙ c.in_ok-reserve.ensures.entries) c.self.invariant.rules
-    (rows_plugged c.self.inside.set.rows c.self.inside.rows.entries (with_entry c.in_ok-entry.entry c.self.inside.rows.entries) c.in_ok-entry.entry
-    c.self.invariant.rows refl)
+    (rows_plugged c.self.inside.set.rows c.self.inside.rows.entries (with_entry c.in_ok-boxed.boxed.value c.self.inside.rows.entries) c.deref-entry.result.now
+    c.self.invariant.rows (ap are_by_place (sym c.in_ok-reserve.ensures.entries) ∙ c.entries.ensures.order) (sym c.is_idle.ensures ∙ c.if-is_idle.false)
+    (ap (λ (entry : Entry). with_entry entry c.self.inside.rows.entries) (sym c.deref-entry.ensures)))
     (c.with-after.ensures.facts ∙ c.facts-2.ensures ∙ ap (λ (next : NextFacts). next.facts) c.in_ok-next.ensures.next)
-    (c.with-after.ensures.entries ∙ ap (with_entry c.in_ok-entry.entry) (c.entries-2.ensures.value ∙ c.in_ok-reserve.ensures.entries))
+    (c.with-after.ensures.entries ∙ ap (with_entry c.in_ok-boxed.boxed.value) (c.entries-2.ensures.value ∙ c.in_ok-reserve.ensures.entries))
     c.in_ok-difference.ensures) c.in_ok-gone.ensures.gone
+
+-- ---- a FRU without hits
+
+pub invariant_of-self-then-is_idle : goal.invariant_of-self-then-is_idle
+invariant_of-self-then-is_idle g c =
+    let now : c.plug.new.self.entries ≡ with_entry c.deref-entry.result.now c.self.inside.rows.entries =
+    c.plug.ensures ∙ ap₂ with_entry (sym c.deref-entry.ensures) c.in_ok-reserve.ensures.entries in
+    record {
+      rules = c.self.invariant.rules;
+      rows = c.self.invariant.rows ∙ sym (busy_among c.deref-entry.result.now c.self.inside.rows.entries c.plug.new.self.entries
+          (plug_among c.deref-entry.result.now c.self.inside.rows.entries c.self.inside.rows.entries c.plug.new.self.entries refl now)
+          (sym c.is_idle.ensures ∙ c.if-is_idle.true));
+      none = refl;
+    }
+
+pub returns-then-is_idle-clause-ok : goal.returns-then-is_idle-clause-ok
+returns-then-is_idle-clause-ok g c =
+    let old : View = record {
+      configs = c.self.inside.shelf;
+      entries = c.self.inside.rows.entries;
+      plugged = c.self.inside.plugged;
+      kept = c.self.inside.keep.kept;
+      changes = c.self.inside.changes.items;
+    } in
+    let new : View = record {
+      configs = c.self.inside.shelf;
+      entries = c.plug.new.self.entries;
+      plugged = true;
+      kept = c.self.inside.keep.kept;
+      changes = c.clear.new.self.items;
+    } in
+    let now : c.plug.new.self.entries ≡ with_entry c.deref-entry.result.now c.self.inside.rows.entries =
+    c.plug.ensures ∙ ap₂ with_entry (sym c.deref-entry.ensures) c.in_ok-reserve.ensures.entries in
+    subst (λ (view : View). AddsFru c.args.place c.args.fru view new) c.self.view_is (record {
+      configs = refl;
+      entries = now ∙ ap (λ (entry : Entry). with_entry entry c.self.inside.rows.entries)
+          (c.deref-entry.ensures ∙ c.in_ok-boxed.ensures.ok ∙ c.in_ok-made.ensures.ok);
+      plugged = refl;
+      moves =
+          idle_moves old new refl (λ number. idle_boards c.self.inside.shelf c.deref-entry.result.now c.self.inside.rows.entries c.plug.new.self.entries
+          (plug_among c.deref-entry.result.now c.self.inside.rows.entries c.self.inside.rows.entries c.plug.new.self.entries refl now)
+          (sym c.is_idle.ensures ∙ c.if-is_idle.true) number) refl c.clear.ensures.items;
+    })
+
+-- ---- a FRU with hits
 
 pub invariant_of-self-2 : goal.invariant_of-self-2
 invariant_of-self-2 g c =
-    let now = set_after (PlugEvent (row_of c.in_ok-entry.entry)) c.self.inside.set c.prepare_plug.new.self c.commit.new.self c.in_ok-next.ensures.ok
+    let now = set_after (PlugEvent (row_of c.deref-entry.result.now)) c.self.inside.set c.prepare_plug.new.self c.commit.new.self c.in_ok-next.ensures.ok
     c.commit.ensures in
     record {
       rules = now.0 ∙ c.self.invariant.rules;
-      rows = now.1 ∙ rows_plugged c.self.inside.set.rows c.self.inside.rows.entries c.plug.new.self.entries c.in_ok-entry.entry c.self.invariant.rows ((c.plug.ensures ∙ ap (with_entry c.in_ok-entry.entry) c.in_ok-reserve.ensures.entries));
+      rows = now.1 ∙ rows_plugged c.self.inside.set.rows c.self.inside.rows.entries c.plug-2.new.self.entries c.deref-entry.result.now c.self.invariant.rows
+          (ap are_by_place (sym c.in_ok-reserve.ensures.entries) ∙ c.entries.ensures.order) (sym c.is_idle.ensures ∙ c.if-is_idle.false)
+          (c.plug-2.ensures ∙ ap₂ with_entry (sym c.deref-entry.ensures) c.in_ok-reserve.ensures.entries);
       none = refl;
     }
 
@@ -88,26 +139,29 @@ returns-clause-ok g c =
     } in
     let new : View = record {
       configs = c.self.inside.shelf;
-      entries = c.plug.new.self.entries;
+      entries = c.plug-2.new.self.entries;
       plugged = true;
       kept = c.tell_changes.new.keep.kept;
       changes = c.tell_changes.new.changes.items;
     } in
+    let now : c.plug-2.new.self.entries ≡ with_entry c.deref-entry.result.now c.self.inside.rows.entries =
+    c.plug-2.ensures ∙ ap₂ with_entry (sym c.deref-entry.ensures) c.in_ok-reserve.ensures.entries in
     subst (λ (view : View). AddsFru c.args.place c.args.fru view new) c.self.view_is (record {
       configs = refl;
-      entries = (c.plug.ensures ∙ ap (with_entry c.in_ok-entry.entry) c.in_ok-reserve.ensures.entries) ∙ ap (λ (entry : Entry). with_entry entry c.self.inside.rows.entries) c.in_ok-entry.ensures.ok;
+      entries = now ∙ ap (λ (entry : Entry). with_entry entry c.self.inside.rows.entries)
+          (c.deref-entry.ensures ∙ c.in_ok-boxed.ensures.ok ∙ c.in_ok-made.ensures.ok);
       plugged = refl;
       moves =
           moves old new [] _ _ _ _ _ (sym (append-nil c.self.inside.shelf)) (difference_is c.self.inside.shelf c.self.inside.shelf c.of-before.result c.with-after.result c.self.inside.set.rules c.self.inside.set.rules
-          c.self.inside.rows.entries c.plug.new.self.entries c.self.inside.set.rows _
+          c.self.inside.rows.entries c.plug-2.new.self.entries c.self.inside.set.rows _
           c.in_ok-difference.difference.gone_boards c.in_ok-difference.difference.new_boards c.self.invariant.rules c.self.invariant.rows
           (c.of-before.ensures.facts ∙ c.facts.ensures.current
           ∙ ap (λ (set : SetView). facts set.rules (sights_of set.rows)) c.in_ok-next.ensures.ok)
           (c.of-before.ensures.entries ∙ c.entries.ensures.value ∙ c.in_ok-reserve.ensures.entries) c.self.invariant.rules
-          (rows_plugged c.self.inside.set.rows c.self.inside.rows.entries c.plug.new.self.entries c.in_ok-entry.entry
-          c.self.invariant.rows (c.plug.ensures ∙ ap (with_entry c.in_ok-entry.entry) c.in_ok-reserve.ensures.entries))
+          (rows_plugged c.self.inside.set.rows c.self.inside.rows.entries c.plug-2.new.self.entries c.deref-entry.result.now c.self.invariant.rows
+          (ap are_by_place (sym c.in_ok-reserve.ensures.entries) ∙ c.entries.ensures.order) (sym c.is_idle.ensures ∙ c.if-is_idle.false) now)
           (c.with-after.ensures.facts ∙ c.facts-2.ensures ∙ ap (λ (next : NextFacts). next.facts) c.in_ok-next.ensures.next)
-          (c.with-after.ensures.entries ∙ ap (with_entry c.in_ok-entry.entry) c.entries-2.ensures.value ∙ sym c.plug.ensures)
+          (c.with-after.ensures.entries ∙ ap (with_entry c.in_ok-boxed.boxed.value) c.entries-2.ensures.value ∙ sym c.plug-2.ensures)
           c.in_ok-difference.ensures) c.stage_changes.ensures.kept
           (tells_those c.self.inside.shelf c.in_ok-difference.difference.gone_boards c.in_ok-difference.difference.new_boards c.in_ok-gone.gone
           c.stage_changes.new.keep.staged _ _ _ c.in_ok-gone.ensures.gone c.in_ok-gone.ensures.staged c.tell_changes.ensures) refl refl;

@@ -12,6 +12,8 @@ use Rattle.bmc_replay.specs.States.{View}
 use Rattle.bmc_replay.specs.Steps.{Tries}
 use Rattle.bmc_replay.proofs.KeysLemmas.{moves}
 use Rattle.bmc_replay.proofs.StepsLemmas.{not_present, unplugged}
+use Rattle.bmc_replay.proofs.BusyLemmas.{busy_among}
+use Rattle.bmc_replay.proofs.IdleLemmas.{idle_boards, idle_moves}
 use Rattle.bmc_replay.proofs.EventsLemmas.{on_err, held_place, unplug_among, difference_is, gone_within, staged_within, tells_those, set_after, rows_unplugged, none_left}
 use Rattle.bmc_replay.proofs.state.State.unplug.Goals as goal
 
@@ -23,7 +25,8 @@ returns-in_default-clause-tried g c =
 
 pub prepare_unplug-requires : goal.prepare_unplug-requires
 prepare_unplug-requires g c =
-    held_place c.self.inside.set.rows c.self.inside.rows.entries c.args.place true c.self.invariant.rows (sym c.in-Some.ensures.held)
+    held_place c.self.inside.set.rows c.self.inside.rows.entries c.args.place c.in-Some.entry.now c.self.invariant.rows (sym c.in-Some.ensures.value)
+    (sym c.is_idle.ensures ∙ c.if-is_idle.false)
 
 pub difference_by-requires : goal.difference_by-requires
 difference_by-requires g c =
@@ -74,9 +77,9 @@ invariant_of-self-2 g c =
     let now = set_after (UnplugEvent c.args.place) c.self.inside.set c.prepare_unplug.new.self c.commit.new.self c.in_ok-next.ensures.ok c.commit.ensures in
     record {
       rules = now.0 ∙ c.self.invariant.rules;
-      rows = now.1 ∙ rows_unplugged c.self.inside.set.rows c.self.inside.rows.entries c.unplug.new.self.entries c.args.place c.self.invariant.rows
-          c.unplug.ensures.entries;
-      none = none_left c.self.inside.plugged c.self.inside.rows.entries c.unplug.new.self.entries c.args.place c.self.invariant.none c.unplug.ensures.entries;
+      rows = now.1 ∙ rows_unplugged c.self.inside.set.rows c.self.inside.rows.entries c.unplug-2.new.self.entries c.args.place c.self.invariant.rows
+          c.unplug-2.ensures.entries;
+      none = none_left c.self.inside.plugged c.self.inside.rows.entries c.unplug-2.new.self.entries c.args.place c.self.invariant.none c.unplug-2.ensures.entries;
     }
 
 pub returns-clause-tried : goal.returns-clause-tried
@@ -90,23 +93,58 @@ returns-clause-tried g c =
     } in
     let new : View = record {
       configs = c.self.inside.shelf;
-      entries = c.unplug.new.self.entries;
+      entries = c.unplug-2.new.self.entries;
       plugged = c.self.inside.plugged;
       kept = c.tell_changes.new.keep.kept;
       changes = c.tell_changes.new.changes.items;
     } in
     subst (λ (view : View). Tries view (Unplug c.args.place) None new) c.self.view_is
-    (unplugged old new c.args.place (sym c.in-Some.ensures.held) refl c.unplug.ensures.entries refl
+    (unplugged old new c.args.place (sym c.in-Some.ensures.held) refl c.unplug-2.ensures.entries refl
     (moves old new [] _ _ _ _ _ (sym (append-nil c.self.inside.shelf)) (difference_is c.self.inside.shelf c.self.inside.shelf c.of-before.result c.without-after.result c.self.inside.set.rules c.self.inside.set.rules
-    c.self.inside.rows.entries c.unplug.new.self.entries c.self.inside.set.rows _
+    c.self.inside.rows.entries c.unplug-2.new.self.entries c.self.inside.set.rows _
     c.in_ok-difference.difference.gone_boards c.in_ok-difference.difference.new_boards c.self.invariant.rules c.self.invariant.rows
     (c.of-before.ensures.facts ∙ c.facts.ensures.current
     ∙ ap (λ (set : SetView). facts set.rules (sights_of set.rows)) c.in_ok-next.ensures.ok)
     (c.of-before.ensures.entries ∙ c.entries.ensures.value) c.self.invariant.rules
-    (rows_unplugged c.self.inside.set.rows c.self.inside.rows.entries c.unplug.new.self.entries c.args.place
-    c.self.invariant.rows c.unplug.ensures.entries)
+    (rows_unplugged c.self.inside.set.rows c.self.inside.rows.entries c.unplug-2.new.self.entries c.args.place
+    c.self.invariant.rows c.unplug-2.ensures.entries)
     (c.without-after.ensures.facts ∙ c.facts-2.ensures ∙ ap (λ (next : NextFacts). next.facts) c.in_ok-next.ensures.next)
-    (c.without-after.ensures.entries ∙ ap (without_entry c.args.place) c.entries-2.ensures.value ∙ sym c.unplug.ensures.entries)
+    (c.without-after.ensures.entries ∙ ap (without_entry c.args.place) c.entries-2.ensures.value ∙ sym c.unplug-2.ensures.entries)
     c.in_ok-difference.ensures) c.stage_changes.ensures.kept
     (tells_those c.self.inside.shelf c.in_ok-difference.difference.gone_boards c.in_ok-difference.difference.new_boards c.in_ok-gone.gone
     c.stage_changes.new.keep.staged _ _ _ c.in_ok-gone.ensures.gone c.in_ok-gone.ensures.staged c.tell_changes.ensures) refl refl))
+
+-- ---- a FRU without hits
+
+pub invariant_of-self : goal.invariant_of-self
+invariant_of-self g c = record {
+  rules = c.self.invariant.rules;
+  rows = c.self.invariant.rows ∙ busy_among c.in-Some.entry.now c.unplug.new.self.entries c.self.inside.rows.entries
+      (unplug_among c.args.place c.in-Some.entry.now c.self.inside.rows.entries c.self.inside.rows.entries c.unplug.new.self.entries c.in-Some.ensures.order
+      (sym c.in-Some.ensures.value) refl c.unplug.ensures.entries)
+      (sym c.is_idle.ensures ∙ c.if-is_idle.true);
+  none = none_left c.self.inside.plugged c.self.inside.rows.entries c.unplug.new.self.entries c.args.place c.self.invariant.none c.unplug.ensures.entries;
+}
+
+pub returns-then-is_idle-clause-tried : goal.returns-then-is_idle-clause-tried
+returns-then-is_idle-clause-tried g c =
+    let old : View = record {
+      configs = c.self.inside.shelf;
+      entries = c.self.inside.rows.entries;
+      plugged = c.self.inside.plugged;
+      kept = c.self.inside.keep.kept;
+      changes = c.self.inside.changes.items;
+    } in
+    let new : View = record {
+      configs = c.self.inside.shelf;
+      entries = c.unplug.new.self.entries;
+      plugged = c.self.inside.plugged;
+      kept = c.self.inside.keep.kept;
+      changes = c.clear.new.self.items;
+    } in
+    subst (λ (view : View). Tries view (Unplug c.args.place) None new) c.self.view_is
+    (unplugged old new c.args.place (sym c.in-Some.ensures.held) refl c.unplug.ensures.entries refl
+    (idle_moves old new refl (λ number. sym (idle_boards c.self.inside.shelf c.in-Some.entry.now c.unplug.new.self.entries c.self.inside.rows.entries
+    (unplug_among c.args.place c.in-Some.entry.now c.self.inside.rows.entries c.self.inside.rows.entries c.unplug.new.self.entries c.in-Some.ensures.order
+    (sym c.in-Some.ensures.value) refl c.unplug.ensures.entries)
+    (sym c.is_idle.ensures ∙ c.if-is_idle.true) number)) refl c.clear.ensures.items))
