@@ -5,6 +5,7 @@ pub mod BusesLemmas
 pub mod MarksLemmas
 pub mod RowsLemmas
 pub mod IdleLemmas
+pub mod KeptLemmas
 pub mod InsidesLemmas
 pub mod EventsLemmas
 pub mod SetsLemmas

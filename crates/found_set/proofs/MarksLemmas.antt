@@ -14,7 +14,7 @@ use Rattle.found_set.specs.Buses.{is_on_bus, has_on, is_beyond}
 use Rattle.found_set.proofs.FoundLemmas.{none_marked}
 use Rattle.found_set.proofs.BusesLemmas.{any_on}
 
-matched_on : (test : ℕ → Bool) (rows : List Row) (c p : ℕ) → list_any (has_on test c p) rows ≡ matched_by (on_buses test (sights_of rows)) c p
+pub matched_on : (test : ℕ → Bool) (rows : List Row) (c p : ℕ) → list_any (has_on test c p) rows ≡ matched_by (on_buses test (sights_of rows)) c p
 matched_on test rows c p = sym (any_on (λ (sight : Sight). sight.matched c p) test rows)
 
 -- what matches on root buses
@@ -59,12 +59,11 @@ then_marked rules rows marks more first told = λ c p hc hp.
     ∙ all_visible rules (sights_of rows) c p rows ∙ matched_on (is_reached rules (sights_of rows)) rows c p
 
 -- the same where none is beyond the root buses
-pub still_marked : (rules : List Rule) (rows : List Row) (marks : List Bool) → AreTrue marks (matched_by (on_buses is_root (sights_of rows)))
-    → list_any (is_on_bus (is_beyond (is_reached rules (sights_of rows)))) rows ≡ false
-    → AreTrue marks (matched_by (on_buses (is_reached rules (sights_of rows)) (sights_of rows)))
-still_marked rules rows marks told none = λ c p hc hp.
+pub all_near : (rules : List Rule) (rows : List Row) → list_any (is_on_bus (is_beyond (is_reached rules (sights_of rows)))) rows ≡ false
+    → (c p : ℕ) → matched_by (on_buses is_root (sights_of rows)) c p ≡ matched_by (on_buses (is_reached rules (sights_of rows)) (sights_of rows)) c p
+all_near rules rows none c p =
     let beyond = is_beyond (is_reached rules (sights_of rows)) in
-    told c p hc hp ∙ sym (matched_on is_root rows c p) ∙ sym (or-false (list_any (has_on is_root c p) rows))
+    sym (matched_on is_root rows c p) ∙ sym (or-false (list_any (has_on is_root c p) rows))
     ∙ ap (λ (b : Bool). list_any (has_on is_root c p) rows || b) (sym (none_has beyond c p rows none))
     ∙ all_visible rules (sights_of rows) c p rows ∙ matched_on (is_reached rules (sights_of rows)) rows c p
 

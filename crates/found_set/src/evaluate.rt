@@ -1,22 +1,33 @@
-ghost use Rattle.std.specs.Prelude.{◌≡◌, ◌≤◌, ◌*◌, List, [], length, if◌then◌else◌};
+ghost use Rattle.std.specs.Prelude.{◌≡◌, ◌≤◌, ◌*◌, [], length, if◌then◌else◌};
 ghost use Rattle.bmc_base.specs.Steps.{IsWithin};
 ghost use Rattle.found_set.specs.Marks.{most_rules};
-ghost use Rattle.found_set.specs.Found.{facts, names_of};
+ghost use Rattle.found_set.specs.Found.{facts, matched_by, names_of, roots};
 ghost use Rattle.found_set.specs.Named.{AreNames};
 ghost use Rattle.found_set.specs.Rows.{sights_of, is_idle};
 ghost use Rattle.found_set.specs.Covers.{AreWithOrWithout};
-ghost use Rattle.found_set.specs.declared.row.Row.{Row};
+ghost use Rattle.found_set.specs.Kept.{HoldBeside, StillHold, WereBefore};
 
 use crate::cover::is_covered;
 use crate::facts::{Facts, MOST_RULES};
 use crate::find::found_by;
+use crate::kept::Kept;
 use crate::marks::PATTERN_MARKS;
 use crate::names::Names;
 use crate::parts::Parts;
-use crate::reach::{beyond_roots, mark_roots, reach_of};
+use crate::reach::{beyond_roots, is_on_root, mark_roots, reach_of};
 use crate::row::Row;
 use crate::rule::Rule;
 use bmc_base::{Ledger, Steps};
+
+// Keeps what was found, if it was found over the root buses alone, and a row came or went there.
+fn kept_beside(old: &Facts, row: &Row, others: &Parts<'_>) -> Kept
+    ensures { HoldBeside result.found result.touched row.now others.now old.now }
+{
+    if !is_on_root(row) || others.are_on(&beyond_roots(&old.reach)) {
+        return Kept::nothing();
+    }
+    Kept::beside(&old.found, row)
+}
 
 // Tells what is found and reachable over these rows, from what was before a row came or went beside the
 // others. Where that row is covered, nothing changes.
@@ -31,34 +42,38 @@ pub(crate) fn reevaluate<L: Ledger>(
 ) -> Facts
     requires few { length rules.now ≤ most_rules }
     requires named { AreNames names.now.names (names_of rules.now) }
+    requires before { WereBefore rules.now row.now others.now old.now }
     requires beside { AreWithOrWithout row.now others.now rows.now }
-    ensures facts { (before : List Row) → AreWithOrWithout row.now others.now before
-        → old.now ≡ facts rules.now (sights_of before) → result ≡ facts rules.now (sights_of rows.now) }
+    ensures facts { result ≡ facts rules.now (sights_of rows.now) }
     ensures counted { IsWithin steps.old steps.new (if is_idle row.now then 0 else 2 * length rules.now) }
 {
     if is_covered(row, others, &old.reach) {
         return *old;
     }
-    evaluate(rules, names, rows, steps)
+    let kept = kept_beside(old, row, others);
+    evaluate(rules, names, rows, &kept, steps)
 }
 
-// Tells what is found and reachable over these rows: first over the root buses, and then, if a row is
-// visible on another bus, over all that are visible. The hits of a row are marked once.
+// Tells what is found and reachable over these rows: first over the root buses, where what is kept still
+// holds, and then, if a row is visible on another bus, over all that are visible. The hits of a row are
+// marked once.
 pub(crate) fn evaluate<L: Ledger>(
     rules: &[Rule<L>],
     names: &Names,
     rows: &Parts<'_>,
+    kept: &Kept,
     steps: &mut Steps<L>,
 ) -> Facts
     requires few { length rules.now ≤ most_rules }
     requires named { AreNames names.now.names (names_of rules.now) }
+    requires kept { StillHold kept.now.found kept.now.touched rules.now (matched_by (roots (sights_of rows.now))) }
     ensures facts { result ≡ facts rules.now (sights_of rows.now) }
     ensures counted { IsWithin steps.old steps.new (2 * length rules.now) }
 {
     let mut marks = [false; PATTERN_MARKS];
     let roots = mark_roots();
     rows.mark(&mut marks, &roots);
-    let first = found_by(rules, names, &marks, steps);
+    let first = found_by(rules, names, &marks, kept, steps);
     let reach = reach_of(rules, rows, &first);
     let beyond = beyond_roots(&reach);
     if !rows.are_on(&beyond) {
@@ -68,7 +83,7 @@ pub(crate) fn evaluate<L: Ledger>(
         };
     }
     rows.mark(&mut marks, &beyond);
-    let found = found_by(rules, names, &marks, steps);
+    let found = found_by(rules, names, &marks, &Kept::nothing(), steps);
     Facts { found, reach }
 }
 

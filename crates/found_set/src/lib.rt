@@ -6,6 +6,7 @@ mod cover;
 mod evaluate;
 mod facts;
 mod find;
+mod kept;
 mod law;
 mod marks;
 mod names;

@@ -1,6 +1,6 @@
 ghost use Rattle.std.specs.Prelude.{◌≡◌, ℕ, Bool, ◌||◌, ◌&&◌, ◌==◌};
 ghost use Rattle.std.specs.List.{list_any};
-ghost use Rattle.probe_lang.specs.Sights.{has_hit};
+ghost use Rattle.probe_lang.specs.Sights.{has_hit, has_config};
 ghost use Rattle.found_set.specs.Marks.{is_marked, is_true, AreMarked, AreTrue};
 ghost use Rattle.found_set.specs.Buses.{has_on, is_on_bus};
 
@@ -19,6 +19,26 @@ pub(crate) fn is_marked(marks: &[bool; MOST_RULES], config: usize) -> bool
     ensures { result ≡ is_marked marks.now config }
 {
     marks.get(config).copied().unwrap_or(false)
+}
+
+// Marks this configuration. Numbers out of range have no mark.
+fn mark_config(marks: &mut [bool; MOST_RULES], config: usize)
+    ensures { AreMarked marks.new (λ number. is_marked marks.old number || config == number) }
+{
+    if config < MOST_RULES {
+        marks[config] = true;
+    }
+}
+
+// Marks the configurations of these hits.
+pub(crate) fn touched_by(hits: &[Hit]) -> [bool; MOST_RULES]
+    ensures { AreMarked result (has_config hits.now) }
+{
+    let mut touched = [false; MOST_RULES];
+    for hit in hits {
+        mark_config(&mut touched, hit.config as usize);
+    }
+    touched
 }
 
 // Marks the pattern of this hit. Numbers out of range have no mark.

@@ -9,9 +9,12 @@ use Rattle.found_set.proofs.MarksLemmas.{reach_marked}
 use Rattle.found_set.proofs.evaluate.reevaluate.Goals as goal
 
 pub returns-then-is_covered-clause-facts : goal.returns-then-is_covered-clause-facts
-returns-then-is_covered-clause-facts g c = λ before beside was.
-    was ∙ covered_same c.args.rules.now c.args.row.now c.args.others.now before c.args.rows.now beside c.requires.beside
-    (sym (c.is_covered.ensures (is_reached c.args.rules.now (sights_of before)) (reach_marked c.args.rules.now (sights_of before) c.args.old.now was))
+returns-then-is_covered-clause-facts g c =
+    let before = c.requires.before in
+    let rules = c.args.rules.now in
+    before.told
+    ∙ covered_same rules c.args.row.now c.args.others.now before.rows c.args.rows.now before.beside c.requires.beside
+    (sym (c.is_covered.ensures (is_reached rules (sights_of before.rows)) (reach_marked rules (sights_of before.rows) c.args.old.now before.told))
     ∙ c.if-is_covered.true)
 
 pub returns-then-is_covered-clause-counted : goal.returns-then-is_covered-clause-counted
@@ -23,3 +26,10 @@ returns-clause-counted g c =
     busy_within (is_idle c.args.row.now) (2 * length c.args.rules.now) _ _ (busy_unless_covered (is_marked c.args.old.now.reach) c.args.row.now
     c.args.others.now bare)
     c.evaluate.ensures.counted
+
+pub evaluate-requires : goal.evaluate-requires
+evaluate-requires g c = record {
+  few = c.requires.few;
+  named = c.requires.named;
+  kept = c.kept_beside-kept.ensures c.args.rules.now c.args.rows.now c.requires.few c.requires.before c.requires.beside;
+}

@@ -1,9 +1,11 @@
 -- One configuration more.
-use Rattle.std.proofs.Common.{◌≡◌, ◌∙◌, ℕ, ◌+◌, ◌≤◌, Bool, false, List, set, refl, arith}
+use Rattle.std.proofs.Common.{◌≡◌, ◌∙◌, ℕ, ◌+◌, ◌≤◌, Bool, false, List, length, set, sym, refl, arith}
 use Rattle.std.proofs.lemmas.List.{get_or-set_other, length-set}
 use Rattle.found_set.specs.Marks.{is_marked}
-use Rattle.found_set.proofs.StepsLemmas.{no_evals, evals_more}
-use Rattle.found_set.proofs.FoundLemmas.{none_marked, found_on}
+use Rattle.found_set.proofs.StepsLemmas.{within_sum}
+use Rattle.found_set.proofs.EventsLemmas.{none_within}
+use Rattle.found_set.proofs.FoundLemmas.{none_marked, marked_on}
+use Rattle.found_set.proofs.KeptLemmas.{found_again, still_same}
 use Rattle.found_set.proofs.find.found_by.Goals as goal
 
 none_later : (found : List Bool) (i : ℕ) (b : Bool) → ((n : ℕ) → i ≤ n → is_marked found n ≡ false) → (n : ℕ) → i + 1 ≤ n → is_marked (set found i b) n ≡ false
@@ -12,18 +14,25 @@ none_later found i b none n h = get_or-set_other found i n b false (λ e. omega 
 pub loop-i-init : goal.loop-i-init
 loop-i-init g c = record {
   many = refl;
-  told = λ test h. refl;
+  told = λ test given still. refl;
   none = λ n h. none_marked 256 n;
-  counted = no_evals c.args.steps.now;
+  same = λ unchanged. refl;
+  counted = none_within _ _;
 }
 
 pub loop-i-preserved : goal.loop-i-preserved
-loop-i-preserved g c = record {
-  many = length-set c.loop-i.found c.loop-i.i c.holds-is_found.result ∙ c.loop-i.invariant.many;
-  told = λ test h. found_on c.args.names.now.names c.args.rules.now c.loop-i.i c.index-rules-i.result c.args.marks.now c.loop-i.found c.holds-is_found.result
-      (omega arith) (omega arith)
-      (omega arith) c.index-rules-i.is c.holds-is_found.ensures.few c.loop-i.invariant.none c.requires.named c.holds-is_found.ensures.value test h
-      ∙ c.loop-i.invariant.told test h;
-  none = none_later c.loop-i.found c.loop-i.i c.holds-is_found.result c.loop-i.invariant.none;
-  counted = evals_more _ _ _ c.loop-i.i 1 _ c.loop-i.invariant.counted c.holds-is_found.ensures.counted refl;
-}
+loop-i-preserved g c =
+    let i = c.loop-i.i in
+    let found = c.loop-i.found in
+    let long : length c.args.kept.now.found ≡ 256 = omega arith in record {
+      many = length-set found i c.find-is_found.result ∙ c.loop-i.invariant.many;
+      told = λ test given still. marked_on c.args.rules.now i c.index-rules-i.result found c.find-is_found.result test (omega arith) (omega arith)
+          c.index-rules-i.is (found_again c.args.names.now.names c.args.rules.now i c.index-rules-i.result c.args.marks.now found c.args.kept.now.found
+          c.args.kept.now.touched c.loop-i.has_changed c.mark.result c.find-is_found.result (omega arith) (omega arith) c.index-rules-i.is c.mark.ensures
+          c.find-is_found.ensures.value c.find-is_found.ensures.few c.loop-i.invariant.none c.requires.named c.loop-i.invariant.same test given still)
+          ∙ c.loop-i.invariant.told test given still;
+      none = none_later found i c.find-is_found.result c.loop-i.invariant.none;
+      same = λ unchanged. still_same c.args.kept.now.found found c.loop-i.has_changed i c.find-is_found.result (omega arith) (omega arith)
+          c.loop-i.invariant.same (sym c.changes-has_changed.ensures ∙ unchanged);
+      counted = within_sum _ _ _ i 1 (i + 1) c.loop-i.invariant.counted c.find-is_found.ensures.counted (omega arith);
+    }

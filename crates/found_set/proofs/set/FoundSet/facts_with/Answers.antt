@@ -14,12 +14,19 @@ pub reevaluate-requires : goal.reevaluate-requires
 reevaluate-requires g c =
     let at = c.position_for-at.result in
     let rows = c.self.inside.rows.items in
-    let row = c.args.row.now in record {
+    let row = c.args.row.now in
+    let others : c.of-others.result ≡ take at rows ++ take (length rows - at) (drop at rows) =
+    c.of-others.ensures
+    ∙ ap₂ (λ (first rest : List Row). take at first ++ take (length rest - at) (drop at rest)) c.deref-2.ensures.value c.deref-3.ensures.value in
+    record {
       few = subst (λ (rules : List Rule). length rules ≤ 256) (sym c.deref-6.ensures.value) c.self.invariant.few;
       named = all_named _ _ (c.self.invariant.named ∙ ap names_of (sym c.deref-6.ensures.value));
-      beside = are_with (take at rows) (take (length rows - at) (drop at rows)) row c.of-others.result c.with-rows.result
-          (c.of-others.ensures
-          ∙ ap₂ (λ (first rest : List Row). take at first ++ take (length rest - at) (drop at rest)) c.deref-2.ensures.value c.deref-3.ensures.value)
+      before = record {
+        rows = rows;
+        beside = are_without row c.of-others.result rows (others ∙ all_sliced rows at);
+        told = c.self.invariant.facts ∙ ap (λ (rules : List Rule). facts rules (sights_of rows)) (sym c.deref-6.ensures.value);
+      };
+      beside = are_with (take at rows) (take (length rows - at) (drop at rows)) row c.of-others.result c.with-rows.result others
           (c.with-rows.ensures
           ∙ ap₂ (λ (first rest : List Row). take at first ++ row ∷ take (length rest - at) (drop at rest)) c.deref-4.ensures.value c.deref-5.ensures.value);
     }
@@ -31,16 +38,11 @@ returns-clause-facts g c =
     let row = c.args.row.now in
     let first : at ≡ position_or_len (is_row_after row.place) rows =
     c.position_for-at.ensures.value ∙ ap (position_or_len (is_row_after row.place)) c.deref.ensures.value in
-    let before : c.of-others.result ≡ rows =
-    c.of-others.ensures
-    ∙ ap₂ (λ (first rest : List Row). take at first ++ take (length rest - at) (drop at rest)) c.deref-2.ensures.value c.deref-3.ensures.value
-    ∙ all_sliced rows at in
     let after : c.with-rows.result ≡ with_row row rows =
     c.with-rows.ensures
     ∙ ap₂ (λ (first rest : List Row). take at first ++ row ∷ take (length rest - at) (drop at rest)) c.deref-4.ensures.value c.deref-5.ensures.value
     ∙ with_sliced row rows at first in
-    rw (← c.self.view_is) (c.reevaluate.ensures.facts rows (are_without row c.of-others.result rows before) (c.self.invariant.facts
-    ∙ ap (λ (rules : List Rule). facts rules (sights_of rows)) (sym c.deref-6.ensures.value))
+    rw (← c.self.view_is) (c.reevaluate.ensures.facts
     ∙ ap₂ (λ (rules : List Rule) (rows : List Row). facts rules (sights_of rows)) c.deref-6.ensures.value after)
 
 pub returns-clause-counted : goal.returns-clause-counted

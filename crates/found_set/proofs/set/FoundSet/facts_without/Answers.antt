@@ -5,7 +5,7 @@ use Rattle.std.proofs.lemmas.List.Quantifiers.{position-Some}
 use Rattle.bmc_base.specs.Steps.{IsWithin}
 use Rattle.found_set.specs.declared.row.Row.{Row}
 use Rattle.found_set.specs.Found.{Rule, facts, names_of}
-use Rattle.found_set.specs.Rows.{sights_of, is_row_at, is_idle}
+use Rattle.found_set.specs.Rows.{sights_of, is_row_at, is_idle, without_row}
 use Rattle.found_set.proofs.NamedLemmas.{all_named}
 use Rattle.found_set.proofs.RowsLemmas.{without_sliced, none_without, sliced_around}
 use Rattle.found_set.proofs.IdleLemmas.{are_with, are_without}
@@ -23,14 +23,7 @@ pub returns-in_default-clause-counted : goal.returns-in_default-clause-counted
 returns-in_default-clause-counted g c = none_within _ _
 
 pub reevaluate-requires : goal.reevaluate-requires
-reevaluate-requires g c = record {
-  few = subst (λ (rules : List Rule). length rules ≤ 256) (sym c.deref-4.ensures.value) c.self.invariant.few;
-  named = all_named _ _ (c.self.invariant.named ∙ ap names_of (sym c.deref-4.ensures.value));
-  beside = are_without c.index-row.result.now c.of-others.result c.of-others.result refl;
-}
-
-pub returns-clause-facts : goal.returns-clause-facts
-returns-clause-facts g c =
+reevaluate-requires g c =
     let rows = c.self.inside.rows.items in
     let at = c.in-Some.at in
     let row = c.index-row.result.now in
@@ -40,12 +33,30 @@ returns-clause-facts g c =
     let others : c.of-others.result ≡ take at rows ++ take (length rows - (at + 1)) (drop (at + 1) rows) =
     c.of-others.ensures
     ∙ ap₂ (λ (first rest : List Row). take at first ++ take (length rest - (at + 1)) (drop (at + 1) rest)) c.deref-2.ensures.value c.deref-3.ensures.value in
-    let before = are_with (take at rows) (take (length rows - (at + 1)) (drop (at + 1) rows)) row c.of-others.result rows others
-    (sliced_around row rows at here.0 c.index-row.ensures) in
-    rw (← c.self.view_is) (c.reevaluate.ensures.facts rows before (c.self.invariant.facts
-    ∙ ap (λ (rules : List Rule). facts rules (sights_of rows)) (sym c.deref-4.ensures.value))
-    ∙ ap₂ (λ (rules : List Rule) (rows : List Row). facts rules (sights_of rows)) c.deref-4.ensures.value
-    (others ∙ without_sliced c.args.place rows at row c.self.invariant.by_place found))
+    record {
+      few = subst (λ (rules : List Rule). length rules ≤ 256) (sym c.deref-4.ensures.value) c.self.invariant.few;
+      named = all_named _ _ (c.self.invariant.named ∙ ap names_of (sym c.deref-4.ensures.value));
+      before = record {
+        rows = rows;
+        beside = are_with (take at rows) (take (length rows - (at + 1)) (drop (at + 1) rows)) row c.of-others.result rows others
+            (sliced_around row rows at here.0 c.index-row.ensures);
+        told = c.self.invariant.facts ∙ ap (λ (rules : List Rule). facts rules (sights_of rows)) (sym c.deref-4.ensures.value);
+      };
+      beside = are_without row c.of-others.result c.of-others.result refl;
+    }
+
+pub returns-clause-facts : goal.returns-clause-facts
+returns-clause-facts g c =
+    let rows = c.self.inside.rows.items in
+    let at = c.in-Some.at in
+    let found : position (is_row_at c.args.place) rows ≡ Some at = sym (ap (position (is_row_at c.args.place)) c.deref.ensures.value)
+    ∙ sym c.position_at.ensures ∙ c.in-Some.is in
+    let others : c.of-others.result ≡ without_row c.args.place rows =
+    c.of-others.ensures
+    ∙ ap₂ (λ (first rest : List Row). take at first ++ take (length rest - (at + 1)) (drop (at + 1) rest)) c.deref-2.ensures.value c.deref-3.ensures.value
+    ∙ without_sliced c.args.place rows at c.index-row.result.now c.self.invariant.by_place found in
+    rw (← c.self.view_is) (c.reevaluate.ensures.facts
+    ∙ ap₂ (λ (rules : List Rule) (rows : List Row). facts rules (sights_of rows)) c.deref-4.ensures.value others)
 
 pub returns-clause-counted : goal.returns-clause-counted
 returns-clause-counted g c =

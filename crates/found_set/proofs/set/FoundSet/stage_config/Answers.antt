@@ -1,13 +1,14 @@
 -- A rule is pushed, evaluated with, and popped again.
-use Rattle.std.proofs.Common.{◌≡◌, ◌∙◌, ◌+◌, ◌<◌, ◌≤◌, List, [], ◌∷◌, ◌++◌, length, ap, ap₂, sym, refl, subst, None, arith, append-nil, vec_len, vec_capacity}
+use Rattle.std.proofs.Common.{◌≡◌, ◌∙◌, ◌+◌, ◌<◌, ◌≤◌, List, [], ◌∷◌, ◌++◌, length, ap, ap₂, sym, refl, subst, None, arith, append-nil, length-append, vec_len, vec_capacity}
 use Rattle.std.specs.Prelude.{bytes_eq, position}
 use Rattle.found_set.specs.declared.facts.Facts.{Facts}
 use Rattle.found_set.specs.declared.row.Row.{Row}
-use Rattle.found_set.specs.Found.{Rule, facts, number_of}
+use Rattle.found_set.specs.Found.{Rule, facts, matched_by, number_of, roots}
 use Rattle.found_set.specs.Rows.{sights_of}
 use Rattle.found_set.specs.Sets.{SetView}
 use Rattle.found_set.specs.Events.{Staged, ConfigEvent, facts_after}
 use Rattle.found_set.proofs.NamedLemmas.{number_by_name}
+use Rattle.found_set.proofs.KeptLemmas.{nothing_holds}
 use Rattle.found_set.proofs.InsidesLemmas.{bare_as, only, sound_with, seen_with, back}
 use Rattle.found_set.proofs.set.FoundSet.stage_config.Goals as goal
 
@@ -33,7 +34,7 @@ invariant_of-self-2 g c =
     let kept = back rules _ c.take_last-rule.new.self.items c.args.rule c.take_last-rule.result pushed c.take_last-rule.ensures.items in
     let told : c.evaluate-facts.result ≡ facts_after (ConfigEvent c.take_last-rule.result) rules rows =
     c.evaluate-facts.ensures.facts
-    ∙ ap₂ (λ (rs : List Rule) (ws : List Row). facts rs (sights_of ws)) (c.deref.ensures.value ∙ pushed) (c.of.ensures ∙ append-nil _ ∙ c.deref-2.ensures.value)
+    ∙ ap₂ (λ (rs : List Rule) (ws : List Row). facts rs (sights_of ws)) (c.deref-2.ensures.value ∙ pushed) (c.of-rows.ensures ∙ append-nil _ ∙ c.deref.ensures.value)
     ∙ ap (λ (r : Rule). facts_after (ConfigEvent r) rules rows) (sym kept.1) in
     let fresh : position (bytes_eq c.args.rule.name) names.names ≡ None =
     ap (position (bytes_eq c.args.rule.name)) (c.reserve.ensures.names ∙ c.self.invariant.named) ∙ number_by_name c.args.rule.name rules
@@ -45,14 +46,23 @@ invariant_of-self-2 g c =
     let before : length rules < 256 = subst (λ (v : SetView). length v.rules < 256) (sym c.self.view_is) c.requires.few in
     let few : length c.take_last-rule.new.self.items < 256 = subst (λ (rs : List Rule). length rs < 256) (sym kept.0) before in
     sound_with c.self.inside names c.take_last-rule.new.self c.self.inside.rows _ c.self.invariant c.reserve.ensures.names kept.0 refl
-    (only _ _ _ c.of-2.ensures told) (only _ _ _ c.of-2.ensures (c.in_ok-reserve.ensures.room, new, room, few))
+    (only _ _ _ c.of.ensures told) (only _ _ _ c.of.ensures (c.in_ok-reserve.ensures.room, new, room, few))
+
+pub evaluate-facts-requires-clause-kept : goal.evaluate-facts-requires-clause-kept
+evaluate-facts-requires-clause-kept g c =
+    let pushed : c.push_reserved.new.self.items ≡ c.self.inside.rules.items ++ c.args.rule ∷ [] = c.push_reserved.ensures.items
+    ∙ ap (λ (rs : List Rule). rs ++ c.args.rule ∷ []) c.reserve-2.ensures.items in
+    let before : length c.self.inside.rules.items < 256 = subst (λ (v : SetView). length v.rules < 256) (sym c.self.view_is) c.requires.few in
+    let few : length c.deref-2.result.now ≤ 256 =
+    subst (λ (rs : List Rule). length rs ≤ 256) (sym (c.deref-2.ensures.value ∙ pushed)) (omega (arith, before, length-append c.self.inside.rules.items (c.args.rule ∷ []))) in
+    nothing_holds _ _ c.deref-2.result.now (matched_by (roots (sights_of c.of-rows.result))) few c.nothing.ensures
 
 pub returns-clause-ok : goal.returns-clause-ok
 returns-clause-ok g c =
     let pushed : c.push_reserved.new.self.items ≡ c.self.inside.rules.items ++ c.args.rule ∷ [] = c.push_reserved.ensures.items
     ∙ ap (λ (rs : List Rule). rs ++ c.args.rule ∷ []) c.reserve-2.ensures.items in
     c.evaluate-facts.ensures.facts
-    ∙ ap₂ (λ (rs : List Rule) (ws : List Row). facts rs (sights_of ws)) (c.deref.ensures.value ∙ pushed) (c.of.ensures ∙ append-nil _ ∙ c.deref-2.ensures.value)
+    ∙ ap₂ (λ (rs : List Rule) (ws : List Row). facts rs (sights_of ws)) (c.deref-2.ensures.value ∙ pushed) (c.of-rows.ensures ∙ append-nil _ ∙ c.deref.ensures.value)
     ∙ ap (λ (v : SetView). facts_after (ConfigEvent c.args.rule) v.rules v.rows) c.self.view_is
 
 pub returns-clause-staged : goal.returns-clause-staged
@@ -62,8 +72,8 @@ returns-clause-staged g c =
     c.push_reserved.ensures.items ∙ ap (λ (rs : List Rule). rs ++ c.args.rule ∷ []) c.reserve-2.ensures.items in
     let kept = back rules _ c.take_last-rule.new.self.items c.args.rule c.take_last-rule.result pushed c.take_last-rule.ensures.items in
     let told = c.evaluate-facts.ensures.facts
-    ∙ ap₂ (λ (rs : List Rule) (ws : List Row). facts rs (sights_of ws)) (c.deref.ensures.value ∙ pushed) (c.of.ensures ∙ append-nil _ ∙ c.deref-2.ensures.value)
+    ∙ ap₂ (λ (rs : List Rule) (ws : List Row). facts rs (sights_of ws)) (c.deref-2.ensures.value ∙ pushed) (c.of-rows.ensures ∙ append-nil _ ∙ c.deref.ensures.value)
     ∙ ap (λ (v : SetView). facts_after (ConfigEvent c.args.rule) v.rules v.rows) c.self.view_is in
-    seen_with c.args.self.now c.take_last-rule.new.self.items c.self.inside.rows.items c.self.inside.facts c.of-2.result _ (kept.0
+    seen_with c.args.self.now c.take_last-rule.new.self.items c.self.inside.rows.items c.self.inside.facts c.of.result _ (kept.0
     ∙ ap (λ (v : SetView). v.rules) c.self.view_is) (ap (λ (v : SetView). v.rows) c.self.view_is) (ap (λ (v : SetView). v.facts) c.self.view_is)
-    (c.of-2.ensures ∙ ap₂ (λ (r : Rule) (f : Facts). let s : Staged = record { event = ConfigEvent r; facts = f } in s) kept.1 told)
+    (c.of.ensures ∙ ap₂ (λ (r : Rule) (f : Facts). let s : Staged = record { event = ConfigEvent r; facts = f } in s) kept.1 told)

@@ -1,0 +1,56 @@
+ghost use Rattle.std.specs.Prelude.{◌≡◌, true};
+ghost use Rattle.probe_lang.specs.Sights.{has_config};
+ghost use Rattle.found_set.specs.Marks.{AreMarked};
+ghost use Rattle.found_set.specs.Kept.{kept_mark, changes};
+
+use crate::facts::MOST_RULES;
+use crate::marks::{is_marked, touched_by};
+use crate::row::Row;
+
+// What an earlier pass found, and the configurations that may have changed since.
+#[derive(Drop)]
+pub(crate) struct Kept {
+    found: [bool; MOST_RULES],
+    touched: [bool; MOST_RULES],
+}
+
+impl Kept {
+    // Returns what is kept of no pass: each configuration may have changed.
+    pub(crate) fn nothing() -> Kept
+        ensures { AreMarked result.touched (λ config. true) }
+    {
+        Kept {
+            found: [false; MOST_RULES],
+            touched: [true; MOST_RULES],
+        }
+    }
+
+    // Keeps what was found before a row came or went. The configurations of its hits may have changed.
+    pub(crate) fn beside(found: &[bool; MOST_RULES], row: &Row) -> Kept
+        ensures found { result.found ≡ found.now }
+        ensures touched { AreMarked result.touched (has_config row.now.hits) }
+    {
+        Kept {
+            found: *found,
+            touched: touched_by(row.hits.as_slice()),
+        }
+    }
+
+    // Returns the mark of a configuration, if it is not touched and none before it has changed.
+    pub(crate) fn mark(&self, has_changed: bool, config: usize) -> Option<bool>
+        ensures { result ≡ kept_mark self.now.found self.now.touched has_changed config }
+    {
+        if has_changed || is_marked(&self.touched, config) {
+            None
+        } else {
+            Some(is_marked(&self.found, config))
+        }
+    }
+
+    // Whether a mark has changed: one before, or the one of this configuration.
+    pub(crate) fn changes(&self, has_changed: bool, config: usize, is_found: bool) -> bool
+        ensures { result ≡ changes self.now.found has_changed config is_found }
+    {
+        has_changed || is_marked(&self.found, config) != is_found
+    }
+}
