@@ -35,7 +35,7 @@ left_one number place there = by (has_board there place)
     by true = refl
     by false = refl
 
-keys_append : (number : ℕ) (there front back : List (Option Place)) → map (key_of number) (except (has_board there) (front ++ back)) ≡ map (key_of number)
+pub keys_append : (number : ℕ) (there front back : List (Option Place)) → map (key_of number) (except (has_board there) (front ++ back)) ≡ map (key_of number)
     (except (has_board there) front) ++ map (key_of number) (except (has_board there) back)
 keys_append number there front back =
     ap (map (key_of number)) (filter-append (λ (place : Option Place). not (has_board there place)) front back)
@@ -116,6 +116,28 @@ pub boards_there : (configs : List Config) (found reach : ℕ → Bool) (moment 
 unfolding board_places
 boards_there configs found reach moment number config is =
     sym (ap (λ (each : Option Config). unwrap_or (option_map (config_places found reach (map entry_sight moment.entries) number) each) []) is)
+
+-- a configuration has the same boards at both moments, whichever of them count
+pub same_there : (configs : List Config) (found reach found_after reach_after : ℕ → Bool) (before after : Moment) (number : ℕ)
+    → ((match_one : Bool) → boards_now match_one found reach before number ≡ boards_now match_one found_after reach_after after number)
+    → boards_at configs found reach before number ≡ boards_at configs found_after reach_after after number
+unfolding board_places
+same_there configs found reach found_after reach_after before after number same = by (slice_get configs number)
+  where
+    by : (config : Option Config) → unwrap_or (option_map (config_places found reach (map entry_sight before.entries) number) config) []
+        ≡ unwrap_or (option_map (config_places found_after reach_after (map entry_sight after.entries) number) config) []
+    by None = refl
+    by (Some config) = same config.probe.match_one
+
+pub config_skipped : (number : ℕ) (here there : ℕ → List (Option Place)) (start so_far : List BoardKey) → so_far ≡ start ++ keys_left number here there
+    → here number ≡ there number → so_far ≡ start ++ keys_left (number + 1) here there
+config_skipped number here there start so_far before same =
+    config_more number here there (here number) (there number) start so_far so_far before (none_left number (here number) (there number) so_far same) refl refl
+
+pub none_within : {X : Type 0} (xs : List X) (n : ℕ) → slice_get xs n ≡ None → n < length xs → ⊥
+none_within [] n none within = omega (arith, within)
+none_within (first ∷ xs) zero none within = absurd (cc)
+none_within (first ∷ xs) (suc n) none within = none_within xs n none (omega (arith, within))
 
 -- where there were no keys yet
 pub from_none : (start keys now : List BoardKey) → now ≡ start ++ keys → start ≡ [] → now ≡ keys

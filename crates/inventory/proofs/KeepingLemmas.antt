@@ -4,7 +4,8 @@ use Rattle.std.proofs.Common.{arith, length-append, Option, Some, None, Result, 
 use Rattle.std.specs.Prelude.{nat_eq, nat_lt, slice_set, slice_index_or, ◌==◌, if◌then◌else◌}
 use Rattle.std.specs.Option.{option_eq}
 use Rattle.std.specs.Ordering.{ord_max, nat_cmp}
-use Rattle.std.specs.List.{position_or_len}
+use Rattle.std.specs.List.{position_or_len, AllByRecursion}
+use Rattle.inventory.proofs.ListLemmas.{all_append, all_weaker}
 use Rattle.std.proofs.lemmas.Bool.{eqb-true, or_parts}
 use Rattle.std.proofs.lemmas.Bool.Decides.{nat_tests}
 use Rattle.std.proofs.lemmas.List.{length-map, map-set, map-append, get_or-set_same, get_or-set_other, get_or_past, take-append-drop, take_more, get_or-map}
@@ -16,7 +17,7 @@ use Rattle.inventory.specs.declared.board.BoardKey.{BoardKey}
 use Rattle.inventory.specs.Boards.{has_board}
 use Rattle.inventory.specs.Indexes.{kept_of, with_board, with_boards, index_of, index_in}
 use Rattle.inventory.specs.Differences.{places_of}
-use Rattle.inventory.specs.Keeping.{AreListed, IsReady, keys_of, room_of, most_boards}
+use Rattle.inventory.specs.Keeping.{AreListed, IsGreatest, IsReady, keys_of, room_of, most_boards}
 
 -- ---- keys of one configuration
 
@@ -42,6 +43,54 @@ places_more number keys i key within is =
     ap (places_of number) (take_more keys i key within ∙ ap (λ (last : BoardKey). take i keys ++ last ∷ []) (sym is))
     ∙ places_append number (take i keys) (key ∷ [])
     ∙ ap (λ (l : List (Option Place)). places_of number (take i keys) ++ l) (places_one number key)
+
+-- how many are of a configuration with a key more
+pub count_plus : (number : ℕ) (keys : List BoardKey) (key : BoardKey)
+    → length (places_of number (keys ++ key ∷ [])) ≡ length (places_of number keys) + cond (nat_eq key.config number) 1 0
+count_plus number keys key =
+    ap length (places_append number keys (key ∷ [])) ∙ length-append (places_of number keys) (places_of number (key ∷ []))
+    ∙ ap (λ (n : ℕ). length (places_of number keys) + n) (ap length (places_one number key) ∙ by (nat_eq key.config number))
+  where
+    by : (b : Bool) → length (cond b (key.place ∷ []) []) ≡ cond b 1 0
+    by true = refl
+    by false = refl
+
+-- none is of a configuration that all are below
+pub count_none : (number end : ℕ) (keys : List BoardKey) → AllByRecursion (λ (key : BoardKey). key.config < end) keys → end ≤ number
+    → length (places_of number keys) ≡ 0
+count_none number end [] below past = refl
+count_none number end (key ∷ keys) below past = by (nat_eq key.config number) refl (count_none number end keys below.1 past)
+  where
+    by : (b : Bool) → nat_eq key.config number ≡ b → length (places_of number keys) ≡ 0
+        → length (map (λ (each : BoardKey). each.place) (cond b (key ∷ filter (λ (each : BoardKey). nat_eq each.config number) keys)
+        (filter (λ (each : BoardKey). nat_eq each.config number) keys))) ≡ 0
+    by true same rest = absurd (omega (arith, eqb-true key.config number same, below.0, past))
+    by false apart rest = rest
+
+-- the greatest configuration stays, or it is that of a key more
+pub greatest_same : (keys : List BoardKey) (key : BoardKey) (end count config : ℕ) → IsGreatest keys end count → key.config ≡ config → config + 1 < end
+    → IsGreatest (keys ++ key ∷ []) end count
+greatest_same keys key end count config greatest is less = record {
+  below = all_append (λ (each : BoardKey). each.config < end) keys (key ∷ []) greatest.below (omega (arith, is, less), tt);
+  last = λ number ends.
+      let apart : nat_eq key.config number ≡ false = grind (arith, nat_tests, is, less, ends) in
+      greatest.last number ends ∙ sym (count_plus number keys key ∙ ap (λ (b : Bool). length (places_of number keys) + cond b 1 0) apart ∙ omega arith);
+}
+
+pub greatest_next : (keys : List BoardKey) (key : BoardKey) (end count config old next : ℕ) → IsGreatest keys end old → key.config ≡ config
+    → count ≡ length (places_of config keys) → next ≡ config + 1 → end ≤ next
+    → IsGreatest (keys ++ key ∷ []) next (count + 1)
+greatest_next keys key end count config old next greatest is counted ends most = record {
+  below = all_append (λ (each : BoardKey). each.config < next) keys (key ∷ [])
+      (all_weaker (λ (each : BoardKey). each.config < end) (λ (each : BoardKey). each.config < next) (λ each less. omega (arith, less, most)) keys
+      greatest.below)
+      (omega (arith, is, ends), tt);
+  last = λ number last.
+      let here : number ≡ config = omega (arith, last, ends) in
+      let same : nat_eq key.config number ≡ true = eq-eqb key.config number (is ∙ sym here) in
+      sym (count_plus number keys key ∙ ap (λ (b : Bool). length (places_of number keys) + cond b 1 0) same
+      ∙ ap (λ (n : ℕ). n + 1) (ap (λ (n : ℕ). length (places_of n keys)) here ∙ sym counted));
+}
 
 -- the first keys have at most as many places as all
 places_most : (number i : ℕ) (keys : List BoardKey) → length (places_of number (take i keys)) ≤ length (places_of number keys)
@@ -110,23 +159,34 @@ module _ {X Y : Type 0} (view : X → Y) (none : Y) (lists : List X) (number : �
 
 module _ {S : Type 0} (lists : List (IndexSet (Option Place) S)) (number : ℕ) (old new : IndexSet (Option Place) S)
     (within : number < length lists) where
-  -- room was made in a list more
-  pub ready_more : (keys : List BoardKey) → length (places_of number keys) ≤ spare new → length new.keys + length (places_of number keys) ≤ most_boards
-      → ((each : ℕ) → each < number → IsReady keys lists each) → (each : ℕ) → each < number + 1 → IsReady keys (slice_set lists number new) each
-  ready_more keys room few before each below = by (nat_eq each number) refl
+  -- room was made in a list for one key more
+  pub ready_next : (front now : List BoardKey) (count : ℕ) → count ≡ length (places_of number front)
+      → ((each : ℕ) → length (places_of each now) ≡ length (places_of each front) + cond (nat_eq number each) 1 0)
+      → count < spare new → length new.keys + count < most_boards → (each : ℕ) → IsReady front lists each
+      → IsReady now (slice_set lists number new) each
+  ready_next front now count is more room few each before = by (nat_eq number each) refl (more each)
     where
-      by : (b : Bool) → nat_eq each number ≡ b → IsReady keys (slice_set lists number new) each
-      by true same =
-          subst (IsReady keys (slice_set lists number new)) (sym (eqb-true each number same)) (record {
-            room = rw (seen_same spare 0 lists number new within) room;
-            few = rw (seen_same (λ (list : IndexSet (Option Place) S). list.keys) [] lists number new within) few;
+      by : (b : Bool) → nat_eq number each ≡ b → length (places_of each now) ≡ length (places_of each front) + cond b 1 0
+          → IsReady now (slice_set lists number new) each
+      by true same one_more =
+          let long : length (places_of number now) ≡ count + 1 =
+          subst (λ (n : ℕ). length (places_of n now) ≡ length (places_of n front) + 1) (sym (eqb-true number each same)) one_more
+          ∙ ap (λ (n : ℕ). n + 1) (sym is) in
+          subst (IsReady now (slice_set lists number new)) (eqb-true number each same) (record {
+            room = omega (arith, long, room, seen_same spare 0 lists number new within);
+            few = omega (arith, long, few, ap length (seen_same (λ (list : IndexSet (Option Place) S). list.keys) [] lists number new within));
           })
-      by false apart =
+      by false apart one_more =
           let other : each ≢ number = λ here. absurd (grind (arith, nat_tests, here, apart)) in
-          let less : each < number = omega (arith, other) in
           record {
-            room = rw (seen_other spare 0 lists number new each other) ((before each less).room);
-            few = rw (seen_other (λ (list : IndexSet (Option Place) S). list.keys) [] lists number new each other) ((before each less).few);
+            room = omega (arith, one_more, before.room, seen_other spare 0 lists number new each other);
+            few = omega (
+              arith,
+              one_more,
+              before.few,
+              ap length
+                  (seen_other (λ (list : IndexSet (Option Place) S). list.keys) [] lists number new each other),
+            );
           }
 
   pub room_is : room_of lists number ≡ spare (get_or lists number old)

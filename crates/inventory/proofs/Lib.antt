@@ -6,3 +6,4 @@ pub mod MomentsLemmas
 pub mod KeepingLemmas
 pub mod DifferencesLemmas
 pub mod OrderLemmas
+pub mod LoneLemmas

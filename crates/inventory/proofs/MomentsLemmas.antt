@@ -1,7 +1,7 @@
 -- Entries with one more among them, and without one.
 use Rattle.std.proofs.Common.{◌≡◌, ℕ, zero, suc, ◌+◌, ◌<◌, List, [], ◌∷◌, ◌++◌, Bool, true, false, not, cond, ◌&&◌, Option, Some, length}
 use Rattle.std.proofs.Common.{take, filter, find, map, get_or}
-use Rattle.std.proofs.Common.{refl, sym, ap, ◌∙◌, append_assoc, subst, inl, inr}
+use Rattle.std.proofs.Common.{refl, sym, ap, ap₂, ◌∙◌, append_assoc, subst, inl, inr}
 use Rattle.std.specs.Prelude.{slice_get}
 use Rattle.std.specs.Global.{Box}
 use mathlib.Core.Bool.{beq}
@@ -17,14 +17,15 @@ use Rattle.probe_lang.specs.declared.rows.Entry.{Entry}
 use Rattle.probe_lang.specs.Sights.{Sight, entry_sight, has_config}
 use Rattle.found_set.specs.Found.{on_buses}
 use Rattle.probe_lang.specs.Presents.{is_entry_at, are_by_place, with_entry, without_entry}
-use Rattle.inventory.specs.Boards.{hit_places}
-use Rattle.inventory.specs.Moments.{unboxed, hits_in, AreSeenAlike, IsAmong, IsApartBy}
+use Rattle.inventory.specs.Boards.{hit_places, places_or_none}
+use Rattle.inventory.specs.Differences.{Moment, IsMarkedBy}
+use Rattle.inventory.specs.Moments.{unboxed, hits_in, found_boards, boards_now, AreSeenAlike, IsAmong, IsApartBy, IsLone}
 use Rattle.inventory.proofs.BoardLemmas.{and_first, and_second, place_cmp_eq, place_same}
 use Rattle.inventory.proofs.ListLemmas.{all_append, all_map, filter_all, filter_alike}
 
 -- ---- the places of hits
 
-places_append : (reach : ℕ → Bool) (number : ℕ) (front back : List Entry) → hit_places reach (map entry_sight (front ++ back)) number ≡ hit_places reach
+pub places_append : (reach : ℕ → Bool) (number : ℕ) (front back : List Entry) → hit_places reach (map entry_sight (front ++ back)) number ≡ hit_places reach
     (map entry_sight front) number ++ hit_places reach (map entry_sight back) number
 places_append reach number front back =
     ap (λ (sights : List Sight). hit_places reach sights number) (map-append entry_sight front back)
@@ -40,6 +41,29 @@ pub hits_append : (reach : ℕ → Bool) (number : ℕ) (front back : List Entry
 hits_append reach number front back =
     ap (map Some) (places_append reach number front back)
     ∙ map-append Some (hit_places reach (map entry_sight front) number) (hit_places reach (map entry_sight back) number)
+
+-- an entry more
+pub places_one : (reach : ℕ → Bool) (number : ℕ) (entry : Entry) (back : List Entry) → hit_places reach (map entry_sight (entry ∷ back)) number
+    ≡ cond (reach entry.place.bus && has_config entry.hits number) (entry.place ∷ hit_places reach (map entry_sight back) number)
+    (hit_places reach (map entry_sight back) number)
+places_one reach number entry back = by (reach entry.place.bus)
+  where
+    rest : List Sight
+    rest = on_buses reach (map entry_sight back)
+
+    places : List Sight → List Place
+    places sights = map (λ (sight : Sight). sight.place) (filter (λ (sight : Sight). sight.hit number) sights)
+
+    by : (b : Bool) → places (cond b (entry_sight entry ∷ rest) rest) ≡ cond (b && has_config entry.hits number) (entry.place ∷ places rest) (places rest)
+    by true = then (has_config entry.hits number)
+      where
+        hits : List Sight
+        hits = filter (λ (sight : Sight). sight.hit number) rest
+
+        then : (b : Bool) → map (λ (sight : Sight). sight.place) (cond b (entry_sight entry ∷ hits) hits) ≡ cond b (entry.place ∷ places rest) (places rest)
+        then true = refl
+        then false = refl
+    by false = refl
 
 pub hit_one : (reach : ℕ → Bool) (number : ℕ) (entry : Entry)
     → hits_in reach (entry ∷ []) number ≡ cond (reach entry.place.bus && has_config entry.hits number) (Some entry.place ∷ []) []
@@ -112,7 +136,7 @@ alike_parts reach reach_after front middle back one two three =
     all_append (λ (each : Entry). reach each.place.bus ≡ reach_after each.place.bus) (front ++ middle) back
     (all_append (λ (each : Entry). reach each.place.bus ≡ reach_after each.place.bus) front middle one two) three
 
-alike_places : (reach reach_after : ℕ → Bool) (number : ℕ) (entries : List Entry) → AreSeenAlike reach reach_after entries
+pub alike_places : (reach reach_after : ℕ → Bool) (number : ℕ) (entries : List Entry) → AreSeenAlike reach reach_after entries
     → hit_places reach (map entry_sight entries) number ≡ hit_places reach_after (map entry_sight entries) number
 alike_places reach reach_after number entries alike =
     ap (λ (sights : List Sight). map (λ (sight : Sight). sight.place) (filter (λ (sight : Sight). sight.hit number) sights))
@@ -150,6 +174,30 @@ hits_stay reach reach_after number entry before after apart alike none =
       | inl comes ↦ among_places reach_after number entry before after comes none
       | inr goes ↦ sym (among_places reach_after number entry after before goes none)
     ]
+
+not_true : (answer : Bool) → not answer ≡ true → answer ≡ false
+not_true true is = absurd (cc)
+not_true false is = refl
+
+-- a configuration that the entry has no hit of, and that is found at both moments or at neither, has the same boards
+pub same_boards : (entry : Entry) (before after : Moment) (found reach found_after reach_after : ℕ → Bool) (number : ℕ) (one other has match_one : Bool)
+    → IsLone entry before after
+    → number < 256 → IsMarkedBy before.facts found reach → IsMarkedBy after.facts found_after reach_after
+    → one ≡ is_marked before.facts.found number → other ≡ is_marked after.facts.found number → beq one other ≡ true
+    → has ≡ has_config entry.hits number → not has ≡ true
+    → boards_now match_one found reach before number ≡ boards_now match_one found_after reach_after after number
+same_boards entry before after found reach found_after reach_after number one other has match_one lone small marked marked_after first second same hit none =
+    let is_found : found number ≡ found_after number = sym (marked.found number small) ∙ sym first ∙ same_answer one other (ap not same) ∙ second
+    ∙ marked_after.found number small in
+    ap₂ (λ (is : Bool) (places : List Place). cond is (places_or_none match_one places) []) is_found
+    (hits_stay reach reach_after number entry before.entries after.entries lone.apart (lone.alike reach reach_after marked.reach marked_after.reach)
+    (sym hit ∙ not_true has none))
+
+-- a configuration that is found has these boards
+pub boards_found : (match_one : Bool) (found reach : ℕ → Bool) (moment : Moment) (number : ℕ) → found number ≡ true
+    → found_boards match_one reach moment number ≡ boards_now match_one found reach moment number
+boards_found match_one found reach moment number is =
+    ap (λ (is_found : Bool). cond is_found (found_boards match_one reach moment number) []) (sym is)
 
 -- an entry that is put in comes alone
 pub with_among : (entry : Entry) (entries : List Entry) → IsAmong entry entries (with_entry entry entries)

@@ -1,6 +1,6 @@
 -- Lists of boards as they are kept, with the room that they have.
-use Rattle.std.specs.Prelude.{ℕ, ◌<◌, ◌+◌, ◌≤◌, ⊤, List, [], map, Option, Some, None, slice_index_or, length}
-use Rattle.std.specs.List.{All}
+use Rattle.std.specs.Prelude.{ℕ, ◌≡◌, ◌<◌, ◌+◌, ◌≤◌, ⊤, List, [], map, Option, Some, None, slice_index_or, length}
+use Rattle.std.specs.List.{All, AllByRecursion}
 use Rattle.indexmap.specs.IndexSet.{IndexSet, spare}
 use Rattle.bmc_base.specs.Places.{Place}
 use Rattle.inventory.specs.declared.board.BoardKey.{BoardKey}
@@ -31,6 +31,11 @@ AreListed keys count = All (λ (key : BoardKey). key.config < count) keys
 pub record IsReady {S : Type 0} (keys : List BoardKey) (lists : List (IndexSet (Option Place) S)) (number : ℕ) : Type 0 where
   pub room : length (places_of number keys) ≤ room_of lists number
   pub few : length (kept_of (keys_of lists) number) + length (places_of number keys) ≤ most_boards
+
+-- each key is of a configuration below this end, and so many are of the one before it
+pub record IsGreatest (keys : List BoardKey) (end count : ℕ) : Type 0 where
+  pub below : AllByRecursion (λ (key : BoardKey). key.config < end) keys
+  pub last : (number : ℕ) → number + 1 ≡ end → count ≡ length (places_of number keys)
 
 -- what is seen of a keep: the boards that are kept of each configuration, and those that are staged to be kept
 pub record Keep : Type 0 where

@@ -1,12 +1,12 @@
 -- The entries of a moment, and the boards of one configuration.
-use Rattle.std.specs.Prelude.{ℕ, ◌≡◌, Bool, false, ⊤, ◌⊎◌, if◌then◌else◌, List, [], ◌∷◌, ◌++◌, map, Option, Some, None}
+use Rattle.std.specs.Prelude.{ℕ, ◌≡◌, Bool, IsTrue, ⊤, ◌⊎◌, if◌then◌else◌, List, [], ◌∷◌, ◌++◌, map, Option, Some, None}
 use Rattle.std.specs.Global.{Box}
 use Rattle.std.specs.List.{AllByRecursion, prefix_len}
 use Rattle.found_set.specs.Marks.{AreMarked}
 use Rattle.std.specs.Ordering.{is_lt}
 use Rattle.bmc_base.specs.Places.{Place, place_cmp}
 use Rattle.probe_lang.specs.declared.rows.Entry.{Entry}
-use Rattle.probe_lang.specs.Sights.{entry_sight, has_config}
+use Rattle.probe_lang.specs.Sights.{entry_sight}
 use Rattle.cfg_json.specs.Configs.{Config}
 use Rattle.inventory.specs.Boards.{has_board, hit_places, places_or_none}
 use Rattle.inventory.specs.Indexes.{except}
@@ -25,10 +25,13 @@ count_before place entries = prefix_len (λ (entry : Entry). is_lt (place_cmp en
 abbrev pub hits_in : (ℕ → Bool) → List Entry → ℕ → List (Option Place)
 hits_in reach entries number = map Some (hit_places reach (map entry_sight entries) number)
 
+-- the boards of a configuration that is found at a moment
+abbrev pub found_boards : Bool → (ℕ → Bool) → Moment → ℕ → List (Option Place)
+found_boards match_one reach moment number = places_or_none match_one (hit_places reach (map entry_sight moment.entries) number)
+
 -- the boards of a configuration at a moment
 abbrev pub boards_now : Bool → (ℕ → Bool) → (ℕ → Bool) → Moment → ℕ → List (Option Place)
-boards_now match_one found reach moment number =
-    if found number then places_or_none match_one (hit_places reach (map entry_sight moment.entries) number) else []
+boards_now match_one found reach moment number = if found number then found_boards match_one reach moment number else []
 
 -- the keys of the boards of a configuration that are here and not there
 abbrev pub left : ℕ → List (Option Place) → List (Option Place) → List BoardKey
@@ -54,10 +57,23 @@ IsApartBy entry before after = IsAmong entry before after ⊎ IsAmong entry afte
 abbrev pub AreSeenAlike : (ℕ → Bool) → (ℕ → Bool) → List Entry → Type 0
 AreSeenAlike reach reach_after entries = AllByRecursion (λ (entry : Entry). reach entry.place.bus ≡ reach_after entry.place.bus) entries
 
--- the hits of a configuration are the same at both moments, where this entry has none of them
-abbrev pub HitsStayBut : Option Entry → Moment → Moment → Type 0
-HitsStayBut None before after = ⊤
-HitsStayBut (Some entry) before after =
-    (reach reach_after : ℕ → Bool) → AreMarked before.facts.reach reach → AreMarked after.facts.reach reach_after → (number : ℕ)
-    → has_config entry.hits number ≡ false
-    → hit_places reach (map entry_sight before.entries) number ≡ hit_places reach_after (map entry_sight after.entries) number
+-- each FRU of the first moment is on a bus that is reachable at both moments or at neither
+abbrev pub AreAllSeenAlike : Moment → Moment → Type 0
+AreAllSeenAlike moment other =
+    (reach reach_other : ℕ → Bool) → AreMarked moment.facts.reach reach → AreMarked other.facts.reach reach_other
+    → AreSeenAlike reach reach_other moment.entries
+
+-- this entry alone comes or goes, and each other is seen as before
+pub record IsLone (entry : Entry) (before after : Moment) : Type 0 where
+  pub apart : IsApartBy entry before.entries after.entries
+  pub alike : AreAllSeenAlike before after
+
+-- the same, if an entry is given
+abbrev pub IsLoneIf : Option Entry → Moment → Moment → Type 0
+IsLoneIf None before after = ⊤
+IsLoneIf (Some entry) before after = IsLone entry before after
+
+-- a place has these before it and those behind it
+pub record IsBeside (place : Place) (front back : List Place) : Type 0 where
+  pub before : AllByRecursion (λ (each : Place). IsTrue (is_lt (place_cmp each place))) front
+  pub behind : AllByRecursion (λ (each : Place). IsTrue (is_lt (place_cmp place each))) back

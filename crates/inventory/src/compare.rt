@@ -1,8 +1,9 @@
-ghost use Rattle.std.specs.Prelude.{◌≡◌, ◌+◌, ◌<◌, ◌≤◌, ◌++◌, ℕ, Bool, true, [], length, option_to_list, option_map, IfOk, OnOk};
+ghost use Rattle.std.specs.Prelude.{◌≡◌, ◌+◌, ◌<◌, ◌≤◌, ◌++◌, ℕ, Bool, true, [], length, option_to_list, option_map, IfOk, OnOk, OnSome};
 ghost use Rattle.inventory.specs.Differences.{IsMarkedBy, boards_at, keys_left};
-ghost use Rattle.inventory.specs.Moments.{boards_now, left, plus_keys, HitsStayBut, IsApartBy};
+ghost use Rattle.inventory.specs.Moments.{boards_now, left, plus_keys, IsApartBy, IsLoneIf};
 
 use crate::boards::{list_boards, push_both, push_left};
+use crate::lone::{lone_swap, push_key};
 use crate::{BoardKeys, Difference, Moment};
 use bmc_base::{Ledger, OutOfMemory, Place};
 use cfg_json::{Config, Shelf};
@@ -48,7 +49,7 @@ impl Comparison {
 // Returns the entry that alone comes or goes, where each other FRU is seen as before.
 fn lone_change<'e>(changed: &'e Entry, before: &Moment<'_>, after: &Moment<'_>) -> Option<&'e Entry>
     requires { IsApartBy changed.now before.now.entries after.now.entries }
-    ensures { HitsStayBut (option_map (λ entry. entry.now) result) before.now after.now }
+    ensures { IsLoneIf (option_map (λ entry. entry.now) result) before.now after.now }
 {
     if before.is_seen_alike(after) {
         Some(changed)
@@ -66,7 +67,7 @@ fn has_same_boards(
     number: u32,
 ) -> bool
     requires number { number < 256 }
-    requires changed { HitsStayBut (option_map (λ entry. entry.now) changed) before.now after.now }
+    requires changed { IsLoneIf (option_map (λ entry. entry.now) changed) before.now after.now }
     ensures { (found reach found_after reach_after : ℕ → Bool) → IsMarkedBy before.now.facts found reach
         → IsMarkedBy after.now.facts found_after reach_after → result ≡ true → (match_one : Bool)
         → boards_now match_one found reach before.now number ≡ boards_now match_one found_after reach_after after.now number }
@@ -79,18 +80,37 @@ fn has_same_boards(
     }
 }
 
-// Appends the keys of the boards of a configuration that go and of those that come.
-fn push_config(
+// Returns what changed where no list is needed to find the boards of a configuration that go and come: where it is
+// found at both moments.
+fn lone_of<'e>(
+    changed: Option<&'e Entry>,
+    before: &Moment<'_>,
+    after: &Moment<'_>,
+    number: u32,
+) -> Option<&'e Entry>
+    requires number { number < 256 }
+    requires changed { IsLoneIf (option_map (λ entry. entry.now) changed) before.now after.now }
+    ensures lone { IsLoneIf (option_map (λ entry. entry.now) result) before.now after.now }
+    ensures found { (found reach found_after reach_after : ℕ → Bool) → IsMarkedBy before.now.facts found reach
+        → IsMarkedBy after.now.facts found_after reach_after → OnSome result ((found number ≡ true) × (found_after number ≡ true)) }
+{
+    if before.found(number) && after.found(number) {
+        changed
+    } else {
+        None
+    }
+}
+
+// Appends the keys of the boards of a configuration that go and of those that come, by the lists of all its boards.
+fn push_lists(
     alloc: Global,
     comparison: &mut Comparison,
-    changed: Option<&Entry>,
     before: &Moment<'_>,
     after: &Moment<'_>,
     number: u32,
     match_one: bool,
 ) -> Result<(), OutOfMemory>
     requires number { number < 256 }
-    requires changed { HitsStayBut (option_map (λ entry. entry.now) changed) before.now after.now }
     ensures gone { (found reach found_after reach_after : ℕ → Bool) → IsMarkedBy before.now.facts found reach
         → IsMarkedBy after.now.facts found_after reach_after → OnOk result (comparison.new.gone ≡ comparison.old.gone ++ left number
         (boards_now match_one found reach before.now number) (boards_now match_one found_after reach_after after.now number)) }
@@ -98,9 +118,6 @@ fn push_config(
         → IsMarkedBy after.now.facts found_after reach_after → OnOk result (comparison.new.come ≡ comparison.old.come ++ left number
         (boards_now match_one found_after reach_after after.now number) (boards_now match_one found reach before.now number)) }
 {
-    if has_same_boards(changed, before, after, number) {
-        return Ok(());
-    }
     list_boards(&mut comparison.before, before, number, match_one)?;
     list_boards(&mut comparison.after, after, number, match_one)?;
     push_both(
@@ -114,6 +131,34 @@ fn push_config(
     Ok(())
 }
 
+// Appends the keys of the boards of a configuration that go and of those that come.
+fn push_config(
+    alloc: Global,
+    comparison: &mut Comparison,
+    changed: Option<&Entry>,
+    before: &Moment<'_>,
+    after: &Moment<'_>,
+    number: u32,
+    match_one: bool,
+) -> Result<(), OutOfMemory>
+    requires number { number < 256 }
+    requires changed { IsLoneIf (option_map (λ entry. entry.now) changed) before.now after.now }
+    ensures gone { (found reach found_after reach_after : ℕ → Bool) → IsMarkedBy before.now.facts found reach
+        → IsMarkedBy after.now.facts found_after reach_after → OnOk result (comparison.new.gone ≡ comparison.old.gone ++ left number
+        (boards_now match_one found reach before.now number) (boards_now match_one found_after reach_after after.now number)) }
+    ensures come { (found reach found_after reach_after : ℕ → Bool) → IsMarkedBy before.now.facts found reach
+        → IsMarkedBy after.now.facts found_after reach_after → OnOk result (comparison.new.come ≡ comparison.old.come ++ left number
+        (boards_now match_one found_after reach_after after.now number) (boards_now match_one found reach before.now number)) }
+{
+    let Some(entry) = lone_of(changed, before, after, number) else {
+        return push_lists(alloc, comparison, before, after, number, match_one);
+    };
+    let swap = lone_swap(entry, before, after, number, match_one);
+    push_key(alloc, &mut comparison.gone, swap.gone)?;
+    push_key(alloc, &mut comparison.come, swap.new)?;
+    Ok(())
+}
+
 // Appends the keys of the boards of each configuration that go and of those that come.
 fn push_shelf<L: Ledger>(
     alloc: Global,
@@ -124,7 +169,7 @@ fn push_shelf<L: Ledger>(
     after: &Moment<'_>,
 ) -> Result<(), OutOfMemory>
     requires few { length shelf.now ≤ 256 }
-    requires changed { HitsStayBut (option_map (λ entry. entry.now) changed) before.now after.now }
+    requires changed { IsLoneIf (option_map (λ entry. entry.now) changed) before.now after.now }
     ensures gone { (found reach found_after reach_after : ℕ → Bool) → IsMarkedBy before.now.facts found reach
         → IsMarkedBy after.now.facts found_after reach_after → OnOk result (comparison.new.gone ≡ comparison.old.gone ++ keys_left (length shelf.now)
         (boards_at shelf.now found reach before.now) (boards_at shelf.now found_after reach_after after.now)) }
@@ -133,6 +178,9 @@ fn push_shelf<L: Ledger>(
         (boards_at shelf.now found_after reach_after after.now) (boards_at shelf.now found reach before.now)) }
 {
     for number in 0..shelf.len() {
+        if has_same_boards(changed, before, after, number as u32) {
+            continue;
+        }
         let Some(config) = shelf.at(number) else {
             unreachable!()
         };

@@ -1,10 +1,19 @@
-ghost use Rattle.std.specs.Prelude.{◌≡◌, ◌∷◌, ◌++◌, [], ℕ, Bool, true, OnOk};
+ghost use Rattle.std.specs.Prelude.{◌≡◌, ◌∷◌, ◌++◌, [], ℕ, Bool, true, ◌&&◌, map, slice_get, OnOk};
 ghost use Rattle.found_set.specs.Marks.{AreMarked};
+ghost use Rattle.probe_lang.specs.Sights.{entry_sight, has_config};
+ghost use Rattle.inventory.specs.Boards.{hit_places};
 ghost use Rattle.inventory.specs.Moments.{hits_in, unboxed, AreSeenAlike};
 
 use bmc_base::{OutOfMemory, Place};
 use found_set::Facts;
 use probe_lang::Entry;
+
+/// Whether a FRU is on a reachable bus and a pattern of this configuration matches it.
+pub fn is_hit(entry: &Entry, facts: &Facts, number: u32) -> bool
+    ensures { (reach : ℕ → Bool) → AreMarked facts.now.reach reach → result ≡ (reach entry.now.place.bus && has_config entry.now.hits number) }
+{
+    facts.reach(entry.place.bus()) && entry.hits.has_config(number)
+}
 
 // Appends the place of a FRU, if it is on a reachable bus and a pattern of this configuration matches it.
 #[tactic(auto, using(crate::proofs::MomentsLemmas::hit_one))]
@@ -17,7 +26,7 @@ fn push_hit(
     ensures { (reach : ℕ → Bool) → AreMarked facts.now.reach reach
         → OnOk result (places.new.items ≡ places.old.items ++ hits_in reach (entry.now ∷ []) number) }
 {
-    if facts.reach(entry.place.bus()) && entry.hits.has_config(number) {
+    if is_hit(entry, facts, number) {
         places.push(Some(entry.place))?;
     }
     Ok(())
@@ -37,6 +46,19 @@ pub fn push_hits(
         push_hit(places, entry, facts, number)?;
     }
     Ok(())
+}
+
+/// Returns the place of the first FRU that [`is_hit`] passes, if there is one.
+pub fn first_hit(entries: &[Box<Entry>], facts: &Facts, number: u32) -> Option<Place>
+    ensures { (reach : ℕ → Bool) → AreMarked facts.now.reach reach
+        → result ≡ slice_get (hit_places reach (map entry_sight (unboxed entries.now)) number) 0 }
+{
+    for entry in entries {
+        if is_hit(entry, facts, number) {
+            return Some(entry.place);
+        }
+    }
+    None
 }
 
 /// Whether each FRU is on a bus that is reachable in both cases or in neither.

@@ -1,8 +1,8 @@
-ghost use Rattle.std.specs.Prelude.{◌≡◌, ◌+◌, ◌<◌, ◌≤◌, ◌==◌, if◌then◌else◌, [], ℕ, filter, length, nat_eq, slice_set, None, Some, ⊤, IfOk, OnOk, OnErr, IsSomeAnd};
+ghost use Rattle.std.specs.Prelude.{◌≡◌, ◌+◌, ◌<◌, ◌≤◌, ◌==◌, ◌++◌, ◌∷◌, if◌then◌else◌, List, [], ℕ, filter, length, nat_eq, slice_set, None, Some, ⊤, IfOk, OnOk, OnErr, IsSomeAnd};
 ghost use Rattle.indexmap.specs.IndexSet.{spare};
 ghost use Rattle.inventory.specs.Indexes.{kept_of, with_board, with_boards, index_of, index_in};
 ghost use Rattle.inventory.specs.Differences.{places_of};
-ghost use Rattle.inventory.specs.Keeping.{keys_of, room_of, no_keep, AreFew, AreListed, IsReady, most_boards};
+ghost use Rattle.inventory.specs.Keeping.{keys_of, room_of, no_keep, AreFew, AreListed, IsGreatest, IsReady, most_boards};
 
 use crate::{BoardKey, BoardKeys};
 use bmc_base::{OutOfMemory, Place};
@@ -66,35 +66,81 @@ fn count_of(keys: &[BoardKey], number: usize) -> usize
         .count()
 }
 
-// Makes room in the list with this number for the boards of these keys that are of its configuration.
-#[tactic(auto, using(crate::proofs::KeepingLemmas::count_places))]
-fn reserve_list(
-    list: &mut IndexSet<Option<Place>>,
-    number: usize,
-    keys: &[BoardKey],
-) -> Result<(), OutOfMemory>
+// The greatest configuration of some keys, and how many keys are of it.
+#[derive(Clone, Copy)]
+struct Greatest {
+    // one more than its number, or 0 where there is none
+    end: usize,
+    count: usize,
+}
+
+impl Greatest {
+    // Counts the keys of a configuration. Where none of them is of a greater one, they are not gone through.
+    fn count_of(&self, keys: &[BoardKey], config: u32) -> usize
+        requires { IsGreatest keys.now self.now.end self.now.count }
+        ensures { result ≡ length (places_of config keys.now) }
+    {
+        let number = config as usize;
+        if number >= self.end {
+            0
+        } else if number + 1 == self.end {
+            self.count
+        } else {
+            count_of(keys, number)
+        }
+    }
+
+    // Returns the same with one key more, of a configuration that so many keys were of.
+    fn with(&self, config: u32, count: usize) -> Greatest
+        requires { count < most_boards }
+        ensures { (keys : List BoardKey) (key : BoardKey) → IsGreatest keys self.now.end self.now.count → key.config ≡ config
+            → count ≡ length (places_of config keys) → IsGreatest (keys ++ key ∷ []) result.end result.count }
+    {
+        let end = config as usize + 1;
+        if end < self.end {
+            Greatest {
+                end: self.end,
+                count: self.count,
+            }
+        } else {
+            Greatest {
+                end,
+                count: count + 1,
+            }
+        }
+    }
+}
+
+// Makes room in a list for one board more than so many.
+fn reserve_list(list: &mut IndexSet<Option<Place>>, count: usize) -> Result<(), OutOfMemory>
     ensures kept { list.new.keys ≡ list.old.keys }
-    ensures room { OnOk result (length (places_of number keys.now) ≤ spare list.new) }
-    ensures few { OnOk result (length list.new.keys + length (places_of number keys.now) ≤ most_boards) }
+    ensures room { OnOk result (count < spare list.new) }
+    ensures few { OnOk result (length list.new.keys + count < most_boards) }
 {
-    let count = count_of(keys, number);
-    if count > MOST_BOARDS || list.len() > MOST_BOARDS - count {
+    if count >= MOST_BOARDS || list.len() >= MOST_BOARDS - count {
         return Err(OutOfMemory);
     }
-    list.reserve(count)?;
+    list.reserve(count + 1)?;
     Ok(())
 }
 
-// Makes room in each list for the boards of these keys that are of its configuration.
+// Makes room in each list for the boards of these keys that are of its configuration. Only lists that keys are of
+// are looked at.
 fn reserve_lists(
     lists: &mut [IndexSet<Option<Place>>],
     keys: &[BoardKey],
 ) -> Result<(), OutOfMemory>
+    requires listed { AreListed keys.now (length lists.old) }
+    requires few { AreFew (keys_of lists.old) }
     ensures kept { (number : ℕ) → kept_of (keys_of lists.new) number ≡ kept_of (keys_of lists.old) number }
     ensures ready { OnOk result ((number : ℕ) → number < length lists.old → IsReady keys.now lists.new number) }
 {
-    for number in 0..lists.len() {
-        reserve_list(&mut lists[number], number, keys)?;
+    let mut greatest = Greatest { end: 0, count: 0 };
+    for i in 0..keys.len() {
+        let config = keys[i].config;
+        let count = greatest.count_of(&keys[..i], config);
+        reserve_list(&mut lists[config as usize], count)?;
+        greatest = greatest.with(config, count);
     }
     Ok(())
 }
@@ -132,11 +178,12 @@ fn keep_staged(lists: &mut [IndexSet<Option<Place>>], keys: &[BoardKey])
 
 // Keeps the boards of these keys, each behind the others in its list if it is not kept yet, or changes nothing.
 fn extend_lists(lists: &mut [IndexSet<Option<Place>>], keys: &[BoardKey]) -> Result<(), OutOfMemory>
-    requires { AreListed keys.now (length lists.old) }
+    requires listed { AreListed keys.now (length lists.old) }
+    requires few { AreFew (keys_of lists.old) }
     ensures ok { OnOk result ((number : ℕ) → kept_of (keys_of lists.new) number
         ≡ with_boards (kept_of (keys_of lists.old) number) (places_of number keys.now)) }
     ensures err { OnErr result ((number : ℕ) → kept_of (keys_of lists.new) number ≡ kept_of (keys_of lists.old) number) }
-    ensures few { AreFew (keys_of lists.old) → AreFew (keys_of lists.new) }
+    ensures few { AreFew (keys_of lists.new) }
 {
     reserve_lists(lists, keys)?;
     keep_boards(lists, keys);

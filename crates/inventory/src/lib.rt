@@ -9,6 +9,7 @@ mod compare;
 mod hits;
 mod index_keep;
 pub mod law;
+mod lone;
 mod moment;
 #[cfg(test)]
 mod tests;

@@ -1,9 +1,11 @@
-ghost use Rattle.std.specs.Prelude.{◌≡◌, ◌++◌, ◌≤◌, ℕ, Bool, true, false, IsTrue, OnOk, length};
+ghost use Rattle.std.specs.Prelude.{◌≡◌, ◌++◌, ◌≤◌, ℕ, Bool, true, false, ◌&&◌, IsTrue, OnOk, length, map, slice_get};
 ghost use Rattle.found_set.specs.Marks.{AreMarked, is_marked};
 ghost use Rattle.probe_lang.specs.Presents.{are_by_place, holds_place, with_entry, without_entry};
+ghost use Rattle.probe_lang.specs.Sights.{entry_sight, has_config};
+ghost use Rattle.inventory.specs.Boards.{hit_places};
 ghost use Rattle.inventory.specs.Moments.{hits_in, unboxed, count_before, AreSeenAlike};
 
-use crate::hits::{are_seen_alike, push_hits};
+use crate::hits::{are_seen_alike, first_hit, is_hit, push_hits};
 use bmc_base::{OutOfMemory, Place};
 use found_set::Facts;
 use probe_lang::Entry;
@@ -112,6 +114,38 @@ impl<'a> Moment<'a> {
         push_hits(places, self.plus, &self.facts, number)?;
         push_hits(places, self.behind, &self.facts, number)?;
         Ok(())
+    }
+
+    // Whether this FRU is on a bus that is reachable and a pattern of this configuration matches it.
+    pub(crate) fn sees_hit(&self, entry: &Entry, number: u32) -> bool
+        ensures value { (reach : ℕ → Bool) → AreMarked self.now.facts.reach reach
+            → result ≡ (reach entry.now.place.bus && has_config entry.now.hits number) }
+        ensures order { IsTrue (are_by_place self.now.entries) }
+    {
+        is_hit(entry, &self.facts, number)
+    }
+
+    // Returns the first of the places that [`Moment::push_hits`] appends, if there is one.
+    pub(crate) fn first_hit(&self, number: u32) -> Option<Place>
+        ensures { (reach : ℕ → Bool) → AreMarked self.now.facts.reach reach
+            → result ≡ slice_get (hit_places reach (map entry_sight self.now.entries) number) 0 }
+    {
+        let before = first_hit(self.before, &self.facts, number);
+        if before.is_some() {
+            return before;
+        }
+        let plus = first_hit(self.plus, &self.facts, number);
+        if plus.is_some() {
+            return plus;
+        }
+        first_hit(self.behind, &self.facts, number)
+    }
+
+    // Counts the FRUs.
+    pub(crate) fn len(&self) -> usize
+        ensures { result ≡ length self.now.entries }
+    {
+        self.before.len() + self.plus.len() + self.behind.len()
     }
 
     // Whether each FRU is on a bus that is reachable at both moments or at neither.

@@ -1,8 +1,8 @@
-use Rattle.std.proofs.Common.{◌∙◌, ◌≡◌, ap, sym, ℕ, Bool}
+use Rattle.std.proofs.Common.{◌∙◌, ◌≡◌, ap, sym, ℕ, Bool, arith, option_map}
 use Rattle.cfg_json.specs.Configs.{Config}
 use Rattle.inventory.specs.Moments.{boards_now}
-use Rattle.inventory.specs.Differences.{Moment, boards_at}
-use Rattle.inventory.proofs.DifferencesLemmas.{boards_there, config_more}
+use Rattle.inventory.specs.Differences.{Moment, IsMarkedBy, boards_at}
+use Rattle.inventory.proofs.DifferencesLemmas.{boards_there, config_more, config_skipped, none_within, same_there}
 use Rattle.inventory.proofs.compare.push_shelf.Goals as goal
 
 pub loop-number-preserved : goal.loop-number-preserved
@@ -24,3 +24,28 @@ loop-number-preserved g c =
           (c.in_ok-push_config.ensures.come found reach found_after reach_after marked marked_after) (there found_after reach_after c.args.after.now)
           (there found reach c.args.before.now);
     }
+
+pub loop-number-preserved-then-has_same_boards : goal.loop-number-preserved-then-has_same_boards
+loop-number-preserved-then-has_same_boards g c =
+    let number = c.loop-number.number in
+    let configs = c.args.shelf.now in
+    let same : (found reach found_after reach_after : ℕ → Bool) → IsMarkedBy c.args.before.now.facts found reach
+    → IsMarkedBy c.args.after.now.facts found_after reach_after
+    → boards_at configs found reach c.args.before.now number ≡ boards_at configs found_after reach_after c.args.after.now number =
+    λ found reach found_after reach_after marked marked_after.
+    same_there configs found reach found_after reach_after c.args.before.now c.args.after.now number
+    (c.has_same_boards.ensures found reach found_after reach_after marked marked_after c.if-has_same_boards.true) in
+    record {
+      gone = λ found reach found_after reach_after marked marked_after. config_skipped number (boards_at configs found reach c.args.before.now)
+          (boards_at configs found_after reach_after c.args.after.now) _ _
+          (c.loop-number.invariant.gone found reach found_after reach_after marked marked_after)
+          (same found reach found_after reach_after marked marked_after);
+      come = λ found reach found_after reach_after marked marked_after. config_skipped number (boards_at configs found_after reach_after c.args.after.now)
+          (boards_at configs found reach c.args.before.now) _ _ (c.loop-number.invariant.come found reach found_after reach_after marked marked_after)
+          (sym (same found reach found_after reach_after marked marked_after));
+    }
+
+pub unreachable-requires : goal.unreachable-requires
+unreachable-requires g c =
+    none_within c.args.shelf.now c.loop-number.number (sym c.at.ensures ∙ ap (option_map (λ config. config.now)) c.in_default.is)
+    (omega (arith, c.loop-number-test.true, c.len-number-end.ensures.value))
