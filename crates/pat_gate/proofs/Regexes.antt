@@ -1,4 +1,4 @@
--- What a regex says of its text, and an error of one that was refused.
+-- What the grammar reads in the text of a pattern, and an error of one that was refused.
 use Rattle.std.proofs.Common.{◌≡◌, ◌≢◌, ◌⊎◌, ℕ, ◌<◌, ◌≤◌, Bool, true, false, List, Option, None, Some, IsSomeAnd, IfSome, is_some, All, chars, refl, sym, ap, ◌∙◌, inl, inr, nat_le, arith}
 use Rattle.std.proofs.lemmas.Bool.Decides.{nat_tests}
 use Rattle.regex.specs.Patterns.{Re, find_str, default_config, SameCaptures, Reads, Refuses}

@@ -22,6 +22,7 @@ use Rattle.regex_vm.specs.Found.{first_match}
 use Rattle.pat_gate.specs.Searches.{last_start, text_match_at, first_in_text, Serves}
 use Rattle.pat_gate.proofs.Regexes.{reads_match}
 
+-- what the type of a text says of its bytes
 pub are_bytes : (hay : List ℕ) → ((i : ℕ) → Fits w8 (get_or hay i 0)) → All (λ b. b < 256) hay
 are_bytes hay h = All-from_get_or (λ b. b < 256) hay 0 (λ i _. omega (arith, h i))
 

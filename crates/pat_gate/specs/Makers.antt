@@ -4,6 +4,8 @@ use Rattle.std.specs.List.{list_any}
 use Rattle.std.specs.Cmp.Lexicographic.{pointwise}
 use Rattle.bmc_base.specs.Counts.{raised}
 use Rattle.pat_gate.specs.Grammar.{IsPattern, IsBad}
+use Rattle.regex_compile.specs.declared.error.Error as compiler
+use Rattle.regex_compile.specs.declared.error.Error.TheVariants as compiled
 use Rattle.pat_gate.specs.declared.make_fault.MakeFault.{MakeFault}
 use Rattle.pat_gate.specs.declared.make_fault.MakeFault.TheVariants.{PatternSyntax, PatternTooLarge, OutOfMemory}
 
@@ -33,6 +35,12 @@ Builds text (Ok compiled) = (compiled ≡ text) × IsPattern text
 Builds text (Err PatternSyntax) = IsBad text
 Builds text (Err PatternTooLarge) = IsPattern text
 Builds text (Err OutOfMemory) = ⊤
+
+-- the fault for an error of the compiler: only memory is none of the pattern's
+abbrev pub of_compiler : compiler.Error → MakeFault
+of_compiler compiled.TooBig = PatternTooLarge
+of_compiler compiled.Malformed = PatternTooLarge
+of_compiler compiled.OutOfMemory = OutOfMemory
 
 -- the texts that are refused whatever the grammar says of them, and what is seen of the maker of the others
 pub record Listing : Type 0 where

@@ -19,6 +19,6 @@ text_match_at nfa hay i = if is_boundary hay i then run nfa hay (length hay) nfa
 abbrev pub first_in_text : Nfa → List ℕ → Option Match
 first_in_text nfa hay = first_between (text_match_at nfa hay) 0 (length hay)
 
--- the NFA has a match in each text in which the pattern has one
+-- the NFA has a match in exactly the texts in which the pattern of this text has one
 abbrev pub Serves : Nfa → List ℕ → Type 0
 Serves nfa pattern = (hay : List ℕ) → All (λ b. b < 256) hay → is_some (first_in_text nfa hay) ≡ has_match pattern hay

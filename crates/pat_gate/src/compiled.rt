@@ -28,9 +28,9 @@ impl Model for Compiled {
 }
 
 impl Compiled {
-    /// Whether the pattern has a match in a text, by the definition of `regex`. A pattern that is plain, or
-    /// plain behind `^`, before `$` or between both, takes no memory. Another one keeps what the search
-    /// builds, so that later ones are quick.
+    /// Whether the pattern has a match in a text, by the definition of `regex`. A pattern that is
+    /// plain, or plain behind `^`, before `$` or between both, takes no memory. Another one keeps
+    /// what its searches build, so that later ones are quick.
     pub fn found_in(&self, alloc: Global, text: &str) -> Result<bool, OutOfMemory>
         ensures { IfOk result (λ found. found ≡ has_match self.now text.now) }
     {

@@ -27,10 +27,12 @@ impl From<OutOfMemory> for MakeFault {
 }
 
 impl From<regex_compile::Error> for MakeFault {
-    ghost use Rattle.pat_gate.specs.Makers.{IsRefusal};
+    ghost use Rattle.std.specs.Prelude.{◌≡◌};
+    ghost use Rattle.pat_gate.specs.Makers.{of_compiler};
 
-    ghost from_gives = { λ _ fault. IsRefusal fault };
+    ghost from_gives = { λ error fault. fault ≡ of_compiler error };
 
+    // No pattern that the grammar reads is malformed for the compiler.
     fn from(error: regex_compile::Error) -> Self {
         match error {
             regex_compile::Error::TooBig | regex_compile::Error::Malformed => {

@@ -11,6 +11,12 @@ use std::alloc::Global;
 // About how many bytes may be kept of what searches have built. Few patterns come near.
 const BUILT_LIMIT: usize = 1 << 20;
 
+// For `anchored`: a match has to start where the search does.
+const ANCHORED: bool = true;
+
+// For `anchored`: a match may also start later.
+const UNANCHORED: bool = false;
+
 // A DFA, with what earlier searches have built of it.
 #[derive(Drop)]
 pub(crate) struct Searcher {
@@ -33,7 +39,7 @@ impl Searcher {
         ensures found { IfOk result (λ found. found ≡ is_some (first_in_text self.old.dfa.nfa hay.now)) }
         ensures same { self.new.dfa ≡ self.old.dfa }
     {
-        if !self.is_match(alloc, hay.as_bytes(), 0, false)? {
+        if !self.is_match(alloc, hay.as_bytes(), 0, UNANCHORED)? {
             return Ok(false);
         }
         // The match may be an empty one inside a character.
@@ -65,7 +71,7 @@ impl Searcher {
         if !hay.is_char_boundary(at) {
             return Ok(false);
         }
-        self.is_match(alloc, hay.as_bytes(), at, true)
+        self.is_match(alloc, hay.as_bytes(), at, ANCHORED)
     }
 
     // Whether there is a match in the bytes, at a place or from there on.

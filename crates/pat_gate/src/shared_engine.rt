@@ -9,7 +9,8 @@ use std::alloc::Global;
 use std::cell::RefCell;
 use std::marker::Model;
 
-// A pattern whose engine is kept from one match to the next. A match writes to the engine, so it lies in a cell.
+// A pattern whose engine is kept from one match to the next. A match writes to the engine, so the
+// engine lies in a cell.
 pub(crate) struct SharedEngine {
     text: Text,
     engine: RefCell<Engine>,
@@ -39,7 +40,7 @@ impl SharedEngine {
     {
         let text = self.text.as_str();
         if let Ok(mut engine) = self.engine.try_borrow_mut() {
-            // A clause knows nothing of what a cell holds, so the text is compared. It is always this one.
+            // No clause says what a cell holds, so the texts are compared. They are always equal.
             if engine.text() == text {
                 return engine.found_in(alloc, hay);
             }
@@ -64,6 +65,7 @@ fn found_anew(alloc: Global, text: &str, hay: &str) -> Result<bool, OutOfMemory>
 {
     match Engine::build(alloc, text) {
         Ok(mut engine) => engine.found_in(alloc, hay),
+        // The pattern was built before, so it is memory that is wanting.
         Err(_) => Err(OutOfMemory),
     }
 }
