@@ -1,4 +1,3 @@
-use crate::boards::push_both;
 use crate::lone::{push_key, swap_beside};
 use crate::{BoardKey, BoardKeys, IndexKeep};
 use bmc_base::Place;
@@ -41,67 +40,79 @@ fn boards_keep_their_indexes(rt: HostRuntime) -> Result<(), Fail> {
     Ok(())
 }
 
-// Appends the places of these buses, all of them or the first alone, or none where there is no bus.
-fn list(places: &mut Vec<Option<Place>>, buses: &[u32], match_one: bool) -> Result<(), Fail> {
-    places.clear();
-    for bus in buses {
-        places.push(Place::new(*bus, 80))?;
-        if match_one {
-            return Ok(());
+// The boards of a configuration with hits on these buses, some of bus 0 to 6, by the bits of a number.
+fn list(boards: &mut Vec<Option<Place>>, buses: u32, match_one: bool) -> Result<(), Fail> {
+    boards.clear();
+    for bus in 0..7_u32 {
+        if buses >> bus & 1 == 1 {
+            boards.push(Place::new(bus, 80))?;
         }
     }
-    if buses.is_empty() {
-        places.push(None)?;
+    if boards.is_empty() {
+        boards.push(None)?;
+    } else if match_one {
+        boards.truncate(1);
     }
     Ok(())
 }
 
-// A FRU comes on a bus beside others: the keys that the lists of all boards differ by are those of the swap.
-fn assert_swap(
-    rt: &impl Abort,
+// Appends the keys of the boards that are here and not there.
+fn push_absent(
     alloc: Global,
-    bus: u32,
-    others: &[u32],
-    all: &[u32],
-    match_one: bool,
+    keys: &mut BoardKeys,
+    here: &[Option<Place>],
+    there: &[Option<Place>],
 ) -> Result<(), Fail> {
-    let Some(place) = Place::new(bus, 80) else {
+    for board in here {
+        if !there.contains(board) {
+            push_key(alloc, keys, Some(key_at(*board)))?;
+        }
+    }
+    Ok(())
+}
+
+// The key of a board of configuration 3.
+fn key_at(place: Option<Place>) -> BoardKey {
+    BoardKey { config: 3, place }
+}
+
+// The bus on which a FRU comes.
+const BUS: u32 = 3;
+
+// The FRU comes beside others on these buses: the swap is what the lists of all boards differ by.
+fn assert_swap(rt: &impl Abort, alloc: Global, others: u32, match_one: bool) -> Result<(), Fail> {
+    let Some(place) = Place::new(BUS, 80) else {
         return Err(Fail::from("no bus"));
     };
-    let first = match others.first() {
-        Some(other) => Place::new(*other, 80),
-        None => None,
-    };
-    let swap = swap_beside(3, place, first, match_one);
     let mut before = Vec::new(alloc);
     let mut after = Vec::new(alloc);
     list(&mut before, others, match_one)?;
-    list(&mut after, all, match_one)?;
+    list(&mut after, others | 1 << BUS, match_one)?;
     let mut gone = BoardKeys::new(alloc)?;
     let mut come = BoardKeys::new(alloc)?;
-    push_both(alloc, &mut gone, &mut come, 3, &before, &after)?;
-    let mut swap_gone = BoardKeys::new(alloc)?;
-    let mut swap_new = BoardKeys::new(alloc)?;
-    push_key(alloc, &mut swap_gone, swap.gone)?;
-    push_key(alloc, &mut swap_new, swap.new)?;
-    assert_eq!(rt; swap_gone.as_slice(), gone.as_slice());
-    assert_eq!(rt; swap_new.as_slice(), come.as_slice());
+    push_absent(alloc, &mut gone, &before, &after)?;
+    push_absent(alloc, &mut come, &after, &before)?;
+    let first = before.first().copied().unwrap_or(None);
+    let swap = swap_beside(3, place, first, match_one);
+    assert_eq!(rt; gone.as_slice().first().copied(), swap.gone);
+    assert_eq!(rt; come.as_slice().first().copied(), swap.new);
+    assert!(rt; gone.as_slice().len() <= 1 && come.as_slice().len() <= 1);
+    Ok(())
+}
+
+#[test]
+fn a_fru_comes_beside_any_others(rt: HostRuntime) -> Result<(), Fail> {
+    for others in 0..128_u32 {
+        if others >> BUS & 1 == 0 {
+            assert_swap(&rt, rt.alloc(), others, false)?;
+            assert_swap(&rt, rt.alloc(), others, true)?;
+        }
+    }
     Ok(())
 }
 
 #[test]
 fn a_fru_comes_alone(rt: HostRuntime) -> Result<(), Fail> {
-    for match_one in [false, true] {
-        assert_swap(&rt, rt.alloc(), 5, &[], &[5], match_one)?;
-        assert_swap(&rt, rt.alloc(), 5, &[7], &[5, 7], match_one)?;
-        assert_swap(&rt, rt.alloc(), 5, &[3], &[3, 5], match_one)?;
-        assert_swap(&rt, rt.alloc(), 5, &[3, 4, 7, 9], &[3, 4, 5, 7, 9], match_one)?;
-    }
-    Ok(())
-}
-
-#[test]
-fn swaps_are_what_lists_say(rt: HostRuntime) -> Result<(), Fail> {
     let rows = [
         (None, false, Some(NOWHERE), Some(5)),
         (None, true, Some(NOWHERE), Some(5)),
