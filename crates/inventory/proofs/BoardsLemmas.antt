@@ -14,7 +14,7 @@ use Rattle.inventory.specs.Laws.{BoardsAscend}
 use Rattle.inventory.proofs.BoardLemmas.{place_cmp_eq}
 use Rattle.inventory.proofs.ListLemmas.{ascending_map, ascending_filter}
 
-board_cmp_eq : (place other : Option Place) → is_eq (option_cmp place_cmp place other) ≡ option_eq place_eq place other
+pub board_cmp_eq : (place other : Option Place) → is_eq (option_cmp place_cmp place other) ≡ option_eq place_eq place other
 board_cmp_eq None None = refl
 board_cmp_eq None (Some other) = refl
 board_cmp_eq (Some place) None = refl
@@ -26,13 +26,13 @@ ascending_differ boards ascend =
     subst (λ (same : Option Place → Option Place → Bool). IsDistinct same boards) (λ i place other. board_cmp_eq place other i)
     (IsDistinct-from_sorted (option_cmp place_cmp) boards ascend)
 
-hits_ascend : (reach : ℕ → Bool) (sights : List Sight) (number : ℕ) → IsStrictlySortedBy place_cmp (map (λ (sight : Sight). sight.place) sights)
+pub hits_ascend : (reach : ℕ → Bool) (sights : List Sight) (number : ℕ) → IsStrictlySortedBy place_cmp (map (λ (sight : Sight). sight.place) sights)
     → IsStrictlySortedBy place_cmp (hit_places reach sights number)
 hits_ascend reach sights number ascend =
     ascending_filter (λ (sight : Sight). sight.place) place_cmp (λ (sight : Sight). sight.hit number) (on_buses reach sights)
     (ascending_filter (λ (sight : Sight). sight.place) place_cmp (λ (sight : Sight). reach sight.place.bus) sights ascend)
 
-places_ascend : (match_one : Bool) (places : List Place) → IsStrictlySortedBy place_cmp places
+pub places_ascend : (match_one : Bool) (places : List Place) → IsStrictlySortedBy place_cmp places
     → IsStrictlySortedBy (option_cmp place_cmp) (places_or_none match_one places)
 unfolding IsStrictlySortedBy
 places_ascend true [] ascend = (tt, tt)

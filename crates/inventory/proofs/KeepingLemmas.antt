@@ -1,5 +1,6 @@
 -- Lists of boards that grow.
-use Rattle.std.proofs.Common.{◌≡◌, ◌≢◌, ℕ, ◌+◌, ◌<◌, ◌≤◌, List, [], ◌∷◌, ◌++◌, Bool, true, false, not, cond, length, take, drop, map, filter, get_or, refl, sym, ap, subst, ◌∙◌}
+use Rattle.std.proofs.Common.{◌≡◌, ◌≢◌, ℕ, ◌+◌, ◌<◌, ◌≤◌, List, [], ◌∷◌, ◌++◌, Bool, true, false, not, cond}
+use Rattle.std.proofs.Common.{length, take, drop, map, filter, get_or, refl, sym, ap, subst, ◌∙◌}
 use Rattle.std.proofs.Common.{arith, length-append, Option, Some, None, Result, Ok, Err, IfOk, IsOk, eq-eqb}
 use Rattle.std.specs.Prelude.{nat_eq, nat_lt, slice_set, slice_index_or, ◌==◌, if◌then◌else◌}
 use Rattle.std.specs.Option.{option_eq}

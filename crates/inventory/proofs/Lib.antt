@@ -7,3 +7,4 @@ pub mod KeepingLemmas
 pub mod DifferencesLemmas
 pub mod OrderLemmas
 pub mod LoneLemmas
+pub mod MergeLemmas

@@ -1,10 +1,12 @@
 -- The entries of a moment, and the boards of one configuration.
-use Rattle.std.specs.Prelude.{ℕ, ◌≡◌, Bool, IsTrue, ⊤, ◌⊎◌, if◌then◌else◌, List, [], ◌∷◌, ◌++◌, map, Option, Some, None}
+use Rattle.std.specs.Prelude.{ℕ, ◌≡◌, Bool, false, IsTrue, ⊤, ◌⊎◌, if◌then◌else◌, List, [], ◌∷◌, ◌++◌, map, Option, Some, None}
 use Rattle.std.specs.Global.{Box}
 use Rattle.std.specs.List.{AllByRecursion, prefix_len}
+use Rattle.std.specs.List.Sorted.{IsStrictlySortedBy}
+use Rattle.std.specs.Option.{option_eq, option_cmp}
 use Rattle.found_set.specs.Marks.{AreMarked}
 use Rattle.std.specs.Ordering.{is_lt}
-use Rattle.bmc_base.specs.Places.{Place, place_cmp}
+use Rattle.bmc_base.specs.Places.{Place, place_cmp, place_eq}
 use Rattle.probe_lang.specs.declared.rows.Entry.{Entry}
 use Rattle.probe_lang.specs.Sights.{entry_sight}
 use Rattle.cfg_json.specs.Configs.{Config}
@@ -77,3 +79,17 @@ IsLoneIf (Some entry) before after = IsLone entry before after
 pub record IsBeside (place : Place) (front back : List Place) : Type 0 where
   pub before : AllByRecursion (λ (each : Place). IsTrue (is_lt (place_cmp each place))) front
   pub behind : AllByRecursion (λ (each : Place). IsTrue (is_lt (place_cmp place each))) back
+
+-- these boards, without those at the front that come before this one
+abbrev pub skip_before : Option Place → List (Option Place) → List (Option Place)
+skip_before board [] = []
+skip_before board (first ∷ boards) = if is_lt (option_cmp place_cmp first board) then skip_before board boards else first ∷ boards
+
+-- whether this board is the first of these
+abbrev pub is_first : Option Place → List (Option Place) → Bool
+is_first board [] = false
+is_first board (first ∷ boards) = option_eq place_eq board first
+
+-- each board comes before those behind it
+abbrev pub AreAscending : List (Option Place) → Type 0
+AreAscending boards = IsStrictlySortedBy (option_cmp place_cmp) boards

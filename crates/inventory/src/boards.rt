@@ -1,8 +1,10 @@
-ghost use Rattle.std.specs.Prelude.{◌≡◌, ◌<◌, ◌∷◌, ◌++◌, ℕ, Bool, List, [], map, Some, OnOk};
-ghost use Rattle.bmc_base.specs.Places.{Place};
+ghost use Rattle.std.specs.Prelude.{◌≡◌, ◌<◌, ◌∷◌, ◌++◌, ℕ, Bool, List, [], if◌then◌else◌, map, Some, OnOk};
+ghost use Rattle.std.specs.Option.{option_cmp};
+ghost use Rattle.std.specs.Ordering.{is_lt};
+ghost use Rattle.bmc_base.specs.Places.{Place, place_cmp};
 ghost use Rattle.inventory.specs.Boards.{places_or_none};
-ghost use Rattle.inventory.specs.Differences.{IsMarkedBy};
-ghost use Rattle.inventory.specs.Moments.{boards_now, left};
+ghost use Rattle.inventory.specs.Differences.{IsMarkedBy, key_of};
+ghost use Rattle.inventory.specs.Moments.{boards_now, left, skip_before, is_first, AreAscending};
 
 use crate::{BoardKey, BoardKeys, Moment};
 use bmc_base::{OutOfMemory, Place};
@@ -28,7 +30,8 @@ pub fn list_boards(
     match_one: bool,
 ) -> Result<(), OutOfMemory>
     requires { number < 256 }
-    ensures { (found reach : ℕ → Bool) → IsMarkedBy moment.now.facts found reach
+    ensures ascend { OnOk result (AreAscending places.new.items) }
+    ensures boards { (found reach : ℕ → Bool) → IsMarkedBy moment.now.facts found reach
         → OnOk result (places.new.items ≡ boards_now match_one found reach moment.now number) }
 {
     places.clear();
@@ -39,18 +42,47 @@ pub fn list_boards(
     Ok(())
 }
 
+// Whether a board comes before another. One without a place comes first.
+fn is_before(board: &Option<Place>, other: &Option<Place>) -> bool
+    ensures { result ≡ is_lt (option_cmp place_cmp board.now other.now) }
+{
+    match (*board, *other) {
+        (Some(place), Some(other)) => place < other,
+        (None, Some(_)) => true,
+        _ => false,
+    }
+}
+
+// Returns these boards without those at the front that come before this one.
+fn skip_before<'p>(boards: &'p [Option<Place>], board: &Option<Place>) -> &'p [Option<Place>]
+    ensures { result.now ≡ skip_before board.now boards.now }
+{
+    for i in 0..boards.len() {
+        if !is_before(&boards[i], board) {
+            return &boards[i..];
+        }
+    }
+    &[]
+}
+
+// Whether this board is the first of these.
+fn is_first(boards: &[Option<Place>], board: Option<Place>) -> bool
+    ensures { result ≡ is_first board boards.now }
+{
+    !boards.is_empty() && board == boards[0]
+}
+
 // Appends the key of a board of a configuration, if it is not there.
-#[tactic(auto, using(crate::proofs::DifferencesLemmas::left_one, crate::proofs::DifferencesLemmas::has_board_by))]
 fn push_if_left(
     alloc: Global,
     keys: &mut BoardKeys,
     number: u32,
     place: Option<Place>,
-    there: &[Option<Place>],
+    is_there: bool,
 ) -> Result<(), OutOfMemory>
-    ensures { OnOk result (keys.new ≡ keys.old ++ left number (place ∷ []) there.now) }
+    ensures { OnOk result (keys.new ≡ keys.old ++ (if is_there then [] else key_of number place ∷ [])) }
 {
-    if !there.contains(&place) {
+    if !is_there {
         let key = BoardKey {
             config: number,
             place,
@@ -60,7 +92,8 @@ fn push_if_left(
     Ok(())
 }
 
-/// Appends the keys of the boards of a configuration that are here and not there.
+/// Appends the keys of the boards of a configuration that are here and not there. Both lists ascend, so each is
+/// gone through once.
 pub fn push_left(
     alloc: Global,
     keys: &mut BoardKeys,
@@ -68,10 +101,14 @@ pub fn push_left(
     here: &[Option<Place>],
     there: &[Option<Place>],
 ) -> Result<(), OutOfMemory>
+    requires here { AreAscending here.now }
+    requires there { AreAscending there.now }
     ensures { OnOk result (keys.new ≡ keys.old ++ left number here.now there.now) }
 {
+    let mut rest = there;
     for place in here {
-        push_if_left(alloc, keys, number, *place, there)?;
+        rest = skip_before(rest, place);
+        push_if_left(alloc, keys, number, *place, is_first(rest, *place))?;
     }
     Ok(())
 }
@@ -86,6 +123,8 @@ pub fn push_both(
     before: &[Option<Place>],
     after: &[Option<Place>],
 ) -> Result<(), OutOfMemory>
+    requires before { AreAscending before.now }
+    requires after { AreAscending after.now }
     ensures gone { OnOk result (gone.new ≡ gone.old ++ left number before.now after.now) }
     ensures new { OnOk result (new.new ≡ new.old ++ left number after.now before.now) }
 {

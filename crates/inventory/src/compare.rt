@@ -242,8 +242,8 @@ pub fn difference<L: Ledger>(
 }
 
 /// Finds the boards that go and those that come where one FRU alone comes or goes, and with it perhaps what is
-/// found and reachable. It is faster than [`difference`], as configurations that the FRU has no hit of are not looked at,
-/// where each bus with a FRU is as reachable as it was.
+/// found and reachable. It is faster than [`difference`] where each other FRU is seen as before: a configuration that
+/// is found as before is looked at only if the FRU has a hit of it, and no list of its boards is made.
 pub fn difference_by<L: Ledger>(
     alloc: Global,
     shelf: &Shelf<L>,

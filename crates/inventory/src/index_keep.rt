@@ -1,4 +1,5 @@
-ghost use Rattle.std.specs.Prelude.{◌≡◌, ◌+◌, ◌<◌, ◌≤◌, ◌==◌, ◌++◌, ◌∷◌, if◌then◌else◌, List, [], ℕ, filter, length, nat_eq, slice_set, None, Some, ⊤, IfOk, OnOk, OnErr, IsSomeAnd};
+ghost use Rattle.std.specs.Prelude.{◌≡◌, ◌+◌, ◌<◌, ◌≤◌, ◌==◌, ◌++◌, ◌∷◌, if◌then◌else◌, List, [], ℕ};
+ghost use Rattle.std.specs.Prelude.{filter, length, nat_eq, slice_set, None, Some, ⊤, IfOk, OnOk, OnErr, IsSomeAnd};
 ghost use Rattle.indexmap.specs.IndexSet.{spare};
 ghost use Rattle.inventory.specs.Indexes.{kept_of, with_board, with_boards, index_of, index_in};
 ghost use Rattle.inventory.specs.Differences.{places_of};

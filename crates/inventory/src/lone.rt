@@ -34,9 +34,9 @@ fn is_before(place: Place, other: Place) -> bool
     place < other
 }
 
-// Returns the change where a FRU with a hit comes at a place, and the first other hit is at this place, if
-// there is one.
-fn swap_beside(number: u32, place: Place, first: Option<Place>, match_one: bool) -> Swap
+/// Returns the change where a FRU with a hit comes at a place, and the first other hit is at this place, if
+/// there is one.
+pub(crate) fn swap_beside(number: u32, place: Place, first: Option<Place>, match_one: bool) -> Swap
     ensures gone { (front back : List Place) → IsBeside place front back → first ≡ slice_get (front ++ back) 0
         → option_to_list result.gone ≡ left number (places_or_none match_one (front ++ back)) (places_or_none match_one (front ++ place ∷ back)) }
     ensures new { (front back : List Place) → IsBeside place front back → first ≡ slice_get (front ++ back) 0

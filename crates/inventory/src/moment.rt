@@ -96,7 +96,8 @@ impl<'a> Moment<'a> {
 
     // Whether the configuration with this number is found.
     pub(crate) fn found(&self, number: u32) -> bool
-        ensures { result ≡ is_marked self.now.facts.found number }
+        ensures value { result ≡ is_marked self.now.facts.found number }
+        ensures order { IsTrue (are_by_place self.now.entries) }
     {
         self.facts.found(number)
     }

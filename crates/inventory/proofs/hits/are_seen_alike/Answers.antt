@@ -6,7 +6,8 @@ use Rattle.inventory.proofs.hits.are_seen_alike.Goals as goal
 
 pub loop-entry-preserved : goal.loop-entry-preserved
 loop-entry-preserved c =
-    λ reach reach_after marked marked_after. alike_more reach reach_after c.args.entries.now c.loop-entry.entry-index c.entry-item.result c.deref.result.now c.loop-entry-test.true
+    λ reach reach_after marked marked_after. alike_more reach reach_after c.args.entries.now c.loop-entry.entry-index
+    c.entry-item.result c.deref.result.now c.loop-entry-test.true
     c.entry-item.is c.deref.ensures (c.loop-entry.invariant reach reach_after marked marked_after)
     (alike_bus reach reach_after c.args.facts.now.reach c.args.facts_after.now.reach c.bus-bus.result c.deref.result.now.place.bus c.reach.result
     c.reach-in-loop-entry.result marked marked_after c.bus-bus.type_inv c.bus-bus.ensures c.reach.ensures c.reach-in-loop-entry.ensures c.if-reach.false)
@@ -14,5 +15,6 @@ loop-entry-preserved c =
 pub returns : goal.returns
 returns c =
     let all : length c.args.entries.now ≤ c.loop-entry.entry-index = omega (arith, c.loop-entry-test.false) in
-    λ reach reach_after marked marked_after yes. subst (λ boxes. AreSeenAlike reach reach_after (unboxed boxes)) (take_all c.loop-entry.entry-index c.args.entries.now all)
+    λ reach reach_after marked marked_after yes. subst (λ boxes. AreSeenAlike reach reach_after (unboxed boxes))
+    (take_all c.loop-entry.entry-index c.args.entries.now all)
     (c.loop-entry.invariant reach reach_after marked marked_after)

@@ -5,4 +5,5 @@ pub loop-entry-preserved : goal.loop-entry-preserved
 loop-entry-preserved c =
     λ reach marked. hits_more reach c.args.number c.args.entries.now c.loop-entry.entry-index c.entry-item.result c.deref.result.now c.args.places.now.items
     c.loop-entry.places.items
-    c.push_hit.new.places.items c.loop-entry-test.true c.entry-item.is c.deref.ensures (c.loop-entry.invariant reach marked) (c.in_ok-push_hit.ensures reach marked)
+    c.push_hit.new.places.items c.loop-entry-test.true c.entry-item.is c.deref.ensures
+    (c.loop-entry.invariant reach marked) (c.in_ok-push_hit.ensures reach marked)

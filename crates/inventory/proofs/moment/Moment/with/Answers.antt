@@ -10,7 +10,8 @@ returns-clause-entries c =
     rw c.from_ref.ensures.value
     (with_parts c.args.plus.now.value c.args.entries.now c.count_before-at.result c.split_at.result.0.now c.split_at.result.1.now
     c.requires.free
-    (c.count_before-at.ensures.value ∙ ap (λ (entry : Entry). count_before entry.place (unboxed c.args.entries.now)) c.deref.ensures) c.split_at.ensures.front c.split_at.ensures.back)
+    (c.count_before-at.ensures.value
+    ∙ ap (λ (entry : Entry). count_before entry.place (unboxed c.args.entries.now)) c.deref.ensures) c.split_at.ensures.front c.split_at.ensures.back)
 
 pub invariant_of-result : goal.invariant_of-result
 invariant_of-result c =
