@@ -40,10 +40,11 @@ not_not true given = refl
 not_not false given = absurd (cc)
 
 -- as long as no mark has changed, the marks so far are those that were found
-pub still_same : (kept now : List Bool) (has_changed : Bool) (i : ℕ) (answer : Bool) → i < length kept → i < length now
-    → (has_changed ≡ false → take i now ≡ take i kept) → changes kept has_changed i answer ≡ false → take (i + 1) (set now i answer) ≡ take (i + 1) kept
-still_same kept now has_changed i answer within inside same given =
-    let two = or_parts _ _ given in
+pub still_same : (kept now : List Bool) (has_changed changed : Bool) (i : ℕ) (answer : Bool) → i < length kept → i < length now
+    → (has_changed ≡ false → take i now ≡ take i kept) → changed ≡ changes kept has_changed i answer → changed ≡ false
+    → take (i + 1) (set now i answer) ≡ take (i + 1) kept
+still_same kept now has_changed changed i answer within inside same told given =
+    let two = or_parts _ _ (sym told ∙ given) in
     take_more_set now i answer inside
     ∙ ap₂ (λ (front : List Bool) (mark : Bool). front ++ mark ∷ []) (same two.0) (sym (same_answer _ _ (not_not _ two.1)))
     ∙ sym (take_more kept i false within)

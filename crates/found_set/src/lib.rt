@@ -16,6 +16,8 @@ mod reach;
 mod row;
 mod rule;
 mod set;
+#[cfg(test)]
+mod skip_tests;
 mod staged;
 #[cfg(test)]
 mod tests;

@@ -156,6 +156,14 @@ impl<L: Ledger> FoundSet<L> {
         }
     }
 
+    // Whether a FRU is present at a place.
+    #[cfg(test)]
+    pub(crate) fn holds(&self, place: Place) -> bool
+        ensures { result ≡ holds_place self.now.rows place }
+    {
+        self.rows.iter().any(|row| row.place == place)
+    }
+
     // Discards what is staged.
     fn unstage(&mut self)
         ensures { self.new ≡ as_staged self.old None }

@@ -11,10 +11,10 @@ use std::process::Abort;
 use std::test::Fail;
 
 // A record without areas.
-const EMPTY: &[u8; 8] = b"\x01\x00\x00\x00\x00\x00\x00\xFF";
+pub(crate) const EMPTY: &[u8; 8] = b"\x01\x00\x00\x00\x00\x00\x00\xFF";
 
 // Takes over a configuration of this name and probe, with a fixed channel or none, if the name is new.
-fn configure(
+pub(crate) fn configure(
     set: &mut FoundSet<Silent>,
     alloc: Global,
     config: (&str, &str, &[u8]),

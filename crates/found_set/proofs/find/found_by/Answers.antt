@@ -32,7 +32,7 @@ loop-i-preserved g c =
           c.find-is_found.ensures.value c.find-is_found.ensures.few c.loop-i.invariant.none c.requires.named c.loop-i.invariant.same test given still)
           ∙ c.loop-i.invariant.told test given still;
       none = none_later found i c.find-is_found.result c.loop-i.invariant.none;
-      same = λ unchanged. still_same c.args.kept.now.found found c.loop-i.has_changed i c.find-is_found.result (omega arith) (omega arith)
-          c.loop-i.invariant.same (sym c.changes-has_changed.ensures ∙ unchanged);
+      same = still_same c.args.kept.now.found found c.loop-i.has_changed c.changes-has_changed.result i c.find-is_found.result (omega arith) (omega arith)
+          c.loop-i.invariant.same c.changes-has_changed.ensures;
       counted = within_sum _ _ _ i 1 (i + 1) c.loop-i.invariant.counted c.find-is_found.ensures.counted (omega arith);
     }

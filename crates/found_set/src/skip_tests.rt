@@ -1,0 +1,262 @@
+ghost use Rattle.std.specs.Prelude.{◌≡◌, ◌<◌, [], length, IfOk, OnOk};
+ghost use Rattle.std.specs.List.{All};
+ghost use Rattle.probe_lang.specs.declared.rows.Channel.{Channel};
+
+use crate::tests::{EMPTY, configure};
+use crate::{Facts, FoundSet};
+use bmc_base::{Place, Silent, Steps};
+use fru_record::FruRecord;
+use probe_lang::{Channel, Channels, Entry, Hit, Hits};
+use std::alloc::Global;
+use std::process::Abort;
+use std::test::Fail;
+
+// Six configurations: a riser that opens bus 20, one whose FRUs may open bus 30, one with two patterns, and
+// three that ask for others.
+fn configured(alloc: Global, steps: &mut Steps<Silent>) -> Result<FoundSet<Silent>, Fail>
+    ensures rules { IfOk result (λ set. length set.rules ≡ 6) }
+    ensures rows { IfOk result (λ set. set.rows ≡ []) }
+{
+    let mut set = FoundSet::new(alloc)?;
+    configure(
+        &mut set,
+        alloc,
+        ("A", "xyz.openbmc_project.FruDevice({'BUS': 1})", &[20]),
+        steps,
+    )?;
+    configure(
+        &mut set,
+        alloc,
+        ("B", "xyz.openbmc_project.FruDevice({'BUS': 2})", &[]),
+        steps,
+    )?;
+    configure(&mut set, alloc, ("C", "FOUND('A')", &[]), steps)?;
+    configure(
+        &mut set,
+        alloc,
+        ("D", "xyz.openbmc_project.FruDevice({'BUS': 3})", &[]),
+        steps,
+    )?;
+    configure(&mut set, alloc, ("E", "FOUND('C')", &[40]), steps)?;
+    configure(&mut set, alloc, ("F", "FOUND('D')", &[]), steps)?;
+    Ok(set)
+}
+
+// What is seen of a FRU, as one number: two hits, and whether a channel of the second configuration leads
+// from it to bus 30.
+#[derive(Clone, Copy)]
+struct Shows(u32);
+
+impl Shows {
+    fn first(self) -> Hit
+        ensures { result.config < 6 }
+    {
+        Hit {
+            config: self.0 % 6,
+            pattern: 0,
+        }
+    }
+
+    fn second(self) -> Hit
+        ensures { result.config < 6 }
+    {
+        Hit {
+            config: self.0 / 6 % 6,
+            pattern: 0,
+        }
+    }
+
+    fn channels(self, alloc: Global) -> Result<Channels, Fail>
+        ensures { IfOk result (λ channels. All (λ (channel : Channel). channel.config < 6) channels) }
+    {
+        let mut channels = Channels::new(alloc)?;
+        if self.0 / 36 % 4 == 3 {
+            channels.push(alloc, Channel { config: 1, bus: 30 })?;
+        }
+        Ok(channels)
+    }
+}
+
+// Takes over an entry at a place, which has to be free.
+fn put(
+    set: &mut FoundSet<Silent>,
+    alloc: Global,
+    place: Place,
+    shown: Shows,
+    steps: &mut Steps<Silent>,
+) -> Result<(), Fail>
+    requires { length set.old.rules ≡ 6 }
+    ensures { OnOk result (length set.new.rules ≡ 6) }
+{
+    if set.holds(place) {
+        return Err(Fail::from("the place is not free"));
+    }
+    let mut hits = Hits::new(alloc)?;
+    hits.push(alloc, shown.first())?;
+    hits.push(alloc, shown.second())?;
+    let entry = Entry {
+        place,
+        fru: FruRecord::decode(alloc, EMPTY)?,
+        hits,
+        channels: shown.channels(alloc)?,
+    };
+    let next = set.prepare_plug(alloc, &entry, steps)?;
+    set.commit(next);
+    Ok(())
+}
+
+// Takes out the entry at a place, which has to be there.
+fn take(
+    set: &mut FoundSet<Silent>,
+    alloc: Global,
+    place: Place,
+    steps: &mut Steps<Silent>,
+) -> Result<(), Fail>
+    requires { length set.old.rules ≡ 6 }
+    ensures { OnOk result (length set.new.rules ≡ 6) }
+{
+    if !set.holds(place) {
+        return Err(Fail::from("the place is free"));
+    }
+    let next = set.prepare_unplug(alloc, place, steps)?;
+    set.commit(next);
+    Ok(())
+}
+
+// The entry at a place that shows one configuration.
+fn one_hit(config: u32) -> Shows {
+    Shows(config % 6 * 7)
+}
+
+fn place(bus: u32, address: u32) -> Result<Place, Fail> {
+    match Place::new(bus, address) {
+        Some(place) => Ok(place),
+        None => Err(Fail::from("no place")),
+    }
+}
+
+// Ten places: two on each of two root buses, on bus 20 and 30, which may be reachable, and on bus 40.
+const BUSES: [u32; 5] = [1, 2, 20, 30, 40];
+
+fn place_at(at: usize) -> Result<Place, Fail>
+    requires { at < 10 }
+{
+    let address = if at < 5 { 80 } else { 81 };
+    place(BUSES[at % 5], address)
+}
+
+// Whether facts agree on the six configurations and on each bus.
+fn assert_same(rt: &impl Abort, facts: &Facts, wanted: &Facts) {
+    for config in 0u32..6 {
+        assert_eq!(rt;
+            facts.found(config),
+            wanted.found(config),
+            "configuration {config}"
+        );
+    }
+    for bus in [0u8, 15, 16, 20, 30, 40, 255] {
+        assert_eq!(rt; facts.reach(bus), wanted.reach(bus), "bus {bus}");
+    }
+}
+
+// A new set with these entries, of which 0 is none.
+fn anew(
+    alloc: Global,
+    present: &[u32; 10],
+    steps: &mut Steps<Silent>,
+) -> Result<FoundSet<Silent>, Fail> {
+    let mut set = configured(alloc, steps)?;
+    for at in 0..10 {
+        if present[at] != 0 {
+            put(&mut set, alloc, place_at(at)?, Shows(present[at]), steps)?;
+        }
+    }
+    Ok(set)
+}
+
+// The next of numbers that look random.
+fn next(random: u32) -> u32 {
+    random.wrapping_mul(1664525).wrapping_add(1013904223)
+}
+
+#[test]
+fn many_events_give_the_facts_of_a_new_set(rt: HostRuntime) -> Result<(), Fail> {
+    let alloc = rt.alloc();
+    let mut steps = Steps::new(Silent);
+    let mut set = configured(alloc, &mut steps)?;
+    let mut present = [0u32; 10];
+    let mut random = 1;
+    for _event in 0..400 {
+        random = next(random);
+        let at = (random / 65536 % 10) as usize;
+        let place = place_at(at)?;
+        if set.holds(place) {
+            take(&mut set, alloc, place, &mut steps)?;
+            present[at] = 0;
+        } else {
+            random = next(random);
+            let code = 1 + random / 65536 % 1000;
+            put(&mut set, alloc, place, Shows(code), &mut steps)?;
+            present[at] = code;
+        }
+        let mut others = Steps::new(Silent);
+        let wanted = anew(alloc, &present, &mut others)?;
+        assert_same(&rt, &set.facts(), &wanted.facts());
+    }
+    Ok(())
+}
+
+#[test]
+fn covered_entries_cost_nothing(rt: HostRuntime) -> Result<(), Fail> {
+    let alloc = rt.alloc();
+    let mut steps = Steps::new(Silent);
+    let mut set = configured(alloc, &mut steps)?;
+    assert_eq!(rt; steps.evals(), 21);
+    // the fourth configuration, and the two behind it
+    put(&mut set, alloc, place(1, 80)?, one_hit(3), &mut steps)?;
+    assert_eq!(rt; steps.evals(), 24);
+    // another on a root bus has each hit, so that nothing changes
+    put(&mut set, alloc, place(2, 80)?, one_hit(3), &mut steps)?;
+    take(&mut set, alloc, place(1, 80)?, &mut steps)?;
+    assert_eq!(rt; steps.evals(), 24);
+    // one that no bus leads to changes nothing and covers nothing
+    put(&mut set, alloc, place(20, 80)?, one_hit(3), &mut steps)?;
+    assert_eq!(rt; steps.evals(), 24);
+    take(&mut set, alloc, place(2, 80)?, &mut steps)?;
+    assert_eq!(rt; steps.evals(), 27);
+    assert_same(&rt, &set.facts(), &configured(alloc, &mut steps)?.facts());
+    Ok(())
+}
+
+#[test]
+fn visible_entries_cover_on_their_buses(rt: HostRuntime) -> Result<(), Fail> {
+    let alloc = rt.alloc();
+    let mut steps = Steps::new(Silent);
+    let mut set = configured(alloc, &mut steps)?;
+    put(&mut set, alloc, place(1, 80)?, one_hit(0), &mut steps)?;
+    // the first configuration opens bus 20, and all six are evaluated
+    assert_eq!(rt; steps.evals(), 27);
+    put(&mut set, alloc, place(20, 80)?, one_hit(3), &mut steps)?;
+    // six in each pass, since the entry is seen beyond the root buses
+    assert_eq!(rt; steps.evals(), 39);
+    put(&mut set, alloc, place(20, 81)?, one_hit(3), &mut steps)?;
+    assert_eq!(rt; steps.evals(), 39);
+    // an entry on a root bus counts in the first pass, where one on bus 20 does not
+    put(&mut set, alloc, place(2, 80)?, one_hit(3), &mut steps)?;
+    assert_eq!(rt; steps.evals(), 51);
+    // and it covers both on bus 20
+    take(&mut set, alloc, place(20, 80)?, &mut steps)?;
+    take(&mut set, alloc, place(20, 81)?, &mut steps)?;
+    assert_eq!(rt; steps.evals(), 51);
+    for (config, wanted) in [
+        (0, true),
+        (1, false),
+        (2, true),
+        (3, true),
+        (4, true),
+        (5, true),
+    ] {
+        assert_eq!(rt; set.facts().found(config), wanted, "configuration {config}");
+    }
+    Ok(())
+}
