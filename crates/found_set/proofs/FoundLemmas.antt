@@ -11,7 +11,7 @@ use Rattle.probe_lang.specs.declared.word.Word.TheVariants.{Always, Never, Found
 use Rattle.probe_lang.specs.Values.{value, value_from, operand, joined, is_few, AreFew}
 use Rattle.found_set.specs.Marks.{is_marked, is_true, AreTrue}
 use Rattle.found_set.specs.Named.{mark_of, AreNames}
-use Rattle.found_set.specs.Kept.{marked_value}
+use Rattle.found_set.specs.Earlier.{marked_value}
 use Rattle.found_set.specs.Found.{Rule, names_of, is_named_found, found_from}
 use Rattle.found_set.proofs.NamedLemmas.{named_is, named_before}
 

@@ -5,7 +5,7 @@ pub mod BusesLemmas
 pub mod MarksLemmas
 pub mod RowsLemmas
 pub mod IdleLemmas
-pub mod KeptLemmas
+pub mod EarlierLemmas
 pub mod InsidesLemmas
 pub mod EventsLemmas
 pub mod SetsLemmas

@@ -4,7 +4,7 @@ pub mod Found
 pub mod Rows
 pub mod Buses
 pub mod Covers
-pub mod Kept
+pub mod Earlier
 pub mod Events
 pub mod Staging
 pub mod Sets

@@ -5,12 +5,12 @@ ghost use Rattle.found_set.specs.Found.{facts, matched_by, names_of, roots};
 ghost use Rattle.found_set.specs.Named.{AreNames};
 ghost use Rattle.found_set.specs.Rows.{sights_of, is_idle};
 ghost use Rattle.found_set.specs.Covers.{AreWithOrWithout};
-ghost use Rattle.found_set.specs.Kept.{HoldBeside, StillHold, WereBefore};
+ghost use Rattle.found_set.specs.Earlier.{HoldBeside, StillHold, WereBefore};
 
 use crate::cover::is_covered;
 use crate::facts::{Facts, MOST_RULES};
 use crate::find::found_by;
-use crate::kept::Kept;
+use crate::earlier::Earlier;
 use crate::marks::PATTERN_MARKS;
 use crate::names::Names;
 use crate::parts::Parts;
@@ -19,14 +19,14 @@ use crate::row::Row;
 use crate::rule::Rule;
 use bmc_base::{Ledger, Steps};
 
-// Keeps what was found, if it was found over the root buses alone, and a row came or went there.
-fn kept_beside(old: &Facts, row: &Row, others: &Parts<'_>) -> Kept
+// Returns what was found, if that was over the root buses alone, and a row came or went there.
+fn earlier_beside(old: &Facts, row: &Row, others: &Parts<'_>) -> Earlier
     ensures { HoldBeside result.found result.touched row.now others.now old.now }
 {
     if !is_on_root(row) || others.are_on(&beyond_roots(&old.reach)) {
-        return Kept::nothing();
+        return Earlier::nothing();
     }
-    Kept::beside(&old.found, row)
+    Earlier::beside(&old.found, row)
 }
 
 // Tells what is found and reachable over these rows, from what was before a row came or went beside the
@@ -50,30 +50,30 @@ pub(crate) fn reevaluate<L: Ledger>(
     if is_covered(row, others, &old.reach) {
         return *old;
     }
-    let kept = kept_beside(old, row, others);
-    evaluate(rules, names, rows, &kept, steps)
+    let earlier = earlier_beside(old, row, others);
+    evaluate(rules, names, rows, &earlier, steps)
 }
 
-// Tells what is found and reachable over these rows: first over the root buses, where what is kept still
-// holds, and then, if a row is visible on another bus, over all that are visible. The hits of a row are
+// Tells what is found and reachable over these rows: first over the root buses, where earlier marks may
+// stay, and then, if a row is visible on another bus, over all that are visible. The hits of a row are
 // marked once.
 pub(crate) fn evaluate<L: Ledger>(
     rules: &[Rule<L>],
     names: &Names,
     rows: &Parts<'_>,
-    kept: &Kept,
+    earlier: &Earlier,
     steps: &mut Steps<L>,
 ) -> Facts
     requires few { length rules.now ≤ most_rules }
     requires named { AreNames names.now.names (names_of rules.now) }
-    requires kept { StillHold kept.now.found kept.now.touched rules.now (matched_by (roots (sights_of rows.now))) }
+    requires earlier { StillHold earlier.now.found earlier.now.touched rules.now (matched_by (roots (sights_of rows.now))) }
     ensures facts { result ≡ facts rules.now (sights_of rows.now) }
     ensures counted { IsWithin steps.old steps.new (2 * length rules.now) }
 {
     let mut marks = [false; PATTERN_MARKS];
     let roots = mark_roots();
     rows.mark(&mut marks, &roots);
-    let first = found_by(rules, names, &marks, kept, steps);
+    let first = found_by(rules, names, &marks, earlier, steps);
     let reach = reach_of(rules, rows, &first);
     let beyond = beyond_roots(&reach);
     if !rows.are_on(&beyond) {
@@ -83,7 +83,7 @@ pub(crate) fn evaluate<L: Ledger>(
         };
     }
     rows.mark(&mut marks, &beyond);
-    let found = found_by(rules, names, &marks, &Kept::nothing(), steps);
+    let found = found_by(rules, names, &marks, &Earlier::nothing(), steps);
     Facts { found, reach }
 }
 

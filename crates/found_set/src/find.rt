@@ -4,10 +4,10 @@ ghost use Rattle.probe_lang.specs.Values.{AreFew};
 ghost use Rattle.found_set.specs.Marks.{is_marked, AreMarked, AreTrue, most_rules};
 ghost use Rattle.found_set.specs.Found.{found_from, names_of};
 ghost use Rattle.found_set.specs.Named.{AreNames};
-ghost use Rattle.found_set.specs.Kept.{marked_value, StillHold};
+ghost use Rattle.found_set.specs.Earlier.{marked_value, StillHold};
 
 use crate::facts::MOST_RULES;
-use crate::kept::Kept;
+use crate::earlier::Earlier;
 use crate::marks::{MOST_PATTERNS, PATTERN_MARKS, is_marked};
 use crate::names::Names;
 use crate::rule::Rule;
@@ -46,36 +46,36 @@ impl<'a> Truths for Known<'a> {
     }
 }
 
-// Tells whether a configuration is found: by the mark that is kept, else by its probe.
+// Tells whether a configuration is found: by its earlier mark if there is one, else by its probe.
 fn find<L: Ledger>(
     rule: &Rule<L>,
     known: &Known<'_>,
-    kept: Option<bool>,
+    earlier: Option<bool>,
     steps: &mut Steps<L>,
 ) -> bool
-    ensures value { result ≡ unwrap_or kept (marked_value rule.now.probe.words
+    ensures value { result ≡ unwrap_or earlier (marked_value rule.now.probe.words
         known.now.marks.now known.now.config known.now.names.now.names known.now.found.now) }
-    ensures few { kept ≡ None → AreFew rule.now.probe.words }
+    ensures few { earlier ≡ None → AreFew rule.now.probe.words }
     ensures counted { IsWithin steps.old steps.new 1 }
 {
-    match kept {
+    match earlier {
         Some(is_found) => is_found,
         None => rule.holds(known, steps),
     }
 }
 
 // Marks the configurations that are found, each over those before it, where the patterns are true that are
-// marked. A mark that is kept is taken over, as long as none before it has changed.
+// marked. An earlier mark that may stay is taken over.
 pub(crate) fn found_by<L: Ledger>(
     rules: &[Rule<L>],
     names: &Names,
     marks: &[bool; PATTERN_MARKS],
-    kept: &Kept,
+    earlier: &Earlier,
     steps: &mut Steps<L>,
 ) -> [bool; MOST_RULES]
     requires few { length rules.now ≤ most_rules }
     requires named { AreNames names.now.names (names_of rules.now) }
-    ensures found { (test : ℕ → ℕ → Bool) → AreTrue marks.now test → StillHold kept.now.found kept.now.touched rules.now test
+    ensures found { (test : ℕ → ℕ → Bool) → AreTrue marks.now test → StillHold earlier.now.found earlier.now.touched rules.now test
         → AreMarked result (is_marked (found_from rules.now rules.now test [])) }
     ensures counted { IsWithin steps.old steps.new (length rules.now) }
 {
@@ -88,8 +88,8 @@ pub(crate) fn found_by<L: Ledger>(
             config: i as u8,
             found: &found,
         };
-        let is_found = find(rule, &known, kept.mark(has_changed, i), steps);
-        has_changed = kept.changes(has_changed, i, is_found);
+        let is_found = find(rule, &known, earlier.mark(has_changed, i), steps);
+        has_changed = earlier.changes(has_changed, i, is_found);
         found[i] = is_found;
     }
     found

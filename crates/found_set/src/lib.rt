@@ -6,7 +6,7 @@ mod cover;
 mod evaluate;
 mod facts;
 mod find;
-mod kept;
+mod earlier;
 mod law;
 mod marks;
 mod names;

@@ -8,7 +8,7 @@ ghost use Rattle.found_set.specs.Sets.{Prepares, IsStaged, committed, empty_set,
 
 use crate::evaluate::{evaluate, no_facts, reevaluate};
 use crate::facts::Facts;
-use crate::kept::Kept;
+use crate::earlier::Earlier;
 use crate::names::Names;
 use crate::next_facts::{EventKey, NextFacts};
 use crate::parts::Parts;
@@ -225,7 +225,7 @@ impl<L: Ledger> FoundSet<L> {
         self.rules.reserve(1)?;
         self.rules.push_reserved(rule);
         let rows = Parts::of(&self.rows, &[]);
-        let facts = evaluate(&self.rules, &self.names, &rows, &Kept::nothing(), steps);
+        let facts = evaluate(&self.rules, &self.names, &rows, &Earlier::nothing(), steps);
         let rule = self.rules.take_last();
         self.staged = Some(Staged::of(Event::Config(rule), facts));
         Ok(facts)

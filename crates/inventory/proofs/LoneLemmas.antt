@@ -11,12 +11,12 @@ use Rattle.std.proofs.lemmas.List.Folds.{list_any-append}
 use Rattle.bmc_base.specs.Places.{Place, place_eq}
 use Rattle.probe_lang.specs.declared.rows.Entry.{Entry}
 use Rattle.probe_lang.specs.Sights.{Sight, entry_sight, has_config}
-use Rattle.probe_lang.specs.Presents.{are_by_place}
+use Rattle.probe_lang.specs.Presents.{unboxed, are_by_place}
 use Rattle.found_set.specs.Marks.{AreMarked}
 use Rattle.inventory.specs.Boards.{has_board, hit_places, places_or_none}
 use Rattle.inventory.specs.Indexes.{except}
 use Rattle.inventory.specs.Differences.{Moment, key_of}
-use Rattle.inventory.specs.Moments.{unboxed, found_boards, left, AreSeenAlike, AreAllSeenAlike, IsAmong, IsApartBy, IsBeside}
+use Rattle.inventory.specs.Moments.{found_boards, left, AreSeenAlike, AreAllSeenAlike, IsAmong, IsApartBy, IsBeside}
 use Rattle.inventory.specs.declared.board.BoardKey.{BoardKey}
 use Rattle.inventory.proofs.BoardLemmas.{except_none, pass_all, place_cmp_eq, board_swap}
 use Rattle.inventory.proofs.IndexesLemmas.{has_front}

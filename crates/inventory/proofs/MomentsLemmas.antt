@@ -16,10 +16,10 @@ use Rattle.bmc_base.specs.Places.{Place, place_cmp}
 use Rattle.probe_lang.specs.declared.rows.Entry.{Entry}
 use Rattle.probe_lang.specs.Sights.{Sight, entry_sight, has_config}
 use Rattle.found_set.specs.Found.{on_buses}
-use Rattle.probe_lang.specs.Presents.{is_entry_at, are_by_place, with_entry, without_entry}
+use Rattle.probe_lang.specs.Presents.{unboxed, is_entry_at, are_by_place, with_entry, without_entry}
 use Rattle.inventory.specs.Boards.{hit_places, places_or_none}
 use Rattle.inventory.specs.Differences.{Moment, IsMarkedBy}
-use Rattle.inventory.specs.Moments.{unboxed, hits_in, found_boards, boards_now, AreSeenAlike, IsAmong, IsApartBy, IsLone}
+use Rattle.inventory.specs.Moments.{hits_in, found_boards, boards_now, AreSeenAlike, IsAmong, IsApartBy, IsLone}
 use Rattle.inventory.proofs.BoardLemmas.{and_first, and_second, place_cmp_eq, place_same}
 use Rattle.inventory.proofs.ListLemmas.{all_append, all_map, filter_all, filter_alike}
 

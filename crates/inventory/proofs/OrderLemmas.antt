@@ -14,8 +14,8 @@ use Rattle.std.proofs.lemmas.List.{append-nil, take_all, take-map, drop-map, len
 use Rattle.std.proofs.lemmas.List.Sums.{prefix_len_is}
 use Rattle.bmc_base.specs.Places.{Place, place_cmp, place_eq}
 use Rattle.probe_lang.specs.declared.rows.Entry.{Entry}
-use Rattle.probe_lang.specs.Presents.{is_entry_at, holds_place, with_entry, without_entry, are_by_place}
-use Rattle.inventory.specs.Moments.{unboxed, count_before}
+use Rattle.probe_lang.specs.Presents.{unboxed, is_entry_at, holds_place, with_entry, without_entry, are_by_place}
+use Rattle.inventory.specs.Moments.{count_before}
 
 -- ---- the order of places
 

@@ -1,6 +1,5 @@
 -- The entries of a moment, and the boards of one configuration.
 use Rattle.std.specs.Prelude.{ℕ, ◌≡◌, Bool, false, IsTrue, ⊤, ◌⊎◌, if◌then◌else◌, List, [], ◌∷◌, ◌++◌, map, Option, Some, None}
-use Rattle.std.specs.Global.{Box}
 use Rattle.std.specs.List.{AllByRecursion, prefix_len}
 use Rattle.std.specs.List.Sorted.{IsStrictlySortedBy}
 use Rattle.std.specs.Option.{option_eq, option_cmp}
@@ -14,10 +13,6 @@ use Rattle.inventory.specs.Boards.{has_board, hit_places, places_or_none}
 use Rattle.inventory.specs.Indexes.{except}
 use Rattle.inventory.specs.Differences.{Moment, key_of}
 use Rattle.inventory.specs.declared.board.BoardKey.{BoardKey}
-
--- what boxes hold
-abbrev pub unboxed : List (Box Entry) → List Entry
-unboxed boxes = map (λ (entry : Box Entry). entry.value) boxes
 
 -- how many entries at the front come before a place
 abbrev pub count_before : Place → List Entry → ℕ

@@ -2,7 +2,8 @@ ghost use Rattle.std.specs.Prelude.{◌≡◌, ◌∷◌, ◌++◌, [], ℕ, Boo
 ghost use Rattle.found_set.specs.Marks.{AreMarked};
 ghost use Rattle.probe_lang.specs.Sights.{entry_sight, has_config};
 ghost use Rattle.inventory.specs.Boards.{hit_places};
-ghost use Rattle.inventory.specs.Moments.{hits_in, unboxed, AreSeenAlike};
+ghost use Rattle.probe_lang.specs.Presents.{unboxed};
+ghost use Rattle.inventory.specs.Moments.{hits_in, AreSeenAlike};
 
 use bmc_base::{OutOfMemory, Place};
 use found_set::Facts;

@@ -1,9 +1,9 @@
 ghost use Rattle.std.specs.Prelude.{◌≡◌, ◌++◌, ◌≤◌, ℕ, Bool, true, false, ◌&&◌, IsTrue, OnOk, length, map, slice_get};
 ghost use Rattle.found_set.specs.Marks.{AreMarked, is_marked};
-ghost use Rattle.probe_lang.specs.Presents.{are_by_place, holds_place, with_entry, without_entry};
+ghost use Rattle.probe_lang.specs.Presents.{unboxed, are_by_place, holds_place, with_entry, without_entry};
 ghost use Rattle.probe_lang.specs.Sights.{entry_sight, has_config};
 ghost use Rattle.inventory.specs.Boards.{hit_places};
-ghost use Rattle.inventory.specs.Moments.{hits_in, unboxed, count_before, AreSeenAlike};
+ghost use Rattle.inventory.specs.Moments.{hits_in, count_before, AreSeenAlike};
 
 use crate::hits::{are_seen_alike, first_hit, is_hit, push_hits};
 use bmc_base::{OutOfMemory, Place};
@@ -23,9 +23,8 @@ pub struct Moment<'a> {
 
 impl<'a> Model for Moment<'a> {
     ghost use Rattle.std.specs.Prelude.{◌++◌, IsTrue};
-    ghost use Rattle.probe_lang.specs.Presents.{are_by_place};
+    ghost use Rattle.probe_lang.specs.Presents.{unboxed, are_by_place};
     ghost use Rattle.inventory.specs.Differences.{Moment};
-    ghost use Rattle.inventory.specs.Moments.{unboxed};
 
     ghost Value = { Moment };
 

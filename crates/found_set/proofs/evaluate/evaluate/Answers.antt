@@ -9,7 +9,7 @@ use Rattle.found_set.specs.Buses.{is_beyond}
 use Rattle.found_set.proofs.StepsLemmas.{within_sum}
 use Rattle.found_set.proofs.EventsLemmas.{none_within}
 use Rattle.found_set.proofs.IdleLemmas.{found_as}
-use Rattle.found_set.proofs.KeptLemmas.{nothing_holds}
+use Rattle.found_set.proofs.EarlierLemmas.{nothing_holds}
 use Rattle.found_set.proofs.MarksLemmas.{first_marked, then_marked, all_near}
 use Rattle.found_set.proofs.evaluate.evaluate.Goals as goal
 
@@ -19,7 +19,7 @@ returns-then-not-are_on-clause-facts g c =
     let rows = c.args.rows.now in
     let sights = sights_of rows in
     let one = first_marked rows c.mark.new.marks (c.mark.ensures is_root c.mark_roots-roots.ensures) in
-    let first = c.found_by-first.ensures.found (matched_by (on_buses is_root sights)) one c.requires.kept in
+    let first = c.found_by-first.ensures.found (matched_by (on_buses is_root sights)) one c.requires.earlier in
     let reached = c.reach_of-reach.ensures first in
     let beyond = c.beyond_roots-beyond.ensures (is_reached rules sights) reached in
     let none = sym (c.are_on.ensures (is_beyond (is_reached rules sights)) beyond) ∙ c.if-not-are_on.true in
@@ -36,7 +36,7 @@ returns-clause-facts g c =
     let rows = c.args.rows.now in
     let sights = sights_of rows in
     let one = first_marked rows c.mark.new.marks (c.mark.ensures is_root c.mark_roots-roots.ensures) in
-    let first = c.found_by-first.ensures.found (matched_by (on_buses is_root sights)) one c.requires.kept in
+    let first = c.found_by-first.ensures.found (matched_by (on_buses is_root sights)) one c.requires.earlier in
     let reached = c.reach_of-reach.ensures first in
     let beyond = c.beyond_roots-beyond.ensures (is_reached rules sights) reached in
     let two = then_marked rules rows c.mark.new.marks c.mark-2.new.marks one (c.mark-2.ensures (is_beyond (is_reached rules sights)) beyond) in

@@ -31,5 +31,5 @@ pub evaluate-requires : goal.evaluate-requires
 evaluate-requires g c = record {
   few = c.requires.few;
   named = c.requires.named;
-  kept = c.kept_beside-kept.ensures c.args.rules.now c.args.rows.now c.requires.few c.requires.before c.requires.beside;
+  earlier = c.earlier_beside-earlier.ensures c.args.rules.now c.args.rows.now c.requires.few c.requires.before c.requires.beside;
 }

@@ -5,7 +5,7 @@ use Rattle.found_set.specs.Marks.{is_marked}
 use Rattle.found_set.proofs.StepsLemmas.{within_sum}
 use Rattle.found_set.proofs.EventsLemmas.{none_within}
 use Rattle.found_set.proofs.FoundLemmas.{none_marked, marked_on}
-use Rattle.found_set.proofs.KeptLemmas.{found_again, still_same}
+use Rattle.found_set.proofs.EarlierLemmas.{found_again, still_same}
 use Rattle.found_set.proofs.find.found_by.Goals as goal
 
 none_later : (found : List Bool) (i : ℕ) (b : Bool) → ((n : ℕ) → i ≤ n → is_marked found n ≡ false) → (n : ℕ) → i + 1 ≤ n → is_marked (set found i b) n ≡ false
@@ -24,15 +24,15 @@ pub loop-i-preserved : goal.loop-i-preserved
 loop-i-preserved g c =
     let i = c.loop-i.i in
     let found = c.loop-i.found in
-    let long : length c.args.kept.now.found ≡ 256 = omega arith in record {
+    let long : length c.args.earlier.now.found ≡ 256 = omega arith in record {
       many = length-set found i c.find-is_found.result ∙ c.loop-i.invariant.many;
       told = λ test given still. marked_on c.args.rules.now i c.index-rules-i.result found c.find-is_found.result test (omega arith) (omega arith)
-          c.index-rules-i.is (found_again c.args.names.now.names c.args.rules.now i c.index-rules-i.result c.args.marks.now found c.args.kept.now.found
-          c.args.kept.now.touched c.loop-i.has_changed c.mark.result c.find-is_found.result (omega arith) (omega arith) c.index-rules-i.is c.mark.ensures
+          c.index-rules-i.is (found_again c.args.names.now.names c.args.rules.now i c.index-rules-i.result c.args.marks.now found c.args.earlier.now.found
+          c.args.earlier.now.touched c.loop-i.has_changed c.mark.result c.find-is_found.result (omega arith) (omega arith) c.index-rules-i.is c.mark.ensures
           c.find-is_found.ensures.value c.find-is_found.ensures.few c.loop-i.invariant.none c.requires.named c.loop-i.invariant.same test given still)
           ∙ c.loop-i.invariant.told test given still;
       none = none_later found i c.find-is_found.result c.loop-i.invariant.none;
-      same = still_same c.args.kept.now.found found c.loop-i.has_changed c.changes-has_changed.result i c.find-is_found.result (omega arith) (omega arith)
+      same = still_same c.args.earlier.now.found found c.loop-i.has_changed c.changes-has_changed.result i c.find-is_found.result (omega arith) (omega arith)
           c.loop-i.invariant.same c.changes-has_changed.ensures;
       counted = within_sum _ _ _ i 1 (i + 1) c.loop-i.invariant.counted c.find-is_found.ensures.counted (omega arith);
     }

@@ -1,6 +1,7 @@
 use Rattle.std.proofs.Common.{arith, length, ◌≤◌, subst}
 use Rattle.std.proofs.lemmas.List.{take_all}
-use Rattle.inventory.specs.Moments.{unboxed, AreSeenAlike}
+use Rattle.probe_lang.specs.Presents.{unboxed}
+use Rattle.inventory.specs.Moments.{AreSeenAlike}
 use Rattle.inventory.proofs.MomentsLemmas.{alike_bus, alike_more}
 use Rattle.inventory.proofs.hits.are_seen_alike.Goals as goal
 

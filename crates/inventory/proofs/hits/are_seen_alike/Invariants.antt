@@ -1,6 +1,7 @@
 use Rattle.std.proofs.Common.{ℕ, Bool, take}
 use Rattle.found_set.specs.Marks.{AreMarked}
-use Rattle.inventory.specs.Moments.{unboxed, AreSeenAlike}
+use Rattle.probe_lang.specs.Presents.{unboxed}
+use Rattle.inventory.specs.Moments.{AreSeenAlike}
 use Rattle.inventory.proofs.hits.are_seen_alike.Given as goal
 
 abbrev pub invariant-loop-entry : goal.invariant-loop-entry

@@ -5,7 +5,7 @@ use Rattle.bmc_base.specs.Places.{Place}
 use Rattle.probe_lang.specs.Sights.{entry_sight}
 use Rattle.probe_lang.specs.declared.rows.Entry.{Entry}
 use Rattle.inventory.specs.Boards.{hit_places}
-use Rattle.inventory.specs.Moments.{unboxed}
+use Rattle.probe_lang.specs.Presents.{unboxed}
 use Rattle.inventory.proofs.LoneLemmas.{none_more, first_is, unboxed_split}
 use Rattle.inventory.proofs.MomentsLemmas.{unboxed_more}
 use Rattle.inventory.proofs.hits.first_hit.Goals as goal

@@ -2,7 +2,7 @@ use Rattle.std.proofs.Common.{◌≡◌, ℕ, Bool, [], map, take}
 use Rattle.probe_lang.specs.Sights.{entry_sight}
 use Rattle.found_set.specs.Marks.{AreMarked}
 use Rattle.inventory.specs.Boards.{hit_places}
-use Rattle.inventory.specs.Moments.{unboxed}
+use Rattle.probe_lang.specs.Presents.{unboxed}
 use Rattle.inventory.proofs.hits.first_hit.Given as goal
 
 abbrev pub invariant-loop-entry : goal.invariant-loop-entry

@@ -1,6 +1,7 @@
 use Rattle.std.proofs.Common.{◌≡◌, ◌++◌, ℕ, Bool, take}
 use Rattle.found_set.specs.Marks.{AreMarked}
-use Rattle.inventory.specs.Moments.{hits_in, unboxed}
+use Rattle.probe_lang.specs.Presents.{unboxed}
+use Rattle.inventory.specs.Moments.{hits_in}
 use Rattle.inventory.proofs.hits.push_hits.Given as goal
 
 abbrev pub invariant-loop-entry : goal.invariant-loop-entry

@@ -8,7 +8,7 @@ use Rattle.found_set.specs.Rows.{sights_of}
 use Rattle.found_set.specs.Sets.{SetView}
 use Rattle.found_set.specs.Events.{Staged, ConfigEvent, facts_after}
 use Rattle.found_set.proofs.NamedLemmas.{number_by_name}
-use Rattle.found_set.proofs.KeptLemmas.{nothing_holds}
+use Rattle.found_set.proofs.EarlierLemmas.{nothing_holds}
 use Rattle.found_set.proofs.InsidesLemmas.{bare_as, only, sound_with, seen_with, back}
 use Rattle.found_set.proofs.set.FoundSet.stage_config.Goals as goal
 
@@ -48,8 +48,8 @@ invariant_of-self-2 g c =
     sound_with c.self.inside names c.take_last-rule.new.self c.self.inside.rows _ c.self.invariant c.reserve.ensures.names kept.0 refl
     (only _ _ _ c.of.ensures told) (only _ _ _ c.of.ensures (c.in_ok-reserve.ensures.room, new, room, few))
 
-pub evaluate-facts-requires-clause-kept : goal.evaluate-facts-requires-clause-kept
-evaluate-facts-requires-clause-kept g c =
+pub evaluate-facts-requires-clause-earlier : goal.evaluate-facts-requires-clause-earlier
+evaluate-facts-requires-clause-earlier g c =
     let pushed : c.push_reserved.new.self.items ≡ c.self.inside.rules.items ++ c.args.rule ∷ [] = c.push_reserved.ensures.items
     ∙ ap (λ (rs : List Rule). rs ++ c.args.rule ∷ []) c.reserve-2.ensures.items in
     let before : length c.self.inside.rules.items < 256 = subst (λ (v : SetView). length v.rules < 256) (sym c.self.view_is) c.requires.few in

@@ -3,7 +3,7 @@ use Rattle.found_set.specs.Marks.{AreMarked}
 use Rattle.probe_lang.specs.Sights.{entry_sight}
 use Rattle.inventory.specs.Boards.{hit_places}
 use Rattle.inventory.specs.Differences.{Moment}
-use Rattle.inventory.specs.Moments.{unboxed}
+use Rattle.probe_lang.specs.Presents.{unboxed}
 use Rattle.inventory.proofs.LoneLemmas.{first_in, first_past}
 use Rattle.inventory.proofs.moment.Moment.first_hit.Goals as goal
 

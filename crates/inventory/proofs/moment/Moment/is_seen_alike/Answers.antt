@@ -1,7 +1,8 @@
 use Rattle.std.proofs.Common.{sym, subst}
 use Rattle.found_set.specs.Marks.{AreMarked}
 use Rattle.inventory.specs.Differences.{Moment}
-use Rattle.inventory.specs.Moments.{unboxed, AreSeenAlike}
+use Rattle.probe_lang.specs.Presents.{unboxed}
+use Rattle.inventory.specs.Moments.{AreSeenAlike}
 use Rattle.inventory.proofs.MomentsLemmas.{alike_parts}
 use Rattle.inventory.proofs.moment.Moment.is_seen_alike.Goals as goal
 

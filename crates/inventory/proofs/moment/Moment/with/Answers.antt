@@ -1,7 +1,7 @@
 use Rattle.std.proofs.Common.{◌∙◌, ap}
 use Rattle.probe_lang.specs.declared.rows.Entry.{Entry}
-use Rattle.probe_lang.specs.Presents.{are_by_place}
-use Rattle.inventory.specs.Moments.{unboxed, count_before}
+use Rattle.probe_lang.specs.Presents.{unboxed, are_by_place}
+use Rattle.inventory.specs.Moments.{count_before}
 use Rattle.inventory.proofs.OrderLemmas.{with_parts, with_entry_by_place}
 use Rattle.inventory.proofs.moment.Moment.with.Goals as goal
 

@@ -3,10 +3,10 @@ use Rattle.std.proofs.Common.{◌∙◌, Bool, List, sym, subst}
 use Rattle.found_set.specs.Found.{matched_by, roots, is_reached}
 use Rattle.found_set.specs.Rows.{sights_of}
 use Rattle.found_set.specs.Buses.{is_beyond}
-use Rattle.found_set.specs.Kept.{StillHold}
+use Rattle.found_set.specs.Earlier.{StillHold}
 use Rattle.found_set.proofs.MarksLemmas.{reach_marked}
-use Rattle.found_set.proofs.KeptLemmas.{old_holds}
-use Rattle.found_set.proofs.evaluate.kept_beside.Goals as goal
+use Rattle.found_set.proofs.EarlierLemmas.{old_holds}
+use Rattle.found_set.proofs.evaluate.earlier_beside.Goals as goal
 
 pub returns : goal.returns
 returns c = λ rules rows few before beside.

@@ -1,7 +1,7 @@
 ghost use Rattle.std.specs.Prelude.{◌≡◌, true};
 ghost use Rattle.probe_lang.specs.Sights.{has_config};
 ghost use Rattle.found_set.specs.Marks.{AreMarked};
-ghost use Rattle.found_set.specs.Kept.{kept_mark, changes};
+ghost use Rattle.found_set.specs.Earlier.{earlier_mark, changes};
 
 use crate::facts::MOST_RULES;
 use crate::marks::{is_marked, touched_by};
@@ -9,28 +9,28 @@ use crate::row::Row;
 
 // What an earlier pass found, and the configurations that may have changed since.
 #[derive(Drop)]
-pub(crate) struct Kept {
+pub(crate) struct Earlier {
     found: [bool; MOST_RULES],
     touched: [bool; MOST_RULES],
 }
 
-impl Kept {
-    // Returns what is kept of no pass: each configuration may have changed.
-    pub(crate) fn nothing() -> Kept
+impl Earlier {
+    // Returns what stands for no pass: each configuration may have changed.
+    pub(crate) fn nothing() -> Earlier
         ensures { AreMarked result.touched (λ config. true) }
     {
-        Kept {
+        Earlier {
             found: [false; MOST_RULES],
             touched: [true; MOST_RULES],
         }
     }
 
-    // Keeps what was found before a row came or went. The configurations of its hits may have changed.
-    pub(crate) fn beside(found: &[bool; MOST_RULES], row: &Row) -> Kept
+    // Takes over what was found before a row came or went. The configurations of its hits may have changed.
+    pub(crate) fn beside(found: &[bool; MOST_RULES], row: &Row) -> Earlier
         ensures found { result.found ≡ found.now }
         ensures touched { AreMarked result.touched (has_config row.now.hits) }
     {
-        Kept {
+        Earlier {
             found: *found,
             touched: touched_by(row.hits.as_slice()),
         }
@@ -38,7 +38,7 @@ impl Kept {
 
     // Returns the mark of a configuration, if it is not touched and none before it has changed.
     pub(crate) fn mark(&self, has_changed: bool, config: usize) -> Option<bool>
-        ensures { result ≡ kept_mark self.now.found self.now.touched has_changed config }
+        ensures { result ≡ earlier_mark self.now.found self.now.touched has_changed config }
     {
         if has_changed || is_marked(&self.touched, config) {
             None

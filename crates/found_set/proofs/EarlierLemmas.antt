@@ -17,7 +17,7 @@ use Rattle.found_set.specs.Found.{Rule, names_of, is_named_found, is_root, is_re
 use Rattle.found_set.specs.Rows.{sights_of}
 use Rattle.found_set.specs.Buses.{has_on, is_on_bus, is_beyond}
 use Rattle.found_set.specs.Covers.{AreWithOrWithout}
-use Rattle.found_set.specs.Kept.{StillHold, WereBefore, marked_value, kept_mark, changes}
+use Rattle.found_set.specs.Earlier.{StillHold, WereBefore, marked_value, earlier_mark, changes}
 use Rattle.found_set.proofs.BusesLemmas.{length-found_from}
 use Rattle.found_set.proofs.FoundLemmas.{found_on, found_is}
 use Rattle.found_set.proofs.IdleLemmas.{found_as}
@@ -40,26 +40,26 @@ not_not true given = refl
 not_not false given = absurd (cc)
 
 -- as long as no mark has changed, the marks so far are those that were found
-pub still_same : (kept now : List Bool) (has_changed changed : Bool) (i : ℕ) (answer : Bool) → i < length kept → i < length now
-    → (has_changed ≡ false → take i now ≡ take i kept) → changed ≡ changes kept has_changed i answer → changed ≡ false
-    → take (i + 1) (set now i answer) ≡ take (i + 1) kept
-still_same kept now has_changed changed i answer within inside same told given =
+pub still_same : (earlier now : List Bool) (has_changed changed : Bool) (i : ℕ) (answer : Bool) → i < length earlier → i < length now
+    → (has_changed ≡ false → take i now ≡ take i earlier) → changed ≡ changes earlier has_changed i answer → changed ≡ false
+    → take (i + 1) (set now i answer) ≡ take (i + 1) earlier
+still_same earlier now has_changed changed i answer within inside same told given =
     let two = or_parts _ _ (sym told ∙ given) in
     take_more_set now i answer inside
     ∙ ap₂ (λ (front : List Bool) (mark : Bool). front ++ mark ∷ []) (same two.0) (sym (same_answer _ _ (not_not _ two.1)))
-    ∙ sym (take_more kept i false within)
+    ∙ sym (take_more earlier i false within)
 
--- a mark that is kept, or the value of the probe, is what is found
-pub found_again : (names : List (List ℕ)) (rules : List Rule) (i : ℕ) (rule : Rule) (marks now kept touched : List Bool) (has_changed : Bool)
+-- an earlier mark that stays, or the value of the probe, is what is found
+pub found_again : (names : List (List ℕ)) (rules : List Rule) (i : ℕ) (rule : Rule) (marks now earlier touched : List Bool) (has_changed : Bool)
     (mark : Option Bool) (answer : Bool) → i < length rules → i < 256 → rule ≡ get_or rules i rule
-    → mark ≡ kept_mark kept touched has_changed i → answer ≡ unwrap_or mark (marked_value rule.probe.words marks i names now)
+    → mark ≡ earlier_mark earlier touched has_changed i → answer ≡ unwrap_or mark (marked_value rule.probe.words marks i names now)
     → (mark ≡ None → AreFew rule.probe.words) → ((n : ℕ) → i ≤ n → is_marked now n ≡ false) → AreNames names (names_of rules)
-    → (has_changed ≡ false → take i now ≡ take i kept) → (test : ℕ → ℕ → Bool) → AreTrue marks test → StillHold kept touched rules test
+    → (has_changed ≡ false → take i now ≡ take i earlier) → (test : ℕ → ℕ → Bool) → AreTrue marks test → StillHold earlier touched rules test
     → answer ≡ value rule.probe.words (test i) (is_named_found rules (take i now))
-found_again names rules i rule marks now kept touched has_changed mark answer below small is mark_is answer_is few none named same test given still =
+found_again names rules i rule marks now earlier touched has_changed mark answer below small is mark_is answer_is few none named same test given still =
     by (has_changed || is_marked touched i) refl mark_is
   where
-    by : (again : Bool) → (has_changed || is_marked touched i) ≡ again → mark ≡ cond again None (Some (is_marked kept i))
+    by : (again : Bool) → (has_changed || is_marked touched i) ≡ again → mark ≡ cond again None (Some (is_marked earlier i))
         → answer ≡ value rule.probe.words (test i) (is_named_found rules (take i now))
     by true either mark_is =
         found_on names rules i rule marks now answer below small (few mark_is) none named
