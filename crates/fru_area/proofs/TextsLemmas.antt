@@ -1,8 +1,9 @@
 -- The texts of fields: 6-bit ASCII, three bytes at a time, and Latin 1, byte by byte.
 use Rattle.std.proofs.Common.{◌≡◌, ℕ, zero, suc, ◌+◌, ◌*◌, ◌/◌, ◌%◌, ◌-◌, ◌^◌, ◌<◌, ◌≤◌, min, ◌⊎◌, inl, inr, List, [], ◌∷◌, ◌++◌, length, take}
-use Rattle.std.proofs.Common.{get_or, encode_utf8, refl, arith, ap, sym, ◌∙◌, append-nil, append_assoc, length-append}
+use Rattle.std.proofs.Common.{get_or, encode_utf8, refl, arith, ap, ap₂, sym, ◌∙◌, append-nil, append_assoc, length-append}
 use Rattle.std.specs.Char.{len_utf8}
-use Rattle.std.proofs.lemmas.Str.{length-encode}
+use Rattle.std.specs.Str.{IsAscii}
+use Rattle.std.proofs.lemmas.Str.{length-encode, encode_ascii}
 use Rattle.std.proofs.lemmas.List.{take_more, flat_map_more}
 use Rattle.std.proofs.lemmas.Grind.{common_steps}
 use Rattle.fru_area.specs.Texts.{little_endian, six_bit_chars, six_bit_text, latin_text}
@@ -99,3 +100,10 @@ pub length-latin_more :
     (old new : List ℕ) (byte done : ℕ) → byte < 256 → new ≡ old ++ encode_utf8 byte → length old ≤ 2 * done → length new ≤ 2 * (done + 1)
 length-latin_more old new byte done small pushed short =
     omega (arith, ap length pushed, length-append old (encode_utf8 byte), length-encode_utf8-latin byte small)
+
+-- ASCII is Latin 1 as it stands
+pub latin_ascii : (bytes : List ℕ) → IsAscii bytes → latin_text bytes ≡ bytes
+latin_ascii [] all = refl
+latin_ascii (byte ∷ bytes) all =
+    ap₂ (λ (first rest : List ℕ). first ++ rest) (encode_ascii byte (all 0))
+    (latin_ascii bytes (λ n. all (suc n)))

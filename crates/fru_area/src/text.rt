@@ -1,4 +1,4 @@
-ghost use Rattle.std.specs.Prelude.{◌≡◌, ◌+◌, ◌^◌, ◌<◌, ◌≤◌, ◌&&◌, [], ◌++◌, length, true, MatchOption};
+ghost use Rattle.std.specs.Prelude.{◌≡◌, ◌+◌, ◌^◌, ◌<◌, ◌≤◌, ◌&&◌, [], ◌++◌, length, true, IfSome, MatchOption};
 ghost use Rattle.std.specs.Char.Utf16.{is_high_surrogate, is_low_surrogate, surrogate_pair_char};
 ghost use Rattle.hex.specs.Hex.{encode_lower};
 ghost use Rattle.fru_area.specs.Texts.{text_of, longest_text, bcd_char, bcd_text, little_endian, six_bit_chars, six_bit_text, latin_text};
@@ -126,6 +126,30 @@ fn push_six_bit(text: &mut FieldText, mut bits: u32, count: usize)
 
 // Returns Latin 1, a character a byte.
 fn latin_text(bytes: &[u8]) -> FieldText
+    requires { length bytes.now ≤ longest_field }
+    ensures { result ≡ latin_text bytes.now }
+{
+    match ascii_text(bytes) {
+        Some(text) => text,
+        None => wide_text(bytes),
+    }
+}
+
+// Returns Latin 1 that is ASCII, which is text as it stands.
+#[tactic(auto, using(crate::proofs::TextsLemmas::latin_ascii))]
+fn ascii_text(bytes: &[u8]) -> Option<FieldText>
+    requires { length bytes.now ≤ longest_field }
+    ensures { IfSome result (λ text. text ≡ latin_text bytes.now) }
+{
+    if !bytes.is_ascii() {
+        return None;
+    }
+    let text = str::from_utf8(bytes).ok()?;
+    FieldText::new(text)
+}
+
+// Returns Latin 1, of which each character takes one byte or two.
+fn wide_text(bytes: &[u8]) -> FieldText
     requires { length bytes.now ≤ longest_field }
     ensures { result ≡ latin_text bytes.now }
 {

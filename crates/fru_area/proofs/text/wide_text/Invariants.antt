@@ -1,6 +1,6 @@
 use Rattle.std.proofs.Common.{◌≡◌, ◌*◌, ◌≤◌, length, take}
 use Rattle.fru_area.specs.Texts.{latin_text}
-use Rattle.fru_area.proofs.text.latin_text.Given as goal
+use Rattle.fru_area.proofs.text.wide_text.Given as goal
 
 abbrev pub invariant-loop-byte : goal.invariant-loop-byte
 invariant-loop-byte l = record {
