@@ -8,7 +8,7 @@ use Rattle.std.proofs.lemmas.List.{ext_get_or, get_or-take, length-take-le, take
 use Rattle.std.proofs.lemmas.List.FromFn.{get_or-map-range_with_len, length-map-range_with_len}
 use Rattle.probe_lang.specs.Sights.{has_hit, has_config}
 use Rattle.probe_lang.specs.declared.rows.Hit.{Hit}
-use Rattle.probe_lang.specs.Values.{value, AreFew}
+use Rattle.probe_lang.specs.Values.{asks_found, value, AreFew}
 use Rattle.found_set.specs.declared.facts.Facts.{Facts}
 use Rattle.found_set.specs.declared.row.Row.{Row}
 use Rattle.found_set.specs.Marks.{is_marked, marks, AreMarked, AreTrue}
@@ -19,7 +19,7 @@ use Rattle.found_set.specs.Buses.{has_on, is_on_bus, is_beyond}
 use Rattle.found_set.specs.Covers.{AreWithOrWithout}
 use Rattle.found_set.specs.Earlier.{StillHold, WereBefore, marked_value, earlier_mark, changes}
 use Rattle.found_set.proofs.BusesLemmas.{length-found_from}
-use Rattle.found_set.proofs.FoundLemmas.{found_on, found_is}
+use Rattle.found_set.proofs.FoundLemmas.{value_alone, found_on, found_is}
 use Rattle.found_set.proofs.IdleLemmas.{found_as}
 use Rattle.found_set.proofs.MarksLemmas.{matched_on, all_near}
 
@@ -50,16 +50,25 @@ still_same earlier now has_changed changed i answer within inside same told give
     ∙ sym (take_more earlier i false within)
 
 -- an earlier mark that stays, or the value of the probe, is what is found
-pub found_again : (names : List (List ℕ)) (rules : List Rule) (i : ℕ) (rule : Rule) (marks now earlier touched : List Bool) (has_changed : Bool)
+pub found_again : (names : List (List ℕ)) (rules : List Rule) (i : ℕ) (rule : Rule) (marks now earlier touched : List Bool) (has_changed asks : Bool)
     (mark : Option Bool) (answer : Bool) → i < length rules → i < 256 → rule ≡ get_or rules i rule
-    → mark ≡ earlier_mark earlier touched has_changed i → answer ≡ unwrap_or mark (marked_value rule.probe.words marks i names now)
+    → asks ≡ list_any asks_found rule.probe.words → mark ≡ earlier_mark earlier touched (has_changed && asks) i → answer ≡ unwrap_or mark (marked_value rule.probe.words marks i names now)
     → (mark ≡ None → AreFew rule.probe.words) → ((n : ℕ) → i ≤ n → is_marked now n ≡ false) → AreNames names (names_of rules)
     → (has_changed ≡ false → take i now ≡ take i earlier) → (test : ℕ → ℕ → Bool) → AreTrue marks test → StillHold earlier touched rules test
     → answer ≡ value rule.probe.words (test i) (is_named_found rules (take i now))
-found_again names rules i rule marks now earlier touched has_changed mark answer below small is mark_is answer_is few none named same test given still =
-    by (has_changed || is_marked touched i) refl mark_is
+found_again names rules i rule marks now earlier touched has_changed asks mark answer below small is told mark_is answer_is few none named same test given still
+    = by ((has_changed && asks) || is_marked touched i) refl mark_is
   where
-    by : (again : Bool) → (has_changed || is_marked touched i) ≡ again → mark ≡ cond again None (Some (is_marked earlier i))
+    -- where no mark has changed, or the probe asks for none, it has the value that it had
+    again_as : (changed asked : Bool) → has_changed ≡ changed → asks ≡ asked → (changed && asked) ≡ false
+        → value rule.probe.words (test i) (is_named_found rules (take i earlier)) ≡ value rule.probe.words (test i) (is_named_found rules (take i now))
+    again_as false asked unchanged asks_is stays =
+        ap (λ (front : List Bool). value rule.probe.words (test i) (is_named_found rules front)) (sym (same unchanged))
+    again_as true false changed asks_is stays =
+        value_alone (test i) (is_named_found rules (take i earlier)) (is_named_found rules (take i now)) rule.probe.words (sym told ∙ asks_is)
+    again_as true true changed asks_is stays = absurd (cc)
+
+    by : (again : Bool) → ((has_changed && asks) || is_marked touched i) ≡ again → mark ≡ cond again None (Some (is_marked earlier i))
         → answer ≡ value rule.probe.words (test i) (is_named_found rules (take i now))
     by true either mark_is =
         found_on names rules i rule marks now answer below small (few mark_is) none named
@@ -67,7 +76,7 @@ found_again names rules i rule marks now earlier touched has_changed mark answer
     by false either mark_is =
         let two = or_parts _ _ either in
         answer_is ∙ ap (λ (m : Option Bool). unwrap_or m (marked_value rule.probe.words marks i names now)) mark_is
-        ∙ still i rule below is two.1 ∙ ap (λ (front : List Bool). value rule.probe.words (test i) (is_named_found rules front)) (sym (same two.0))
+        ∙ still i rule below is two.1 ∙ again_as has_changed asks refl refl two.0
 
 -- hits without a configuration have none of its patterns
 no_pattern : (hits : List Hit) (c p : ℕ) → has_config hits c ≡ false → has_hit hits c p ≡ false

@@ -1,14 +1,14 @@
 -- One configuration more, over those before it.
 use Rattle.std.proofs.Common.{◌≡◌, ℕ, zero, suc, ◌+◌, ◌<◌, ◌≤◌, Bool, true, false, ◌&&◌, bytes_eq, nat_lt, List, [], ◌∷◌, ◌++◌, length, get_or, set, take, drop, replicate, refl, ap, ap₂, sym, ◌∙◌, arith, append-nil, append_assoc}
-use Rattle.std.specs.List.{list_all}
+use Rattle.std.specs.List.{list_all, list_any}
 use Rattle.std.proofs.lemmas.List.{drop_more, take_more_set, length-append, length-take-le, length-map}
 use Rattle.std.proofs.Math.Seq.{take-append_seam, get_or-append_seam}
-use Rattle.std.proofs.lemmas.Bool.{and_parts}
+use Rattle.std.proofs.lemmas.Bool.{and_parts, or_parts}
 use Rattle.std.proofs.lemmas.Bool.Decides.{nat_tests}
 use Rattle.std.specs.Prelude.{position}
 use Rattle.probe_lang.specs.declared.word.Word.{Word}
 use Rattle.probe_lang.specs.declared.word.Word.TheVariants.{Always, Never, Found, Fru, And, Or}
-use Rattle.probe_lang.specs.Values.{value, value_from, operand, joined, is_few, AreFew}
+use Rattle.probe_lang.specs.Values.{asks_found, value, value_from, operand, joined, is_few, AreFew}
 use Rattle.found_set.specs.Marks.{is_marked, is_true, AreTrue}
 use Rattle.found_set.specs.Named.{mark_of, AreNames}
 use Rattle.found_set.specs.Earlier.{marked_value}
@@ -39,6 +39,31 @@ module _ (patterns others : ℕ → Bool) (founds names : List ℕ → Bool) (sa
   value_few (word ∷ words) given =
       let both = and_parts _ _ given in
       ap (λ (b : Bool). value_from b words patterns founds) (operand_few word both.0) ∙ from_few (operand word others names) words both.1
+
+-- a probe that asks for no configuration has one value, whatever is said of them
+module _ (patterns : ℕ → Bool) (founds names : List ℕ → Bool) where
+  operand_alone : (word : Word) → asks_found word ≡ false → operand word patterns founds ≡ operand word patterns names
+  operand_alone Always given = refl
+  operand_alone Never given = refl
+  operand_alone (Found name) given = absurd (cc)
+  operand_alone (Fru n) given = refl
+  operand_alone And given = refl
+  operand_alone Or given = refl
+
+  from_alone : (so_far : Bool) (words : List Word) → list_any asks_found words ≡ false
+      → value_from so_far words patterns founds ≡ value_from so_far words patterns names
+  from_alone so_far [] given = refl
+  from_alone so_far (op ∷ []) given = refl
+  from_alone so_far (op ∷ word ∷ words) given =
+      let later = or_parts _ _ (or_parts _ _ given).1 in
+      ap (λ (b : Bool). value_from (joined op so_far b) words patterns founds) (operand_alone word later.0)
+      ∙ from_alone (joined op so_far (operand word patterns names)) words later.1
+
+  pub value_alone : (words : List Word) → list_any asks_found words ≡ false → value words patterns founds ≡ value words patterns names
+  value_alone [] given = refl
+  value_alone (word ∷ words) given =
+      let both = or_parts _ _ given in
+      ap (λ (b : Bool). value_from b words patterns founds) (operand_alone word both.0) ∙ from_alone (operand word patterns names) words both.1
 
 pub none_marked : (m n : ℕ) → is_marked (replicate m false) n ≡ false
 none_marked zero n = refl

@@ -16,9 +16,9 @@ abbrev pub marked_value : List Word → List Bool → ℕ → List (List ℕ) �
 marked_value words marks config names found =
     value words (λ number. nat_lt number most_patterns && is_true marks config number) (λ name. mark_of (position (bytes_eq name) names) found)
 
--- the mark of a configuration that was found earlier, where it is not touched and none before it has changed
+-- the earlier mark of a configuration, where it is neither touched nor stale
 abbrev pub earlier_mark : List Bool → List Bool → Bool → ℕ → Option Bool
-earlier_mark found touched has_changed config = if has_changed || is_marked touched config then None else Some (is_marked found config)
+earlier_mark found touched is_stale config = if is_stale || is_marked touched config then None else Some (is_marked found config)
 
 -- whether a mark has changed: one before, or this one
 abbrev pub changes : List Bool → Bool → ℕ → Bool → Bool

@@ -36,11 +36,12 @@ impl Earlier {
         }
     }
 
-    // Returns the mark of a configuration, if it is not touched and none before it has changed.
-    pub(crate) fn mark(&self, has_changed: bool, config: usize) -> Option<bool>
-        ensures { result ≡ earlier_mark self.now.found self.now.touched has_changed config }
+    // Returns the mark of a configuration, if it is not touched and not stale, as is one that asks for others of
+    // which one has changed.
+    pub(crate) fn mark(&self, is_stale: bool, config: usize) -> Option<bool>
+        ensures { result ≡ earlier_mark self.now.found self.now.touched is_stale config }
     {
-        if has_changed || is_marked(&self.touched, config) {
+        if is_stale || is_marked(&self.touched, config) {
             None
         } else {
             Some(is_marked(&self.found, config))

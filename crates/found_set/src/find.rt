@@ -88,7 +88,8 @@ pub(crate) fn found_by<L: Ledger>(
             config: i as u8,
             found: &found,
         };
-        let is_found = find(rule, &known, earlier.mark(has_changed, i), steps);
+        let mark = earlier.mark(rule.is_stale(has_changed), i);
+        let is_found = find(rule, &known, mark, steps);
         has_changed = earlier.changes(has_changed, i, is_found);
         found[i] = is_found;
     }

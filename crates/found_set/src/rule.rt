@@ -1,6 +1,7 @@
-ghost use Rattle.std.specs.Prelude.{◌≡◌, IfOk};
+ghost use Rattle.std.specs.Prelude.{◌≡◌, ◌&&◌, IfOk};
 ghost use Rattle.bmc_base.specs.Steps.{with_evals};
-ghost use Rattle.probe_lang.specs.Values.{value, AreFew};
+ghost use Rattle.std.specs.List.{list_any};
+ghost use Rattle.probe_lang.specs.Values.{asks_found, value, AreFew};
 ghost use Rattle.found_set.specs.Found.{rule_of};
 
 use bmc_base::{Ledger, Name, OutOfMemory, Steps};
@@ -15,14 +16,20 @@ pub(crate) struct Rule<L: Ledger> {
     name: Name,
     probe: Probe<L>,
     fixed: Vec<u8>,
+    asks: bool,
 }
 
 impl<L: Ledger> Model for Rule<L> {
+    ghost use Rattle.std.specs.Prelude.{◌≡◌};
     ghost use Rattle.found_set.specs.Found.{Rule};
+    ghost use Rattle.std.specs.List.{list_any};
+    ghost use Rattle.probe_lang.specs.Values.{asks_found};
 
     ghost Value = { Rule };
 
     ghost view = { λ r. record { name = r.name; probe = r.probe; fixed = r.fixed.items } };
+
+    ghost invariant = { λ r. r.asks ≡ list_any asks_found r.probe.words };
 }
 
 impl<L: Ledger> Rule<L> {
@@ -37,7 +44,13 @@ impl<L: Ledger> Rule<L> {
     {
         let probe = probe.copy(alloc)?;
         let fixed = Vec::from_slice(alloc, fixed)?;
-        Ok(Rule { name, probe, fixed })
+        let asks = probe.asks_found();
+        Ok(Rule {
+            name,
+            probe,
+            fixed,
+            asks,
+        })
     }
 
     // Copies the name.
@@ -52,6 +65,13 @@ impl<L: Ledger> Rule<L> {
         ensures { result.now ≡ self.now.fixed }
     {
         self.fixed.as_slice()
+    }
+
+    // Whether an earlier mark of it may no longer hold: one before it has changed, and the probe asks for others.
+    pub(crate) fn is_stale(&self, has_changed: bool) -> bool
+        ensures { result ≡ (has_changed && list_any asks_found self.now.probe.words) }
+    {
+        has_changed && self.asks
     }
 
     // Tells the value of the probe.

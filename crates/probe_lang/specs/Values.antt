@@ -18,6 +18,15 @@ operand (Fru n) is_true is_found = is_true n
 operand And is_true is_found = false
 operand Or is_true is_found = false
 
+-- whether a word asks whether a configuration is found
+abbrev pub asks_found : Word → Bool
+asks_found (Found name) = true
+asks_found Always = false
+asks_found Never = false
+asks_found (Fru n) = false
+asks_found And = false
+asks_found Or = false
+
 -- two values under an operator
 abbrev pub joined : Word → Bool → Bool → Bool
 joined And left right = left && right

@@ -1,5 +1,6 @@
 ghost use Rattle.std.specs.Prelude.{◌≡◌, ◌≤◌, length, map, IfOk};
-ghost use Rattle.probe_lang.specs.Values.{AreFew, most_patterns};
+ghost use Rattle.std.specs.List.{list_any};
+ghost use Rattle.probe_lang.specs.Values.{asks_found, AreFew, most_patterns};
 ghost use Rattle.probe_lang.specs.Grammar.{most_texts, probe_of, parsed, GivesProbe};
 
 use crate::reading::{Reading, Step};
@@ -96,6 +97,13 @@ impl<L: Ledger> Probe<L> {
         ensures { result ≡ self.now.match_one }
     {
         self.match_one
+    }
+
+    /// Whether a word of it asks whether a configuration is found.
+    pub fn asks_found(&self) -> bool
+        ensures { result ≡ list_any asks_found self.now.words }
+    {
+        self.words.as_slice().iter().any(|word| word.asks_found())
     }
 
     // Borrows the words.

@@ -1,4 +1,5 @@
 ghost use Rattle.std.specs.Prelude.{◌≡◌, ◌∷◌, ◌++◌, [], IfOk, OnOk, OnErr};
+ghost use Rattle.probe_lang.specs.Values.{asks_found};
 
 use bmc_base::{Name, OutOfMemory};
 use std::alloc::Global;
@@ -33,6 +34,16 @@ impl Word {
             Word::And => Word::And,
             Word::Or => Word::Or,
             Word::Fru(n) => Word::Fru(*n),
+        }
+    }
+
+    // Whether it asks whether a configuration is found.
+    pub(crate) fn asks_found(&self) -> bool
+        ensures { result ≡ asks_found self.now }
+    {
+        match self {
+            Word::Found(_) => true,
+            Word::Always | Word::Never | Word::Fru(_) | Word::And | Word::Or => false,
         }
     }
 }

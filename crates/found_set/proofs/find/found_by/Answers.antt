@@ -1,7 +1,10 @@
 -- One configuration more.
-use Rattle.std.proofs.Common.{◌≡◌, ◌∙◌, ℕ, ◌+◌, ◌≤◌, Bool, false, List, length, set, sym, refl, arith}
+use Rattle.std.proofs.Common.{◌≡◌, ◌∙◌, ℕ, ◌+◌, ◌≤◌, Bool, false, List, length, set, sym, ap, refl, arith}
 use Rattle.std.proofs.lemmas.List.{get_or-set_other, length-set}
+use Rattle.std.specs.List.{list_any}
+use Rattle.probe_lang.specs.Values.{asks_found}
 use Rattle.found_set.specs.Marks.{is_marked}
+use Rattle.found_set.specs.Earlier.{earlier_mark}
 use Rattle.found_set.proofs.StepsLemmas.{within_sum}
 use Rattle.found_set.proofs.EventsLemmas.{none_within}
 use Rattle.found_set.proofs.FoundLemmas.{none_marked, marked_on}
@@ -28,7 +31,9 @@ loop-i-preserved g c =
       many = length-set found i c.find-is_found.result ∙ c.loop-i.invariant.many;
       told = λ test given still. marked_on c.args.rules.now i c.index-rules-i.result found c.find-is_found.result test (omega arith) (omega arith)
           c.index-rules-i.is (found_again c.args.names.now.names c.args.rules.now i c.index-rules-i.result c.args.marks.now found c.args.earlier.now.found
-          c.args.earlier.now.touched c.loop-i.has_changed c.mark.result c.find-is_found.result (omega arith) (omega arith) c.index-rules-i.is c.mark.ensures
+          c.args.earlier.now.touched c.loop-i.has_changed (list_any asks_found c.index-rules-i.result.probe.words) c.mark-mark.result c.find-is_found.result
+          (omega arith) (omega arith) c.index-rules-i.is refl
+          (c.mark-mark.ensures ∙ ap (λ (stale : Bool). earlier_mark c.args.earlier.now.found c.args.earlier.now.touched stale i) c.is_stale.ensures)
           c.find-is_found.ensures.value c.find-is_found.ensures.few c.loop-i.invariant.none c.requires.named c.loop-i.invariant.same test given still)
           ∙ c.loop-i.invariant.told test given still;
       none = none_later found i c.find-is_found.result c.loop-i.invariant.none;
