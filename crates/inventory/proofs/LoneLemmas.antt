@@ -13,6 +13,7 @@ use Rattle.probe_lang.specs.declared.rows.Entry.{Entry}
 use Rattle.probe_lang.specs.Sights.{Sight, entry_sight, has_config}
 use Rattle.probe_lang.specs.Presents.{unboxed, are_by_place}
 use Rattle.found_set.specs.Marks.{AreMarked}
+use Rattle.match_rows.proofs.PlacesLemmas.{is_before, before_differs, not_behind}
 use Rattle.inventory.specs.Boards.{has_board, hit_places, places_or_none}
 use Rattle.inventory.specs.Indexes.{except}
 use Rattle.inventory.specs.Differences.{Moment, key_of}
@@ -22,7 +23,6 @@ use Rattle.inventory.proofs.BoardLemmas.{except_none, pass_all, place_cmp_eq, bo
 use Rattle.inventory.proofs.IndexesLemmas.{has_front}
 use Rattle.inventory.proofs.DifferencesLemmas.{keys_append}
 use Rattle.inventory.proofs.ListLemmas.{all_append, all_filter, all_map, all_weaker}
-use Rattle.inventory.proofs.OrderLemmas.{is_before, before_differs, not_behind}
 use Rattle.inventory.proofs.MomentsLemmas.{alike_places, places_append, places_one}
 
 -- ---- one board more in a list

@@ -13,6 +13,7 @@ use Rattle.bmc_base.specs.Places.{Place, place_cmp, place_eq}
 use Rattle.probe_lang.specs.declared.rows.Entry.{Entry}
 use Rattle.probe_lang.specs.Sights.{Sight, entry_sight}
 use Rattle.probe_lang.specs.Presents.{are_by_place}
+use Rattle.match_rows.proofs.PlacesLemmas.{place_total}
 use Rattle.inventory.specs.declared.board.BoardKey.{BoardKey}
 use Rattle.inventory.specs.Boards.{has_board, hit_places}
 use Rattle.inventory.specs.Differences.{Moment, key_of}
@@ -20,7 +21,6 @@ use Rattle.inventory.specs.Moments.{found_boards, left, skip_before, is_first, A
 use Rattle.inventory.proofs.BoardLemmas.{board_swap}
 use Rattle.inventory.proofs.BoardsLemmas.{board_cmp_eq, hits_ascend, places_ascend}
 use Rattle.inventory.proofs.DifferencesLemmas.{left_more, left_one}
-use Rattle.inventory.proofs.OrderLemmas.{place_total}
 
 -- ---- the order of boards
 

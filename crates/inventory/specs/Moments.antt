@@ -1,6 +1,6 @@
 -- The entries of a moment, and the boards of one configuration.
 use Rattle.std.specs.Prelude.{ℕ, ◌≡◌, Bool, false, IsTrue, ⊤, ◌⊎◌, if◌then◌else◌, List, [], ◌∷◌, ◌++◌, map, Option, Some, None}
-use Rattle.std.specs.List.{AllByRecursion, prefix_len}
+use Rattle.std.specs.List.{AllByRecursion}
 use Rattle.std.specs.List.Sorted.{IsStrictlySortedBy}
 use Rattle.std.specs.Option.{option_eq, option_cmp}
 use Rattle.found_set.specs.Marks.{AreMarked}
@@ -13,10 +13,6 @@ use Rattle.inventory.specs.Boards.{has_board, hit_places, places_or_none}
 use Rattle.inventory.specs.Indexes.{except}
 use Rattle.inventory.specs.Differences.{Moment, key_of}
 use Rattle.inventory.specs.declared.board.BoardKey.{BoardKey}
-
--- how many entries at the front come before a place
-abbrev pub count_before : Place → List Entry → ℕ
-count_before place entries = prefix_len (λ (entry : Entry). is_lt (place_cmp entry.place place)) entries
 
 -- the places of the entries on reachable buses that a pattern of a configuration matches
 abbrev pub hits_in : (ℕ → Bool) → List Entry → ℕ → List (Option Place)

@@ -3,11 +3,12 @@ ghost use Rattle.found_set.specs.Marks.{AreMarked, is_marked};
 ghost use Rattle.probe_lang.specs.Presents.{unboxed, are_by_place, holds_place, with_entry, without_entry};
 ghost use Rattle.probe_lang.specs.Sights.{entry_sight, has_config};
 ghost use Rattle.inventory.specs.Boards.{hit_places};
-ghost use Rattle.inventory.specs.Moments.{hits_in, count_before, AreSeenAlike};
+ghost use Rattle.inventory.specs.Moments.{hits_in, AreSeenAlike};
 
 use crate::hits::{are_seen_alike, first_hit, is_hit, push_hits};
 use bmc_base::{OutOfMemory, Place};
 use found_set::Facts;
+use match_rows::count_before;
 use probe_lang::Entry;
 use std::marker::Model;
 use std::slice;
@@ -31,15 +32,6 @@ impl<'a> Model for Moment<'a> {
     ghost view = { λ m. record { facts = m.facts; entries = unboxed m.before.now ++ unboxed m.plus.now ++ unboxed m.behind.now } };
 
     ghost invariant = { λ m. IsTrue (are_by_place (unboxed m.before.now ++ unboxed m.plus.now ++ unboxed m.behind.now)) };
-}
-
-// Counts the entries that come before a place.
-fn count_before(entries: &[Box<Entry>], place: Place) -> usize
-    requires { IsTrue (are_by_place (unboxed entries.now)) }
-    ensures value { result ≡ count_before place (unboxed entries.now) }
-    ensures range { result ≤ length entries.now }
-{
-    entries.partition_point(|entry| entry.place < place)
 }
 
 impl<'a> Moment<'a> {

@@ -1,5 +1,5 @@
 -- Entries in boxes.
-use Rattle.std.proofs.Common.{◌≡◌, ◌∙◌, ℕ, suc, ◌≤◌, ◌<◌, zero, ◌+◌, Bool, true, false, cond, List, [], ◌∷◌, ◌++◌, length, take, drop, get_or, slice_get, Option, Some, None, option_map, refl, sym, ap, ap₂, subst, arith}
+use Rattle.std.proofs.Common.{◌≡◌, ◌∙◌, ℕ, suc, ◌≤◌, ◌<◌, ◌+◌, true, false, cond, List, [], ◌∷◌, ◌++◌, length, take, drop, get_or, slice_get, Some, None, option_map, refl, sym, ap, ap₂, subst, arith}
 use Rattle.std.specs.Global.{Box}
 use Rattle.std.specs.List.{insert, remove, prefix_len, take-map, drop-map}
 use Rattle.std.specs.List.Sorted.{IsPartitionedBy, IsPartitionPoint}
@@ -14,7 +14,7 @@ use Rattle.match_rows.specs.Rows.{count_before}
 use Rattle.match_rows.proofs.PlacesLemmas.{is_before}
 use Rattle.match_rows.proofs.RowsLemmas.{partitioned}
 
-abbrev value_of : Box Entry → Entry
+abbrev pub value_of : Box Entry → Entry
 value_of entry = entry.value
 
 pub length_unboxed : (boxes : List (Box Entry)) → length (unboxed boxes) ≡ length boxes

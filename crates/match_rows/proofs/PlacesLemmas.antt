@@ -8,7 +8,7 @@ use Rattle.std.proofs.lemmas.Bool.Decides.{nat_tests}
 use Rattle.std.proofs.lemmas.Cmp.{then_total, on_total, nat_cmp_total}
 use Rattle.bmc_base.specs.Places.{Place, place_cmp, place_eq}
 
-place_total : IsTotalOrder place_cmp
+pub place_total : IsTotalOrder place_cmp
 place_total = then_total (on_total (λ (place : Place). place.bus) nat_cmp_total) (on_total (λ (place : Place). place.address) nat_cmp_total)
 
 abbrev pub is_before : Place → Place → Bool
@@ -37,6 +37,10 @@ other_way place other differ =
 
 pub before_differs : (place other : Place) → is_before other place ≡ true → is_same place other ≡ false
 before_differs place other before = ap is_eq (place_total.antisymm place other ∙ ap ordering_reverse (less _ before))
+
+-- of two places not both come before the other
+pub not_behind : (place other : Place) → is_before other place ≡ true → is_before place other ≡ false
+not_behind place other before = ap is_lt (place_total.antisymm place other ∙ ap ordering_reverse (less _ before))
 
 -- what comes behind one that does not come before a place is not at the place
 pub behind_differs : (first place later : Place) → is_before first place ≡ false → is_before first later ≡ true → is_same place later ≡ false

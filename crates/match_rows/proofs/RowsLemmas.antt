@@ -1,12 +1,11 @@
 -- Entries by place.
-use Rattle.std.proofs.Common.{◌≡◌, ◌∙◌, ℕ, zero, suc, ◌+◌, ◌<◌, ◌≤◌}
+use Rattle.std.proofs.Common.{◌≡◌, ◌∙◌, ℕ, zero, suc, ◌+◌, ◌<◌}
 use Rattle.std.proofs.Common.{Bool, true, false, not, cond, ◌||◌, List, [], ◌∷◌, length, slice_get, get_or, Option, Some, None}
 use Rattle.std.proofs.Common.{refl, sym, ap, ap₂, arith}
 use Rattle.std.specs.List.{list_all, insert, remove, find}
 use Rattle.std.specs.Option.{is_some}
-use Rattle.std.specs.List.Sorted.{IsPartitionedBy, IsPartitionPoint}
+use Rattle.std.specs.List.Sorted.{IsPartitionedBy}
 use Rattle.std.proofs.lemmas.Bool.{and_parts, and_from, or_parts, or_from}
-use Rattle.std.proofs.lemmas.List.Sums.{prefix_len_is}
 use Rattle.std.proofs.lemmas.Map.Entries.{option_filter}
 use Rattle.bmc_base.specs.Places.{Place, place_eq}
 use Rattle.probe_lang.specs.declared.rows.Entry.{Entry}
@@ -45,7 +44,7 @@ find_none place (entry ∷ entries) free =
     let parts = or_parts _ _ free in
     ap₂ (λ (here : Bool) (later : Option Entry). cond here (Some entry) later) parts.0 (find_none place entries parts.1)
 
-without_none : (place : Place) (entries : List Entry) → holds_place entries place ≡ false → without_entry place entries ≡ entries
+pub without_none : (place : Place) (entries : List Entry) → holds_place entries place ≡ false → without_entry place entries ≡ entries
 without_none place [] free = refl
 without_none place (entry ∷ entries) free =
     let parts = or_parts _ _ free in
@@ -62,14 +61,6 @@ partitioned place (entry ∷ entries) order zero (suc n) default within below be
 partitioned place (entry ∷ entries) order (suc m) zero default within below before = absurd (omega (arith, within))
 partitioned place (entry ∷ entries) order (suc m) (suc n) default within below before =
     partitioned place entries (and_parts _ _ order).1 m n default (omega (arith, within)) (omega (arith, below)) before
-
-pub count_is : (place : Place) (entries : List Entry) (count : ℕ) → count ≤ length entries
-    → IsPartitionPoint (λ (entry : Entry). is_before entry.place place ≡ true) (λ (entry : Entry). is_before entry.place place ≡ false) entries count
-    → count ≡ count_before place entries
-count_is place [] count range point = omega (arith, range)
-count_is place (entry ∷ entries) count range point =
-    sym (prefix_len_is (λ (entry : Entry). is_before entry.place place) (entry ∷ entries) count entry range
-    (λ n below. point.0 n entry (omega arith) below) (λ below. point.1 count entry (omega arith) below))
 
 -- an entry at a free place goes behind those that come before it
 pub with_entry_at : (entry : Entry) (entries : List Entry) → holds_place entries entry.place ≡ false

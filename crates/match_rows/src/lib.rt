@@ -9,4 +9,4 @@ mod tests;
 
 pub use law::entry_shows_record;
 pub use matching::make;
-pub use rows::Rows;
+pub use rows::{Rows, count_before};

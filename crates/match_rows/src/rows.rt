@@ -63,8 +63,8 @@ impl Rows {
         ensures held { is_some result ≡ holds_place self.now.entries place }
         ensures order { IsTrue (are_by_place self.now.entries) }
     {
-        let position = self.count_before(place);
-        let stored = self.entries.get(position)?;
+        let entries = self.entries();
+        let stored = entries.get(count_before(entries, place))?;
         let entry: &Entry = stored;
         if entry.place == place {
             Some(entry)
@@ -79,7 +79,7 @@ impl Rows {
         requires free { holds_place self.old.entries entry.value.place ≡ false }
         ensures { self.new.entries ≡ with_entry entry.value self.old.entries }
     {
-        let position = self.count_before(entry.place);
+        let position = count_before(self.entries(), entry.place);
         match self.entries.insert(position, entry) {
             Ok(()) => {}
             Err(_) => unreachable!(),
@@ -92,16 +92,16 @@ impl Rows {
         ensures entries { self.new.entries ≡ without_entry place self.old.entries }
         ensures entry { find (is_entry_at place) self.old.entries ≡ Some result.value }
     {
-        let position = self.count_before(place);
+        let position = count_before(self.entries(), place);
         self.entries.remove(position)
     }
+}
 
-    // Counts the entries that come before a place.
-    fn count_before(&self, place: Place) -> usize
-        ensures value { result ≡ count_before place self.now.entries }
-        ensures order { IsTrue (are_by_place self.now.entries) }
-        ensures range { result ≤ length self.now.entries }
-    {
-        self.entries.partition_point(|entry| entry.place < place)
-    }
+/// Counts the entries that come before a place, among entries that are by place.
+pub fn count_before(entries: &[Box<Entry>], place: Place) -> usize
+    requires { IsTrue (are_by_place (unboxed entries.now)) }
+    ensures value { result ≡ count_before place (unboxed entries.now) }
+    ensures range { result ≤ length entries.now }
+{
+    entries.partition_point(|entry| entry.place < place)
 }

@@ -1,8 +1,9 @@
 use Rattle.std.proofs.Common.{◌∙◌, ap}
 use Rattle.probe_lang.specs.declared.rows.Entry.{Entry}
 use Rattle.probe_lang.specs.Presents.{unboxed, are_by_place}
-use Rattle.inventory.specs.Moments.{count_before}
-use Rattle.inventory.proofs.OrderLemmas.{with_parts, with_entry_by_place}
+use Rattle.match_rows.specs.Rows.{count_before}
+use Rattle.match_rows.proofs.RowsLemmas.{with_entry_by_place}
+use Rattle.inventory.proofs.OrderLemmas.{with_parts}
 use Rattle.inventory.proofs.moment.Moment.with.Goals as goal
 
 pub returns-clause-entries : goal.returns-clause-entries

@@ -2,7 +2,8 @@ use Rattle.std.proofs.Common.{◌≡◌, ◌∙◌, sym, ap}
 use Rattle.bmc_base.specs.Places.{Place, place_eq}
 use Rattle.probe_lang.specs.declared.rows.Entry.{Entry}
 use Rattle.probe_lang.specs.Presents.{unboxed, are_by_place}
-use Rattle.inventory.proofs.OrderLemmas.{without_parts, without_nothing, without_other, without_entry_by_place}
+use Rattle.match_rows.proofs.RowsLemmas.{without_entry_by_place}
+use Rattle.inventory.proofs.OrderLemmas.{without_parts, without_nothing, without_other}
 use Rattle.inventory.proofs.moment.Moment.without.Goals.{else-at-entries-via-then-at-entries+else-eq, else-at-entries-via-else-at-entries}
 use Rattle.inventory.proofs.moment.Moment.without.Goals as goal
 

@@ -15,10 +15,10 @@ returns c =
     ap (λ (boxes : List (Box Entry)). unboxed boxes) c.in-Ok.ensures.items
     ∙ unboxed_insert c.self.inside.entries.items c.count_before-position.result c.args.entry
     ∙ ap₂ (λ entries n. insert entries n c.args.entry.value) same c.count_before-position.ensures.value
-    ∙ ap (λ (entry : Entry). insert old (count_before entry.place old) c.args.entry.value) c.deref.ensures
+    ∙ ap₂ (λ (entry : Entry) (entries : List Entry). insert old (count_before entry.place entries) c.args.entry.value) c.deref.ensures c.entries.ensures.value
     ∙ with_entry_at c.args.entry.value old c.requires.free
 
 pub invariant_of-self : goal.invariant_of-self
 invariant_of-self c =
     ap are_by_place (returns c)
-    ∙ with_entry_by_place c.args.entry.value c.args.self.now.entries c.count_before-position.ensures.order c.requires.free
+    ∙ with_entry_by_place c.args.entry.value c.args.self.now.entries c.entries.ensures.order c.requires.free
