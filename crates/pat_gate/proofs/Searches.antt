@@ -1,6 +1,6 @@
 -- What the DFA answers, and what a search in bytes says of a text.
 use Rattle.std.proofs.Common.{◌≡◌, ℕ, ◌<◌, ◌≤◌, Bool, true, false, List, length, All, Option, None, Some, is_some, refl, sym, ap, ◌∙◌, subst, arith, ⊎_elim, inl, inr, if◌then◌else◌, IsAscii, IsCharBoundary, Fits, w8, get_or}
-use Rattle.std.proofs.lemmas.Bool.{cond-true, cond-false, cases_Bool}
+use Rattle.std.proofs.lemmas.Bool.{cond-true, cond-false, cases_Bool, cases_lt}
 use Rattle.std.proofs.lemmas.List.Elements.{All-from_get_or}
 use Rattle.regex.proofs.Utf8Lemmas.{test_of_IsCharBoundary, IsCharBoundary-of_test}
 use Rattle.regex_dfa.specs.Search.{end_from, entry}
@@ -9,7 +9,9 @@ use Rattle.regex_hir.specs.Re.{Rest, Trace, attempt, accept}
 use Rattle.regex_hir.specs.Meaning.{meaning}
 use Rattle.regex_hir.specs.Text.{is_boundary}
 use Rattle.regex_hir.specs.declared.hir.Hir.{Hir}
-use Rattle.regex_hir.proofs.OptionLemmas.{option_cases}
+use Rattle.regex_extract.specs.Bounds.{IsAnchored}
+use Rattle.regex_hir.proofs.AttemptLemmas.{attempt_sound}
+use Rattle.regex_hir.proofs.OptionLemmas.{option_cases, none_of_no_value}
 use Rattle.regex_hir.proofs.FindLemmas.{first_between_cong, first_between_here, first_between_none, none_of_first_between}
 use Rattle.regex_compile.specs.Implements.{Implements}
 use Rattle.regex_nfa.specs.Run.{run, find_in}
@@ -19,7 +21,7 @@ use Rattle.regex_syntax.proofs.Written.{is_some-option_map}
 use Rattle.regex_syntax.specs.Grammar.{Names}
 use Rattle.regex_syntax.specs.Verdict.{default_config, Reads}
 use Rattle.regex_vm.specs.Found.{first_match}
-use Rattle.pat_gate.specs.Searches.{last_start, text_match_at, first_in_text, Serves}
+use Rattle.pat_gate.specs.Searches.{last_start, text_match_at, first_in_text, StartsAtStart, Serves}
 use Rattle.pat_gate.proofs.Regexes.{reads_match}
 
 -- what the type of a text says of its bytes
@@ -98,6 +100,32 @@ module _ (nfa : Nfa) (hay : List ℕ) where
   -- without one at any place there is none
   pub none_at_places : ((i : ℕ) → i ≤ length hay → is_some (text_match_at nfa hay i) ≡ false) → is_some (first_in_text nfa hay) ≡ false
   none_at_places none = ap is_some (first_between_none (text_match_at nfa hay) 0 (length hay) (λ i low high. no_value _ (none i high)))
+
+  none_later : StartsAtStart nfa → (i : ℕ) → 0 < i → i ≤ length hay → text_match_at nfa hay i ≡ None
+  none_later starts i late inside = elim (cases_Bool (is_boundary hay i)) [
+    | inl t ↦ at_boundary i t ∙ no_value _ (starts hay i late inside)
+    | inr f ↦ cond-false _ _ None f
+  ]
+
+  -- where none starts later, the start alone says whether there is one
+  pub found_at_start : StartsAtStart nfa → is_some (first_in_text nfa hay) ≡ is_some (text_match_at nfa hay 0)
+  found_at_start starts = ⊎_elim
+      (λ (none : text_match_at nfa hay 0 ≡ None).
+      ap is_some (first_between_none (text_match_at nfa hay) 0 (length hay) (λ i low high. elim (cases_lt 0 i) [
+        | inl late ↦ none_later starts i late high
+        | inr not_late ↦ let same : 0 ≡ i = omega arith in subst (λ x. text_match_at nfa hay x ≡ None) same none
+      ]))
+      ∙ sym (ap is_some none))
+      (λ found. ap is_some (first_between_here (text_match_at nfa hay) 0 (length hay) found.0 (omega arith) found.1)
+      ∙ sym (ap is_some found.1))
+      (option_cases (text_match_at nfa hay 0))
+
+-- the NFA of an anchored pattern has no match that starts later than the text
+pub anchored_starts : (nfa : Nfa) (hir : Hir) → Implements nfa (meaning hir) → IsAnchored true (meaning hir) → StartsAtStart nfa
+anchored_starts nfa hir implements anchored hay i late inside =
+    ap is_some (implements hay i ∙ none_of_no_value _ (λ (t : Trace) here.
+    let found = attempt_sound hay (meaning hir) accept i t here in
+    let zero : i ≡ 0 = anchored.at hay i found.at inside found.leads in omega arith))
 
 -- the NFA of what the grammar reads in a text serves for it
 pub implements_serves : (nfa : Nfa) (text : List ℕ) (hir : Hir) (names : Names) → Reads default_config text hir names

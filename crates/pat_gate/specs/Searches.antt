@@ -1,5 +1,5 @@
 -- What a search for one pattern finds.
-use Rattle.std.specs.Prelude.{ℕ, ◌≡◌, ◌<◌, Bool, List, length, All, Option, None, is_some, if◌then◌else◌}
+use Rattle.std.specs.Prelude.{ℕ, ◌≡◌, ◌<◌, ◌≤◌, Bool, false, List, length, All, Option, None, is_some, if◌then◌else◌}
 use Rattle.regex_hir.specs.Find.{Match, first_between}
 use Rattle.regex_hir.specs.Re.{Trace}
 use Rattle.regex_hir.specs.Text.{is_boundary}
@@ -18,6 +18,10 @@ text_match_at nfa hay i = if is_boundary hay i then run nfa hay (length hay) nfa
 -- the leftmost of them
 abbrev pub first_in_text : Nfa → List ℕ → Option Match
 first_in_text nfa hay = first_between (text_match_at nfa hay) 0 (length hay)
+
+-- no match of the NFA starts later than the text does
+abbrev pub StartsAtStart : Nfa → Type 0
+StartsAtStart nfa = (hay : List ℕ) (i : ℕ) → 0 < i → i ≤ length hay → is_some (run nfa hay (length hay) nfa.start i) ≡ false
 
 -- the NFA has a match in exactly the texts in which the pattern of this text has one
 abbrev pub Serves : Nfa → List ℕ → Type 0

@@ -43,7 +43,8 @@ impl Engine {
     {
         let parsed = parse(alloc, text)?;
         let dfa = compile(alloc, &parsed)?;
-        let searcher = Searcher::new(alloc, dfa)?;
+        let at_start = regex_extract::is_anchored_start(&parsed.hir);
+        let searcher = Searcher::new(alloc, dfa, at_start)?;
         let text = Text::copy(alloc, text)?;
         Ok(Engine { text, searcher })
     }

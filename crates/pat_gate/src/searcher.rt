@@ -1,7 +1,7 @@
-ghost use Rattle.std.specs.Prelude.{◌≡◌, ◌≤◌, false, length, is_some, IfOk};
+ghost use Rattle.std.specs.Prelude.{◌≡◌, ◌≤◌, true, false, length, is_some, IsTrue, IfOk};
 ghost use Rattle.regex_dfa.specs.Search.{IsForwardFor, stops_when_idle};
 ghost use Rattle.regex_vm.specs.Found.{first_match};
-ghost use Rattle.pat_gate.specs.Searches.{last_start, text_match_at, first_in_text};
+ghost use Rattle.pat_gate.specs.Searches.{last_start, text_match_at, first_in_text, StartsAtStart};
 
 use bmc_base::OutOfMemory;
 use regex_dfa::{Dfa, End, Forward};
@@ -21,17 +21,26 @@ const UNANCHORED: bool = false;
 #[derive(Drop)]
 pub(crate) struct Searcher {
     dfa: Dfa,
+    // Each match starts where its text does.
+    at_start: bool,
     built: Forward,
     ghost runs: { IsForwardFor built dfa },
     ghost runs_on: { stops_when_idle built ≡ false },
+    ghost starts: { at_start ≡ true → StartsAtStart dfa.nfa },
 }
 
 impl Searcher {
-    pub(crate) fn new(alloc: Global, dfa: Dfa) -> Result<Searcher, OutOfMemory>
+    // `at_start` says that each match starts where its text does.
+    pub(crate) fn new(alloc: Global, dfa: Dfa, at_start: bool) -> Result<Searcher, OutOfMemory>
+        requires { IsTrue at_start → StartsAtStart dfa.nfa }
         ensures { IfOk result (λ searcher. searcher.dfa ≡ dfa) }
     {
         let built = Forward::with_budget(alloc, &dfa, false, BUILT_LIMIT)?;
-        Ok(Searcher { dfa, built })
+        Ok(Searcher {
+            dfa,
+            at_start,
+            built,
+        })
     }
 
     // Whether there is a match in a text, where none starts inside a character.
@@ -39,6 +48,9 @@ impl Searcher {
         ensures found { IfOk result (λ found. found ≡ is_some (first_in_text self.old.dfa.nfa hay.now)) }
         ensures same { self.new.dfa ≡ self.old.dfa }
     {
+        if self.at_start {
+            return self.is_match_at(alloc, hay, 0);
+        }
         if !self.is_match(alloc, hay.as_bytes(), 0, UNANCHORED)? {
             return Ok(false);
         }

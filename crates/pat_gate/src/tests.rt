@@ -119,8 +119,54 @@ const OTHERS: [(&str, &str, bool); 65] = [
     ("^..$", "äö", true),
 ];
 
+// The same of patterns with operators and `^`.
+const AT_START: [(&str, &str, bool); 38] = [
+    // with operators behind
+    ("^R.R", "RSR1", true),
+    ("^R.R", "XRSR", false),
+    ("^R.R", "RS", false),
+    ("^R.R", "", false),
+    ("^a*b", "aabc", true),
+    ("^a*b", "caab", false),
+    ("^(?:a|b)c", "bca", true),
+    ("^(?:a|b)c", "abc", false),
+    ("^[äö]b", "äb", true),
+    ("^[äö]b", "aäb", false),
+    ("^.b", "äb", true),
+    ("^.b", "aäb", false),
+    ("^.b", "äöü", false),
+    ("^\\b", "ä", true),
+    ("^\\b", " ä", false),
+    ("\\Aab", "abc", true),
+    ("\\Aab", "xab", false),
+    ("\\Aab", "äab", false),
+    // alone, twice, and behind what may be empty
+    ("^", "", true),
+    ("^", "ä", true),
+    ("^^", "äö", true),
+    ("a?^b", "b", true),
+    ("a?^b", "ab", false),
+    ("(?:^)+a", "ab", true),
+    ("(?:^)+a", "ba", false),
+    ("^a|^ä", "äb", true),
+    ("^a|^ä", "bä", false),
+    // not in each match
+    ("^a|b", "xb", true),
+    ("^a|b", "ab", true),
+    ("^a|b", "äb", true),
+    ("^a|b", "xa", false),
+    ("(?:^a)?b", "äb", true),
+    ("(?:^a)?b", "xa", false),
+    ("(?:^)*a", "ba", true),
+    // at the start of a line
+    ("(?m)^a", "b\na", true),
+    ("(?m)^a", "ä\na", true),
+    ("(?m)^a", "ba", false),
+    ("(?m)^ä$", "a\nä\n", true),
+];
+
 // The same where Python differs, by the documentation of the regex crate.
-const DOCUMENTED: [(&str, &str, bool); 17] = [
+const DOCUMENTED: [(&str, &str, bool); 19] = [
     ("RSR$", "RSR\n", false),
     ("^RSR$", "RSR\n", false),
     ("R.R$", "RSR\n", false),
@@ -139,6 +185,8 @@ const DOCUMENTED: [(&str, &str, bool); 17] = [
     ("(?-u:\\B)", "aäb", false),
     ("(?-u:\\B)", "aä b", true),
     ("(?-u:\\B|ä)", "aäb", true),
+    ("^(?-u:\\B)", "ä", true),
+    ("^(?-u:\\B)", "aä", false),
 ];
 
 // Texts of which the regex crate says that they are no patterns.
@@ -201,6 +249,11 @@ fn finds_plain_patterns(rt: HostRuntime) {
 #[test]
 fn finds_other_patterns(rt: HostRuntime) {
     assert_found(&rt, rt.alloc(), &OTHERS);
+}
+
+#[test]
+fn finds_patterns_at_the_start(rt: HostRuntime) {
+    assert_found(&rt, rt.alloc(), &AT_START);
 }
 
 #[test]
