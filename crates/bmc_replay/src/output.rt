@@ -43,7 +43,11 @@ pub fn flush_large<K: Sink>(text: &mut String, output: &mut K) -> Result<(), IoF
 }
 
 /// Gathers the row of each FRU, and writes what grows large on the way.
-pub fn push_list<K: Sink>(entries: &[Box<Entry>], text: &mut String, output: &mut K) -> Result<(), Stop>
+pub fn push_list<K: Sink>(
+    entries: &[Box<Entry>],
+    text: &mut String,
+    output: &mut K,
+) -> Result<(), Stop>
     ensures all { OnOk result (Gathers (K.seen output.old).taken (K.seen output.new).taken (string_bytes text.old) (string_bytes text.new)
         (entry_rows (unboxed entries.now))) }
     ensures front { OnErr result (AppendsFront (K.seen output.old).taken (K.seen output.new).taken (string_bytes text.old ++ entry_rows (unboxed entries.now))) }

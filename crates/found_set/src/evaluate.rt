@@ -8,9 +8,9 @@ ghost use Rattle.found_set.specs.Covers.{AreWithOrWithout};
 ghost use Rattle.found_set.specs.Earlier.{HoldBeside, StillHold, WereBefore};
 
 use crate::cover::is_covered;
+use crate::earlier::Earlier;
 use crate::facts::{Facts, MOST_RULES};
 use crate::find::found_by;
-use crate::earlier::Earlier;
 use crate::marks::PATTERN_MARKS;
 use crate::names::Names;
 use crate::parts::Parts;

@@ -6,8 +6,8 @@ ghost use Rattle.found_set.specs.Found.{found_from, names_of};
 ghost use Rattle.found_set.specs.Named.{AreNames};
 ghost use Rattle.found_set.specs.Earlier.{marked_value, StillHold};
 
-use crate::facts::MOST_RULES;
 use crate::earlier::Earlier;
+use crate::facts::MOST_RULES;
 use crate::marks::{MOST_PATTERNS, PATTERN_MARKS, is_marked};
 use crate::names::Names;
 use crate::rule::Rule;

@@ -3,10 +3,10 @@
 #![tactic(auto)]
 
 mod cover;
+mod earlier;
 mod evaluate;
 mod facts;
 mod find;
-mod earlier;
 mod law;
 mod marks;
 mod names;

@@ -6,9 +6,9 @@ ghost use Rattle.found_set.specs.Rows.{row_of, sights_of, holds_place, IsKnown};
 ghost use Rattle.found_set.specs.Events.{facts_after, most_evals, ConfigEvent, PlugEvent, UnplugEvent};
 ghost use Rattle.found_set.specs.Sets.{Prepares, IsStaged, committed, empty_set, after, as_staged};
 
+use crate::earlier::Earlier;
 use crate::evaluate::{evaluate, no_facts, reevaluate};
 use crate::facts::Facts;
-use crate::earlier::Earlier;
 use crate::names::Names;
 use crate::next_facts::{EventKey, NextFacts};
 use crate::parts::Parts;
