@@ -1,7 +1,7 @@
 -- The rows that the found set has: those of FRUs with hits or channels.
-use Rattle.std.proofs.Common.{◌≡◌, ℕ, List, [], ◌∷◌, ◌++◌, map, filter, Bool, true, false, not, cond, ◌&&◌, ◌||◌, Option, Some, None, length, ◌==◌, find, arith, refl, ap, sym, ◌∙◌}
+use Rattle.std.proofs.Common.{◌≡◌, ℕ, List, [], ◌∷◌, ◌++◌, map, Bool, true, false, not, cond, ◌&&◌, ◌||◌, Some, length, ◌==◌, find, arith, refl, ap, sym, ◌∙◌}
 use Rattle.std.specs.List.{list_any, list_all}
-use Rattle.std.specs.Ordering.{is_lt, is_eq}
+use Rattle.std.specs.Ordering.{is_lt}
 use Rattle.std.proofs.Math.Bool.{and-false}
 use Rattle.std.proofs.lemmas.Bool.{and_parts, and_from, or_parts, or_from}
 use Rattle.std.proofs.lemmas.Bool.Decides.{nat_tests}
@@ -12,7 +12,7 @@ use Rattle.probe_lang.specs.declared.rows.Hit.{Hit}
 use Rattle.probe_lang.specs.declared.rows.Channel.{Channel}
 use Rattle.probe_lang.specs.declared.rows.Entry.{Entry}
 use Rattle.probe_lang.specs.Presents as presents
-use Rattle.probe_lang.specs.Presents.{with_entry, without_entry, is_entry_at}
+use Rattle.probe_lang.specs.Presents.{with_entry, is_entry_at}
 use Rattle.match_rows.proofs.PlacesLemmas.{before_trans}
 use Rattle.found_set.specs.declared.row.Row.{Row}
 use Rattle.found_set.specs.Found.{Rule, is_root, facts}

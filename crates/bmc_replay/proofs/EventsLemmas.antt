@@ -1,5 +1,5 @@
 -- What each event leaves of the parts of a state.
-use Rattle.std.proofs.Common.{◌≡◌, ℕ, arith, List, [], ◌∷◌, ◌++◌, map, length, not, cond, ◌+◌, ◌≤◌, Bool, true, false, Option, Some, None, Result, Ok, Err, refl, ap, ap₂, sym, subst, ◌∙◌, append-nil, find}
+use Rattle.std.proofs.Common.{◌≡◌, ℕ, arith, List, [], ◌∷◌, ◌++◌, map, length, not, cond, ◌+◌, ◌≤◌, Bool, true, false, Option, Some, None, Result, Ok, Err, refl, ap, ap₂, sym, subst, ◌∙◌, find}
 use Rattle.std.specs.List.{position_or_len}
 use Rattle.std.specs.Prelude.{is_some, nat_lt, bytes_eq, IsSomeAnd, IfSome, OnErr, ◌||◌, ◌==◌}
 use Rattle.std.proofs.lemmas.List.FromFn.{get_or-map-range_with_len}
@@ -21,7 +21,7 @@ use Rattle.found_set.specs.Found.{Rule, rule_of, has_name, number_of, facts, is_
 use Rattle.found_set.specs.Marks.{AreMarked, marks, mark_count}
 use Rattle.found_set.specs.Rows as rows
 use Rattle.found_set.specs.Rows.{row_of, sights_of, is_idle, IsKnown}
-use Rattle.found_set.specs.Events.{Event, ConfigEvent, PlugEvent, UnplugEvent, rules_after, rows_after}
+use Rattle.found_set.specs.Events.{Event, PlugEvent, UnplugEvent, rules_after, rows_after}
 use Rattle.found_set.specs.Sets.{SetView, after, as_staged, committed}
 use Rattle.inventory.specs.Boards as of_configs
 use Rattle.inventory.specs.Boards.{rules_of, boards_in}

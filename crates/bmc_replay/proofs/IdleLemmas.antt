@@ -1,29 +1,27 @@
 -- FRUs without hits and channels change nothing that is found, reachable or a board.
-use Rattle.std.proofs.Common.{◌≡◌, ℕ, zero, suc, ◌+◌, List, [], ◌∷◌, ◌++◌, map, filter, length, Bool, true, false, not, cond, ◌&&◌, ◌||◌, ◌==◌, nat_eq, Option, Some, None, refl, ap, ap₂, sym, ◌∙◌, inl}
+use Rattle.std.proofs.Common.{◌≡◌, ℕ, ◌+◌, List, [], ◌∷◌, ◌++◌, map, length, Bool, true, false, cond, ◌&&◌, ◌||◌, nat_eq, Option, refl, ap, ap₂, sym, ◌∙◌, inl}
 use Rattle.std.specs.Prelude.{slice_get, option_map}
 use Rattle.std.specs.List.{list_any, flat_map, range_with_len}
-use Rattle.std.specs.Option.{option_eq, unwrap_or}
-use Rattle.bmc_base.specs.Places.{Place, place_eq}
+use Rattle.std.specs.Option.{unwrap_or}
+use Rattle.bmc_base.specs.Places.{Place}
 use Rattle.probe_lang.specs.Sights.{Sight, entry_sight, has_hit, has_config, has_channel}
 use Rattle.probe_lang.specs.declared.rows.Entry.{Entry}
 use Rattle.probe_lang.specs.declared.rows.Hit.{Hit}
 use Rattle.probe_lang.specs.declared.rows.Channel.{Channel}
 use Rattle.cfg_json.specs.Configs.{Config}
-use Rattle.found_set.specs.declared.row.Row.{Row}
 use Rattle.found_set.specs.Marks.{is_marked}
 use Rattle.found_set.specs.Found.{Rule, found_from, found, matched_by, on_buses, is_root, roots, moves_to, opens, is_reached, is_found}
 use Rattle.found_set.specs.Rows.{row_of, is_idle}
-use Rattle.inventory.specs.Boards.{boards_in, board_places, config_places, hit_places, places_or_none, rules_of, has_board}
+use Rattle.inventory.specs.Boards.{boards_in, board_places, places_or_none, rules_of, has_board}
 use Rattle.inventory.specs.Indexes.{kept_of, except, with_boards}
-use Rattle.inventory.specs.Differences.{keys_left, key_of}
+use Rattle.inventory.specs.Differences.{key_of}
 use Rattle.inventory.specs.Moments.{IsAmong, AreSeenAlike}
 use Rattle.inventory.proofs.BoardLemmas.{pass_all, except_none}
 use Rattle.inventory.proofs.MomentsLemmas.{hits_stay}
 use Rattle.inventory.specs.declared.board.BoardKey.{BoardKey}
-use Rattle.bmc_machine.specs.Changes.{Inventory, changes_between, board_change}
-use Rattle.bmc_report.specs.declared.change.Change.{Change}
+use Rattle.bmc_machine.specs.Changes.{changes_between, board_change}
 use Rattle.bmc_replay.proofs.BusyLemmas.{idle_parts}
-use Rattle.bmc_replay.specs.States.{View, view_boards, view_inventory, Moves}
+use Rattle.bmc_replay.specs.States.{View, view_boards, Moves}
 
 -- ---- what is found and reachable over FRUs of which as much is seen
 

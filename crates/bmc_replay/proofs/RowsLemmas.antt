@@ -1,5 +1,5 @@
 -- What the found set has of the entries.
-use Rattle.std.proofs.Common.{◌≡◌, ℕ, zero, suc, ◌+◌, ◌<◌, ◌≤◌, List, [], ◌∷◌, ◌++◌, map, length, Bool, true, false, not, cond, refl, ap, ap₂, sym, ◌∙◌, arith, subst}
+use Rattle.std.proofs.Common.{◌≡◌, ℕ, ◌+◌, ◌<◌, ◌≤◌, List, [], ◌∷◌, map, length, Bool, true, false, not, cond, refl, ap, arith}
 use Rattle.std.specs.Prelude.{◌||◌}
 use Rattle.std.specs.List.{All}
 use Rattle.std.specs.Ordering.{is_eq}
@@ -14,7 +14,7 @@ use Rattle.probe_lang.specs.declared.rows.Entry.{Entry}
 use Rattle.probe_lang.specs.declared.pattern_text.Member.{Member}
 use Rattle.probe_lang.specs.Presents as presents
 use Rattle.cfg_json.specs.Configs.{Config}
-use Rattle.match_rows.specs.Matching.{hit_if, pattern_hits, config_hits, hits_of, entry_of}
+use Rattle.match_rows.specs.Matching.{hit_if, pattern_hits, config_hits, entry_of}
 use Rattle.found_set.specs.Rows as rows
 use Rattle.found_set.specs.Rows.{row_of, sights_of, IsKnown}
 use Rattle.found_set.specs.declared.row.Row.{Row}

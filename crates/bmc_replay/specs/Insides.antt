@@ -1,5 +1,5 @@
 -- What is seen of a state, and what holds inside.
-use Rattle.std.specs.Prelude.{◌≡◌, Bool, true, not, ◌||◌, ◌==◌, List, filter, map, length}
+use Rattle.std.specs.Prelude.{◌≡◌, true, not, ◌||◌, ◌==◌, List, filter, map, length}
 use Rattle.found_set.specs.Rows.{row_of, is_idle}
 use Rattle.found_set.specs.declared.row.Row.{Row}
 use Rattle.inventory.specs.Boards.{rules_of}

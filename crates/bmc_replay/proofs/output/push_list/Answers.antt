@@ -1,4 +1,4 @@
-use Rattle.std.proofs.Common.{◌≡◌, ◌∙◌, ◌++◌, List, ap, string_bytes}
+use Rattle.std.proofs.Common.{◌∙◌, ◌++◌, List, ap, string_bytes}
 use Rattle.std.proofs.lemmas.Result.{err_from_is_err_and}
 use Rattle.fru_area.specs.declared.field.Field.{Field}
 use Rattle.probe_lang.specs.declared.rows.Entry.{Entry}
