@@ -563,7 +563,8 @@ module _ {L : Type 0} where
             (string_bytes moved.text) along.so_far.text along.printed gathers;
         stands = subst (λ (view : View). Stands view along.so_far.past) (sym (ap (λ (run : Run L). run.state) same)) along.stands;
         refused = ap (λ (run : Run L). run.refused) same ∙ along.refused;
-        machine = subst (λ (number : ℕ). HasCome ended along.taken feed.waiting along.verdicts number along.so_far) (sym (ap (λ (run : Run L). run.number) same))
+        machine = subst (λ (number : ℕ). HasCome ended along.taken feed.waiting along.verdicts number along.so_far)
+            (sym (ap (λ (run : Run L). run.number) same))
             along.machine;
       })
 

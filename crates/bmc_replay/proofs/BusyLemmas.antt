@@ -118,13 +118,15 @@ busy_with entry (other ∷ entries) order works =
         ∙ sym (ap (λ (none : Bool). cond (not none) (row_of entry ∷ busy (map row_of (other ∷ entries))) (busy (map row_of (other ∷ entries)))) works)
     by false late true is rest =
         ap (λ (none : Bool). with_row (row_of entry) (cond (not none) (row_of other ∷ busy (map row_of entries)) (busy (map row_of entries)))) is ∙ rest
-        ∙ sym (ap (λ (none : Bool). cond (not none) (row_of other ∷ busy (map row_of (with_entry entry entries))) (busy (map row_of (with_entry entry entries)))) is)
+        ∙ sym (ap (λ (none : Bool). cond (not none) (row_of other ∷ busy (map row_of (with_entry entry entries)))
+        (busy (map row_of (with_entry entry entries)))) is)
     by false late false is rest =
         ap (λ (none : Bool). with_row (row_of entry) (cond (not none) (row_of other ∷ busy (map row_of entries)) (busy (map row_of entries)))) is
         ∙ ap (λ (first : Bool). cond first (row_of entry ∷ row_of other ∷ busy (map row_of entries))
         (row_of other ∷ with_row (row_of entry) (busy (map row_of entries)))) late
         ∙ ap (λ (later : List Row). row_of other ∷ later) rest
-        ∙ sym (ap (λ (none : Bool). cond (not none) (row_of other ∷ busy (map row_of (with_entry entry entries))) (busy (map row_of (with_entry entry entries)))) is)
+        ∙ sym (ap (λ (none : Bool). cond (not none) (row_of other ∷ busy (map row_of (with_entry entry entries)))
+        (busy (map row_of (with_entry entry entries)))) is)
 
 pub busy_without : (place : Place) (there : List Row) → without_row place (busy there) ≡ busy (without_row place there)
 busy_without place [] = refl

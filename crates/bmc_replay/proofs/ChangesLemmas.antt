@@ -1,5 +1,6 @@
 -- Lists that grow by one element at a time.
-use Rattle.std.proofs.Common.{◌≡◌, ℕ, ◌+◌, ◌<◌, List, [], ◌∷◌, ◌++◌, map, take, length, get_or, Bool, Option, Some, refl, ap, sym, ◌∙◌, append_assoc, append-nil, slice_get, option_map}
+use Rattle.std.proofs.Common.{◌≡◌, ℕ, ◌+◌, ◌<◌, List, [], ◌∷◌, ◌++◌, map, take, length, get_or, Bool, Option, Some, refl, ap, sym, ◌∙◌, append_assoc}
+use Rattle.std.proofs.Common.{append-nil, slice_get, option_map}
 use Rattle.std.specs.Option.{unwrap_or}
 use Rattle.std.specs.List.{flat_map}
 use Rattle.std.proofs.lemmas.List.{take_more, map-append}
@@ -31,7 +32,8 @@ pub change_more : (gone : Bool) (configs : List Config) (kept : ℕ → List (Op
     → now ≡ start ++ map (board_change gone configs kept) (take (i + 1) keys)
 change_more gone configs kept keys i key config start so_far now within is found before grown =
     let same : Board gone config.name (index_in (kept key.config) key.place) key.place ≡ board_change gone configs kept key =
-    ap (λ (config : Option Config). Board gone (unwrap_or (option_map (λ config. config.name) config) []) (index_in (kept key.config) key.place) key.place) found in
+    ap (λ (config : Option Config). Board gone (unwrap_or (option_map (λ config. config.name) config) [])
+    (index_in (kept key.config) key.place) key.place) found in
     grown ∙ ap (λ (front : List Change). front ++ Board gone config.name (index_in (kept key.config) key.place) key.place ∷ []) before
     ∙ append_assoc start (map (board_change gone configs kept) (take i keys)) (Board gone config.name (index_in (kept key.config) key.place) key.place ∷ [])
     ∙ ap (λ (changes : List Change). start ++ changes)

@@ -1,5 +1,6 @@
 -- What each event leaves of the parts of a state.
-use Rattle.std.proofs.Common.{◌≡◌, ℕ, arith, List, [], ◌∷◌, ◌++◌, map, length, not, cond, ◌+◌, ◌≤◌, Bool, true, false, Option, Some, None, Result, Ok, Err, refl, ap, ap₂, sym, subst, ◌∙◌, find}
+use Rattle.std.proofs.Common.{◌≡◌, ℕ, arith, List, [], ◌∷◌, ◌++◌, map, length, not, cond, ◌+◌, ◌≤◌, Bool, true, false, Option, Some, None, Result}
+use Rattle.std.proofs.Common.{Ok, Err, refl, ap, ap₂, sym, subst, ◌∙◌, find}
 use Rattle.std.specs.List.{position_or_len}
 use Rattle.std.specs.Prelude.{is_some, nat_lt, bytes_eq, IsSomeAnd, IfSome, OnErr, ◌||◌, ◌==◌}
 use Rattle.std.proofs.lemmas.List.FromFn.{get_or-map-range_with_len}
@@ -110,7 +111,8 @@ unplug_among place entry entries before behind ordered found same without =
 are_marked : (test : ℕ → Bool) → AreMarked (marks test) test
 are_marked test number few = get_or-map-range_with_len test 0 mark_count number number false few (omega arith)
 
-marked_by : (held : Facts) (rules : List Rule) (sights : List Sight) → held ≡ facts rules sights → IsMarkedBy held (is_found rules sights) (is_reached rules sights)
+marked_by : (held : Facts) (rules : List Rule) (sights : List Sight) → held ≡ facts rules sights
+    → IsMarkedBy held (is_found rules sights) (is_reached rules sights)
 marked_by held rules sights same =
     subst (λ (held : Facts). IsMarkedBy held (is_found rules sights) (is_reached rules sights)) (sym same)
     (record { found = are_marked (is_found rules sights); reach = are_marked (is_reached rules sights) })
@@ -138,7 +140,8 @@ pub difference_is : (configs configs_after : List Config) (before behind : Momen
     → ((found reach found_after reach_after : ℕ → Bool) → IsMarkedBy before.facts found reach → IsMarkedBy behind.facts found_after reach_after
     → (gone ≡ keys_left (length configs) (boards_at configs found reach before) (boards_at configs_after found_after reach_after behind))
     × (new ≡ keys_left (length configs_after) (boards_at configs_after found_after reach_after behind) (boards_at configs found reach before)))
-    → IsDifference (length configs) (length configs_after) (boards_in configs (map entry_sight entries)) (boards_in configs_after (map entry_sight entries_after))
+    → IsDifference (length configs) (length configs_after) (boards_in configs (map entry_sight entries))
+    (boards_in configs_after (map entry_sight entries_after))
     gone new
 difference_is configs configs_after before behind rules rules_behind entries entries_after set_rows rows_behind gone new same rows_same facts_are entries_are
     same_after rows_after facts_after entries_behind differs =

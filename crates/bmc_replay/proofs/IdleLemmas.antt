@@ -142,7 +142,8 @@ unfolding changes_between
 idle_moves old new configs same kept none = record {
   kept = λ number.
       ap (λ (lists : List (List (Option Place))). kept_of lists number) kept
-      ∙ sym (ap (with_boards (kept_of old.kept number)) (ap (except (has_board (view_boards old number))) (same number) ∙ except_self (view_boards old number)));
+      ∙ sym (ap (with_boards (kept_of old.kept number)) (ap (except (has_board (view_boards old number))) (same number)
+      ∙ except_self (view_boards old number)));
   changes =
       none
       ∙ sym (ap₂ (λ (gone fresh : List BoardKey). map (board_change true old.configs (kept_of old.kept)) gone

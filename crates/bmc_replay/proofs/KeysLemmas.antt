@@ -1,5 +1,6 @@
 -- The boards that go and those that are new, by configuration.
-use Rattle.std.proofs.Common.{◌≡◌, ℕ, zero, suc, ◌+◌, ◌<◌, ◌≤◌, List, [], ◌∷◌, ◌++◌, map, filter, length, Bool, true, false, cond, nat_eq, Option, Some, None, refl, ap, ap₂, sym}
+use Rattle.std.proofs.Common.{◌≡◌, ℕ, zero, suc, ◌+◌, ◌<◌, ◌≤◌, List, [], ◌∷◌, ◌++◌, map, filter, length, Bool, true, false, cond, nat_eq, Option}
+use Rattle.std.proofs.Common.{Some, None, refl, ap, ap₂, sym}
 use Rattle.std.proofs.Common.{◌∙◌, arith, subst, append-nil, slice_get, option_map}
 use Rattle.std.specs.Prelude.{nat_lt, ◌≢◌}
 use Rattle.std.specs.Option.{unwrap_or}
@@ -103,12 +104,14 @@ places_left number count here there none = by (nat_lt number count) refl
 
 within_own : (number count : ℕ) (places : List (Option Place)) → number < count → AreWithin (map (key_of number) places) count
 within_own number count [] few = All-nil _
-within_own number count (place ∷ places) few = All-cons (λ (key : BoardKey). key.config < count) (key_of number place) (map (key_of number) places) few (within_own number count places few)
+within_own number count (place ∷ places) few = All-cons (λ (key : BoardKey). key.config < count) (key_of number place)
+    (map (key_of number) places) few (within_own number count places few)
 
 within_by : (places : ℕ → List (Option Place)) (from n count : ℕ) → from + n ≤ count → AreWithin (keys_by places from n) count
 within_by places from zero count few = All-nil _
 within_by places from (suc n) count few =
-    All-append (λ (key : BoardKey). key.config < count) (map (key_of from) (places from)) (keys_by places (from + 1) n) (within_own from count (places from) (omega (arith, few)))
+    All-append (λ (key : BoardKey). key.config < count) (map (key_of from) (places from)) (keys_by places (from + 1) n)
+    (within_own from count (places from) (omega (arith, few)))
     (within_by places (from + 1) n count (omega (arith, few)))
 
 pub keys_within : (count : ℕ) (here there : ℕ → List (Option Place)) → AreWithin (keys_left count here there) count
@@ -130,7 +133,8 @@ name_front (config ∷ configs) more (suc number) few = name_front configs more 
 no_boards : (configs : List Config) (sights : List Sight) (number : ℕ) → length configs ≤ number → boards_in configs sights number ≡ []
 unfolding boards_in board_places
 no_boards configs sights number few =
-    ap (λ (config : Option Config). unwrap_or (option_map (config_places (is_found (rules_of configs) sights) (is_reached (rules_of configs) sights) sights number)
+    ap (λ (config : Option Config). unwrap_or (option_map (config_places (is_found (rules_of configs) sights)
+    (is_reached (rules_of configs) sights) sights number)
     config) []) (slice_get_past configs number few)
 
 -- what was staged is taken over
@@ -161,4 +165,5 @@ moves old new more gone fresh kept kept_now changes configs differs same tells k
 
     fresh_changes : map (board_change false new.configs (kept_of kept_now)) fresh ≡ boards_left false (view_inventory new) (view_inventory old)
     fresh_changes =
-        ap₂ (λ (kept : List (List (Option Place))) (keys : List BoardKey). map (board_change false new.configs (kept_of kept)) keys) (sym keeps) differs.those_new
+        ap₂ (λ (kept : List (List (Option Place))) (keys : List BoardKey). map (board_change false new.configs (kept_of kept)) keys)
+        (sym keeps) differs.those_new

@@ -51,7 +51,8 @@ patterns_below : (count config pattern : ℕ) (place : Place) (fields : List Fie
     → AreHitsBelow count (pattern_hits place fields config pattern patterns)
 patterns_below count config pattern place fields [] few = All-nil _
 patterns_below count config pattern place fields (members ∷ patterns) few =
-    All-append (λ (hit : Hit). hit.config < count) (hit_if (matches members place fields) config pattern) (pattern_hits place fields config (pattern + 1) patterns)
+    All-append (λ (hit : Hit). hit.config < count) (hit_if (matches members place fields) config pattern)
+    (pattern_hits place fields config (pattern + 1) patterns)
     (hit_below count config pattern (matches members place fields) few) (patterns_below count config (pattern + 1) place fields patterns few)
 
 configs_below : (count number : ℕ) (place : Place) (fields : List Field) (configs : List Config) → number + length configs ≤ count

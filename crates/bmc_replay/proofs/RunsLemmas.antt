@@ -28,7 +28,8 @@ use Rattle.bmc_replay.specs.Steps.{Accepts, Refuses, IsTried, Tries}
 use Rattle.bmc_replay.specs.declared.run.Run.{Run}
 use Rattle.bmc_replay.specs.declared.run.Effect.{Effect}
 use Rattle.bmc_replay.specs.declared.run.Effect.TheVariants.{Nothing, Changed, Refused}
-use Rattle.bmc_replay.specs.Runs.{effect_text, effect_of, is_refused, IsAnswer, Answers, IsVerdict, AnswersItem, AnswersNext, LeavesItem, LeavesNext, CountsItem, TakesItem}
+use Rattle.bmc_replay.specs.Runs.{effect_text, effect_of, is_refused, IsAnswer, Answers, IsVerdict, AnswersItem, AnswersNext, LeavesItem, LeavesNext}
+use Rattle.bmc_replay.specs.Runs.{CountsItem, TakesItem}
 
 -- nothing comes of it
 pub silent_answers : (view : View) → Answers (λ line past. silent past) Nothing view view
@@ -149,7 +150,8 @@ block_answer line past bytes rule refusal maker maker_now gives is = of rule (co
     of (faults.PatternTooLarge text) (Err other) gives is = absurd gives.0
     of faults.OutOfMemory read gives is = absurd (cc)
 
-known_rule : (rule : ConfigFault) (refusal : Refusal) → config_refusal rule ≡ Some refusal → (let result : Result Config ConfigFault = Err rule in result) ≢ Err faults.OutOfMemory
+known_rule : (rule : ConfigFault) (refusal : Refusal) → config_refusal rule ≡ Some refusal
+    → (let result : Result Config ConfigFault = Err rule in result) ≢ Err faults.OutOfMemory
 known_rule rule refusal is same = absurd (let no = ap (λ (result : Result Config ConfigFault). reason_of result) same in cc)
   where
     reason_of : Result Config ConfigFault → Option Refusal
@@ -184,7 +186,8 @@ unread bytes (faults.PatternTooLarge text) maker maker_now gives none = absurd (
 -- ---- counting
 
 -- what was answered is counted
-pub answered_item : {L : Type 0} (item : Item) (effect : Effect) (old answered new : Run L) (maker maker_now : Maker) → answered ≡ record old { state = answered.state }
+pub answered_item : {L : Type 0} (item : Item) (effect : Effect) (old answered new : Run L) (maker maker_now : Maker)
+    → answered ≡ record old { state = answered.state }
     → AnswersItem item effect old.state answered.state maker maker_now → CountsItem effect answered new → TakesItem item old new maker maker_now
 answered_item {L} item effect old answered new maker maker_now same answers counts = record {
   verdict = answers.verdict;

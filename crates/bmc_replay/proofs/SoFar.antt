@@ -1,5 +1,6 @@
 -- How far the machine has come in a script.
-use Rattle.std.proofs.Common.{◌≡◌, ℕ, ◌+◌, List, [], ◌∷◌, ◌++◌, Bool, true, false, ◌||◌, suc, arith, length, refl, ap, ap₂, subst, subst₂, sym, ◌∙◌, append_assoc, append-nil, length-append}
+use Rattle.std.proofs.Common.{◌≡◌, ℕ, ◌+◌, List, [], ◌∷◌, ◌++◌, Bool, true, false, ◌||◌, suc, arith, length, refl, ap, ap₂, subst, subst₂, sym}
+use Rattle.std.proofs.Common.{◌∙◌, append_assoc, append-nil, length-append}
 use Rattle.bmc_text.specs.Items.{Item, cut_most, cut, items_of, whole_items}
 use Rattle.bmc_text.specs.Lines.{AreNone}
 use Rattle.bmc_text.specs.NextItems.{BeginsWith, AreLast}
@@ -85,7 +86,8 @@ so_far_more taken waiting piece rest verdicts number so_far verdict item machine
       ∙ ap (λ (items : List Item). and_then so_far (answers number so_far.past (verdict ∷ later) items)) (begins.whole more)
       ∙ step_on so_far number verdict later item (whole_items (rest ++ more));
   tied = λ more later tied.
-      subst₂ (λ (bytes : List ℕ) (all : List Verdict). AreTied (items_of bytes) all) (sym (append_assoc taken piece more)) (sym (with_verdict verdicts later verdict))
+      subst₂ (λ (bytes : List ℕ) (all : List Verdict). AreTied (items_of bytes) all) (sym (append_assoc taken piece more))
+      (sym (with_verdict verdicts later verdict))
       (machine.tied (piece ++ more) (verdict ∷ later)
       (subst (λ (items : List Item). AreTied items (verdict ∷ later)) (sym (items_begin more)) (tie, tied)));
   each = λ more.

@@ -133,7 +133,8 @@ pub refused : (old new : View) (step : Step) (refusal : Refusal)
 refused old new step refusal reasons left = record {
   tried = λ past stood. record {
     reason = reasons past stood;
-    stands = subst (λ (view : View). Stands view (past_refused past step refusal)) (sym left) (of step past (reasons past stood) (without_changes old past stood));
+    stands = subst (λ (view : View). Stands view (past_refused past step refusal)) (sym left) (of step past (reasons past stood)
+        (without_changes old past stood));
   };
   left = left;
 }

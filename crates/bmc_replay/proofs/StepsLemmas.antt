@@ -28,7 +28,8 @@ present_is : (configs : List Config) (frus : List Fru) (place : Place) → holds
 present_is configs [] place = refl
 present_is configs (fru ∷ frus) place = ap (λ (later : Bool). is_eq (place_cmp place fru.place) || later) (present_is configs frus place)
 
-put_is : (configs : List Config) (fru : Fru) (frus : List Fru) → with_entry (fru_entry configs fru) (map (fru_entry configs) frus) ≡ map (fru_entry configs) (put fru frus)
+put_is : (configs : List Config) (fru : Fru) (frus : List Fru)
+    → with_entry (fru_entry configs fru) (map (fru_entry configs) frus) ≡ map (fru_entry configs) (put fru frus)
 put_is configs fru [] = refl
 put_is configs fru (other ∷ frus) = by (is_lt (place_cmp fru.place other.place)) (put_is configs fru frus)
   where
@@ -39,7 +40,8 @@ put_is configs fru (other ∷ frus) = by (is_lt (place_cmp fru.place other.place
     by true rest = refl
     by false rest = ap (λ (entries : List Entry). fru_entry configs other ∷ entries) rest
 
-without_is : (configs : List Config) (place : Place) (frus : List Fru) → without_entry place (map (fru_entry configs) frus) ≡ map (fru_entry configs) (without place frus)
+without_is : (configs : List Config) (place : Place) (frus : List Fru)
+    → without_entry place (map (fru_entry configs) frus) ≡ map (fru_entry configs) (without place frus)
 without_is configs place [] = refl
 without_is configs place (fru ∷ frus) = by (is_eq (place_cmp place fru.place)) (without_is configs place frus)
   where
@@ -82,7 +84,8 @@ breaks_by (rules.NoEnd area) refusal read is gives = gives
 
 -- bytes that break a rule are refused by it
 pub broken : (old new : View) (place : Place) (bytes : List ℕ) (rule : FruFault) (refusal : Refusal) → holds_place old.entries place ≡ false
-    → GivesFault rule (record_of bytes) → record_refusal rule ≡ Some refusal → new ≡ record old { changes = [] } → Tries old (Plug place bytes) (Some refusal) new
+    → GivesFault rule (record_of bytes) → record_refusal rule ≡ Some refusal → new ≡ record old { changes = [] }
+    → Tries old (Plug place bytes) (Some refusal) new
 broken old new place bytes rule refusal free breaks is left =
     refused old new (Plug place bytes) refusal
     (λ past stood. ap (λ (there : Bool). cond there (Some Occupied) (broken_rule (record_of bytes))) (is_known old past place false stood free)
@@ -154,7 +157,8 @@ pub duplicate : (old new : View) (config : Config) → old.plugged ≡ false →
     → new ≡ record old { changes = [] } → Tries old (Configure config) (Some DuplicateName) new
 duplicate old new config is_new has left =
     refused old new (Configure config) DuplicateName
-    (λ past stood. tests_are old past config stood ∙ ap₂ (λ (plugged named : Bool). by_tests plugged named (nat_le most_configs (length old.configs))) is_new has)
+    (λ past stood. tests_are old past config stood ∙ ap₂ (λ (plugged named : Bool). by_tests plugged named
+    (nat_le most_configs (length old.configs))) is_new has)
     left
 
 pub full : (old new : View) (config : Config) → old.plugged ≡ false → is_some (number_of old.configs config.name) ≡ false

@@ -12,7 +12,8 @@ use Rattle.found_set.specs.Events.{PlugEvent}
 use Rattle.bmc_replay.proofs.KeysLemmas.{moves}
 use Rattle.bmc_replay.proofs.BusyLemmas.{busy_among}
 use Rattle.bmc_replay.proofs.IdleLemmas.{idle_boards, idle_moves}
-use Rattle.bmc_replay.proofs.EventsLemmas.{on_err, new_place, known_entry, plug_among, difference_is, gone_within, staged_within, tells_those, set_after, rows_plugged}
+use Rattle.bmc_replay.proofs.EventsLemmas.{on_err, new_place, known_entry, plug_among, difference_is, gone_within, staged_within, tells_those}
+use Rattle.bmc_replay.proofs.EventsLemmas.{set_after, rows_plugged}
 use Rattle.bmc_replay.proofs.state.State.add_fru.Goals as goal
 
 pub prepare_plug-requires-clause-new : goal.prepare_plug-requires-clause-new
@@ -22,7 +23,8 @@ prepare_plug-requires-clause-new g c =
 
 pub prepare_plug-requires-clause-known : goal.prepare_plug-requires-clause-known
 prepare_plug-requires-clause-known g c =
-    known_entry c.self.inside.set.rules c.self.inside.shelf c.deref-entry.result.now c.args.place c.args.fru c.self.invariant.rules (c.deref-entry.ensures ∙ c.in_ok-boxed.ensures.ok ∙ c.in_ok-made.ensures.ok)
+    known_entry c.self.inside.set.rules c.self.inside.shelf c.deref-entry.result.now c.args.place c.args.fru c.self.invariant.rules
+    (c.deref-entry.ensures ∙ c.in_ok-boxed.ensures.ok ∙ c.in_ok-made.ensures.ok)
 
 pub difference_by-requires : goal.difference_by-requires
 difference_by-requires g c =
@@ -43,7 +45,8 @@ returns-in_err-gone-clause-same g c =
 
 pub tell_changes-requires-clause-staged : goal.tell_changes-requires-clause-staged
 tell_changes-requires-clause-staged g c =
-    staged_within _ _ _ _ _ _ _ (difference_is c.self.inside.shelf c.self.inside.shelf c.of-before.result c.with-after.result c.self.inside.set.rules c.self.inside.set.rules
+    staged_within _ _ _ _ _ _ _ (difference_is c.self.inside.shelf c.self.inside.shelf c.of-before.result c.with-after.result
+    c.self.inside.set.rules c.self.inside.set.rules
     c.self.inside.rows.entries (with_entry c.in_ok-boxed.boxed.value c.self.inside.rows.entries) c.self.inside.set.rows _
     c.in_ok-difference.difference.gone_boards c.in_ok-difference.difference.new_boards c.self.invariant.rules c.self.invariant.rows
     (c.of-before.ensures.facts ∙ c.facts.ensures.current
@@ -58,7 +61,8 @@ tell_changes-requires-clause-staged g c =
 
 pub tell_changes-requires-clause-gone : goal.tell_changes-requires-clause-gone
 tell_changes-requires-clause-gone g c =
-    gone_within _ _ _ _ _ _ _ (difference_is c.self.inside.shelf c.self.inside.shelf c.of-before.result c.with-after.result c.self.inside.set.rules c.self.inside.set.rules
+    gone_within _ _ _ _ _ _ _ (difference_is c.self.inside.shelf c.self.inside.shelf c.of-before.result c.with-after.result c.self.inside.set.rules
+    c.self.inside.set.rules
     c.self.inside.rows.entries (with_entry c.in_ok-boxed.boxed.value c.self.inside.rows.entries) c.self.inside.set.rows _
     c.in_ok-difference.difference.gone_boards c.in_ok-difference.difference.new_boards c.self.invariant.rules c.self.invariant.rows
     (c.of-before.ensures.facts ∙ c.facts.ensures.current
@@ -152,7 +156,8 @@ returns-clause-ok g c =
           (c.deref-entry.ensures ∙ c.in_ok-boxed.ensures.ok ∙ c.in_ok-made.ensures.ok);
       plugged = refl;
       moves =
-          moves old new [] _ _ _ _ _ (sym (append-nil c.self.inside.shelf)) (difference_is c.self.inside.shelf c.self.inside.shelf c.of-before.result c.with-after.result c.self.inside.set.rules c.self.inside.set.rules
+          moves old new [] _ _ _ _ _ (sym (append-nil c.self.inside.shelf))
+          (difference_is c.self.inside.shelf c.self.inside.shelf c.of-before.result c.with-after.result c.self.inside.set.rules c.self.inside.set.rules
           c.self.inside.rows.entries c.plug-2.new.self.entries c.self.inside.set.rows _
           c.in_ok-difference.difference.gone_boards c.in_ok-difference.difference.new_boards c.self.invariant.rules c.self.invariant.rows
           (c.of-before.ensures.facts ∙ c.facts.ensures.current

@@ -15,7 +15,8 @@ use Rattle.bmc_replay.specs.Changes.{IsDifference, AreWithin}
 use Rattle.bmc_replay.specs.Steps.{Tries}
 use Rattle.bmc_replay.proofs.KeysLemmas.{moves}
 use Rattle.bmc_replay.proofs.StepsLemmas.{configured}
-use Rattle.bmc_replay.proofs.EventsLemmas.{on_err, no_number, new_name, rules_more, difference_is, gone_within, within_more, staged_within, tells_those, no_entries}
+use Rattle.bmc_replay.proofs.EventsLemmas.{on_err, no_number, new_name, rules_more, difference_is, gone_within, within_more, staged_within, tells_those}
+use Rattle.bmc_replay.proofs.EventsLemmas.{no_entries}
 use Rattle.bmc_replay.proofs.state.State.configure.Goals as goal
 
 pub prepare_config-requires-clause-new : goal.prepare_config-requires-clause-new
@@ -45,9 +46,11 @@ returns-in_err-add-clause-same g c =
 
 pub tell_changes-requires-clause-staged : goal.tell_changes-requires-clause-staged
 tell_changes-requires-clause-staged g c =
-    staged_within _ _ _ _ _ _ _ (subst (λ (configs : List Config). IsDifference (length c.self.inside.shelf) (length configs) (boards_in c.self.inside.shelf (map entry_sight c.self.inside.rows.entries))
+    staged_within _ _ _ _ _ _ _ (subst (λ (configs : List Config). IsDifference (length c.self.inside.shelf) (length configs)
+    (boards_in c.self.inside.shelf (map entry_sight c.self.inside.rows.entries))
     (boards_in configs (map entry_sight c.self.inside.rows.entries)) c.in_ok-difference.difference.gone_boards c.in_ok-difference.difference.new_boards)
-    (sym c.in_ok-add.ensures.ok) (difference_is c.self.inside.shelf (c.self.inside.shelf ++ c.args.config ∷ []) c.of-before.result c.of-after.result c.self.inside.set.rules _
+    (sym c.in_ok-add.ensures.ok) (difference_is c.self.inside.shelf (c.self.inside.shelf ++ c.args.config ∷ []) c.of-before.result
+    c.of-after.result c.self.inside.set.rules _
     c.self.inside.rows.entries c.self.inside.rows.entries c.self.inside.set.rows c.self.inside.set.rows
     c.in_ok-difference.difference.gone_boards c.in_ok-difference.difference.new_boards c.self.invariant.rules c.self.invariant.rows
     (c.of-before.ensures.facts ∙ c.facts.ensures.current
@@ -64,7 +67,8 @@ pub tell_changes-requires-clause-gone : goal.tell_changes-requires-clause-gone
 tell_changes-requires-clause-gone g c =
     subst (λ (configs : List Config). AreWithin c.in_ok-gone.gone (length configs)) (sym c.in_ok-add.ensures.ok)
     (within_more c.in_ok-gone.gone c.self.inside.shelf c.args.config
-    (gone_within _ _ _ _ _ _ _ (difference_is c.self.inside.shelf (c.self.inside.shelf ++ c.args.config ∷ []) c.of-before.result c.of-after.result c.self.inside.set.rules _
+    (gone_within _ _ _ _ _ _ _ (difference_is c.self.inside.shelf (c.self.inside.shelf ++ c.args.config ∷ []) c.of-before.result c.of-after.result
+    c.self.inside.set.rules _
     c.self.inside.rows.entries c.self.inside.rows.entries c.self.inside.set.rows c.self.inside.set.rows
     c.in_ok-difference.difference.gone_boards c.in_ok-difference.difference.new_boards c.self.invariant.rules c.self.invariant.rows
     (c.of-before.ensures.facts ∙ c.facts.ensures.current
@@ -97,9 +101,11 @@ returns-clause-tried g c =
     (configured old new c.args.config c.if-self.false (no_entries c.self.inside.plugged c.self.inside.rows.entries c.if-self.false c.self.invariant.none)
     (no_number c.self.inside.shelf c.name.result c.args.config c.position.result c.position.ensures c.name.ensures (sym c.is_some.ensures ∙ c.if-is_some.false))
     (lt-leb most_configs (length c.self.inside.shelf) (omega (arith, c.len.ensures.value, c.if-len-ge-MOST_CONFIGS.false))) c.in_ok-add.ensures.ok refl refl
-    (moves old new (c.args.config ∷ []) _ _ _ _ _ c.in_ok-add.ensures.ok (subst (λ (configs : List Config). IsDifference (length c.self.inside.shelf) (length configs) (boards_in c.self.inside.shelf (map entry_sight c.self.inside.rows.entries))
+    (moves old new (c.args.config ∷ []) _ _ _ _ _ c.in_ok-add.ensures.ok (subst (λ (configs : List Config). IsDifference
+    (length c.self.inside.shelf) (length configs) (boards_in c.self.inside.shelf (map entry_sight c.self.inside.rows.entries))
     (boards_in configs (map entry_sight c.self.inside.rows.entries)) c.in_ok-difference.difference.gone_boards c.in_ok-difference.difference.new_boards)
-    (sym c.in_ok-add.ensures.ok) (difference_is c.self.inside.shelf (c.self.inside.shelf ++ c.args.config ∷ []) c.of-before.result c.of-after.result c.self.inside.set.rules _
+    (sym c.in_ok-add.ensures.ok) (difference_is c.self.inside.shelf (c.self.inside.shelf ++ c.args.config ∷ []) c.of-before.result
+    c.of-after.result c.self.inside.set.rules _
     c.self.inside.rows.entries c.self.inside.rows.entries c.self.inside.set.rows c.self.inside.set.rows
     c.in_ok-difference.difference.gone_boards c.in_ok-difference.difference.new_boards c.self.invariant.rules c.self.invariant.rows
     (c.of-before.ensures.facts ∙ c.facts.ensures.current

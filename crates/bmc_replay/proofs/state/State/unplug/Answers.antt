@@ -14,7 +14,8 @@ use Rattle.bmc_replay.proofs.KeysLemmas.{moves}
 use Rattle.bmc_replay.proofs.StepsLemmas.{not_present, unplugged}
 use Rattle.bmc_replay.proofs.BusyLemmas.{busy_among}
 use Rattle.bmc_replay.proofs.IdleLemmas.{idle_boards, idle_moves}
-use Rattle.bmc_replay.proofs.EventsLemmas.{on_err, held_place, unplug_among, difference_is, gone_within, staged_within, tells_those, set_after, rows_unplugged, none_left}
+use Rattle.bmc_replay.proofs.EventsLemmas.{on_err, held_place, unplug_among, difference_is, gone_within, staged_within, tells_those, set_after}
+use Rattle.bmc_replay.proofs.EventsLemmas.{rows_unplugged, none_left}
 use Rattle.bmc_replay.proofs.state.State.unplug.Goals as goal
 
 pub returns-in_default-clause-tried : goal.returns-in_default-clause-tried
@@ -46,7 +47,8 @@ returns-in_err-gone-clause-same g c =
 
 pub tell_changes-requires-clause-staged : goal.tell_changes-requires-clause-staged
 tell_changes-requires-clause-staged g c =
-    staged_within _ _ _ _ _ _ _ (difference_is c.self.inside.shelf c.self.inside.shelf c.of-before.result c.without-after.result c.self.inside.set.rules c.self.inside.set.rules
+    staged_within _ _ _ _ _ _ _ (difference_is c.self.inside.shelf c.self.inside.shelf c.of-before.result c.without-after.result
+    c.self.inside.set.rules c.self.inside.set.rules
     c.self.inside.rows.entries (without_entry c.args.place c.self.inside.rows.entries) c.self.inside.set.rows _
     c.in_ok-difference.difference.gone_boards c.in_ok-difference.difference.new_boards c.self.invariant.rules c.self.invariant.rows
     (c.of-before.ensures.facts ∙ c.facts.ensures.current
@@ -60,7 +62,8 @@ tell_changes-requires-clause-staged g c =
 
 pub tell_changes-requires-clause-gone : goal.tell_changes-requires-clause-gone
 tell_changes-requires-clause-gone g c =
-    gone_within _ _ _ _ _ _ _ (difference_is c.self.inside.shelf c.self.inside.shelf c.of-before.result c.without-after.result c.self.inside.set.rules c.self.inside.set.rules
+    gone_within _ _ _ _ _ _ _ (difference_is c.self.inside.shelf c.self.inside.shelf c.of-before.result c.without-after.result
+    c.self.inside.set.rules c.self.inside.set.rules
     c.self.inside.rows.entries (without_entry c.args.place c.self.inside.rows.entries) c.self.inside.set.rows _
     c.in_ok-difference.difference.gone_boards c.in_ok-difference.difference.new_boards c.self.invariant.rules c.self.invariant.rows
     (c.of-before.ensures.facts ∙ c.facts.ensures.current
@@ -79,7 +82,8 @@ invariant_of-self-2 g c =
       rules = now.0 ∙ c.self.invariant.rules;
       rows = now.1 ∙ rows_unplugged c.self.inside.set.rows c.self.inside.rows.entries c.unplug-2.new.self.entries c.args.place c.self.invariant.rows
           c.unplug-2.ensures.entries;
-      none = none_left c.self.inside.plugged c.self.inside.rows.entries c.unplug-2.new.self.entries c.args.place c.self.invariant.none c.unplug-2.ensures.entries;
+      none = none_left c.self.inside.plugged c.self.inside.rows.entries c.unplug-2.new.self.entries c.args.place c.self.invariant.none
+          c.unplug-2.ensures.entries;
     }
 
 pub returns-clause-tried : goal.returns-clause-tried
@@ -100,7 +104,8 @@ returns-clause-tried g c =
     } in
     subst (λ (view : View). Tries view (Unplug c.args.place) None new) c.self.view_is
     (unplugged old new c.args.place (sym c.in-Some.ensures.held) refl c.unplug-2.ensures.entries refl
-    (moves old new [] _ _ _ _ _ (sym (append-nil c.self.inside.shelf)) (difference_is c.self.inside.shelf c.self.inside.shelf c.of-before.result c.without-after.result c.self.inside.set.rules c.self.inside.set.rules
+    (moves old new [] _ _ _ _ _ (sym (append-nil c.self.inside.shelf))
+    (difference_is c.self.inside.shelf c.self.inside.shelf c.of-before.result c.without-after.result c.self.inside.set.rules c.self.inside.set.rules
     c.self.inside.rows.entries c.unplug-2.new.self.entries c.self.inside.set.rows _
     c.in_ok-difference.difference.gone_boards c.in_ok-difference.difference.new_boards c.self.invariant.rules c.self.invariant.rows
     (c.of-before.ensures.facts ∙ c.facts.ensures.current
