@@ -1,7 +1,6 @@
 -- Two lists of boards that ascend are gone through together.
-use Rattle.std.proofs.Common.{◌≡◌, ◌∙◌, ℕ, suc, ◌+◌, ◌<◌, Bool, true, false, cond, ◌||◌, List, [], ◌∷◌, ◌++◌, Option, Some, None}
-use Rattle.std.proofs.Common.{map, length, take, drop, get_or}
-use Rattle.std.proofs.Common.{refl, sym, ap, ap₂, subst, arith}
+use Rattle.std.proofs.Common.{◌≡◌, ◌∙◌, ℕ, suc, ◌+◌, ◌<◌, Bool, true, false, cond, ◌||◌, List, [], ◌∷◌, ◌++◌, Option, Some, None, map, length}
+use Rattle.std.proofs.Common.{take, drop, get_or, refl, sym, ap, ap₂, subst, arith}
 use Rattle.std.specs.Option.{option_eq, option_cmp}
 use Rattle.std.specs.List.{list_all, AllByRecursion}
 use Rattle.std.specs.List.Sorted.{IsStrictlySortedBy}

@@ -1,5 +1,6 @@
 -- Entries in boxes.
-use Rattle.std.proofs.Common.{◌≡◌, ◌∙◌, ℕ, suc, ◌≤◌, ◌<◌, ◌+◌, true, false, cond, List, [], ◌∷◌, ◌++◌, length, take, drop, get_or, slice_get, Some, None, option_map, refl, sym, ap, ap₂, subst, arith}
+use Rattle.std.proofs.Common.{◌≡◌, ◌∙◌, ℕ, suc, ◌≤◌, ◌<◌, ◌+◌, true, false, cond, List, [], ◌∷◌, ◌++◌, length, take, drop}
+use Rattle.std.proofs.Common.{get_or, slice_get, Some, None, option_map, refl, sym, ap, ap₂, subst, arith}
 use Rattle.std.specs.Global.{Box}
 use Rattle.std.specs.List.{insert, remove, prefix_len, take-map, drop-map}
 use Rattle.std.specs.List.Sorted.{IsPartitionedBy, IsPartitionPoint}
