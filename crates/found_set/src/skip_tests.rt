@@ -11,8 +11,8 @@ use std::alloc::Global;
 use std::process::Abort;
 use std::test::Fail;
 
-// Six configurations: a riser that opens bus 20, one whose FRUs may open bus 30, one with two patterns, and
-// three that ask for others.
+// Six configurations: a riser that opens bus 20, one whose FRUs may open bus 30, one with a pattern alone,
+// and three that ask for others, of which one opens bus 40.
 fn configured(alloc: Global, steps: &mut Steps<Silent>) -> Result<FoundSet<Silent>, Fail>
     ensures rules { IfOk result (λ set. length set.rules ≡ 6) }
     ensures rows { IfOk result (λ set. set.rows ≡ []) }
@@ -206,26 +206,47 @@ fn many_events_give_the_facts_of_a_new_set(rt: HostRuntime) -> Result<(), Fail> 
     Ok(())
 }
 
+// An entry that comes to a place with a hit of one configuration, or goes, and how many probes were
+// evaluated up to then.
+type Event = (bool, (u32, u32), u32, u64);
+
+fn assert_evals(
+    rt: &impl Abort,
+    set: &mut FoundSet<Silent>,
+    alloc: Global,
+    events: &[Event],
+    steps: &mut Steps<Silent>,
+) -> Result<(), Fail>
+    requires { length set.old.rules ≡ 6 }
+{
+    for (comes, (bus, address), config, evals) in events {
+        let place = place(*bus, *address)?;
+        if *comes {
+            put(set, alloc, place, one_hit(*config), steps)?;
+        } else {
+            take(set, alloc, place, steps)?;
+        }
+        assert_eq!(rt; steps.evals(), *evals, "bus {bus}, address {address}");
+    }
+    Ok(())
+}
+
 #[test]
 fn covered_entries_cost_nothing(rt: HostRuntime) -> Result<(), Fail> {
     let alloc = rt.alloc();
     let mut steps = Steps::new(Silent);
     let mut set = configured(alloc, &mut steps)?;
-    assert_eq!(rt; steps.evals(), 21);
-    // the fourth configuration, and the two behind it
-    put(&mut set, alloc, place(1, 80)?, one_hit(3), &mut steps)?;
-    assert_eq!(rt; steps.evals(), 24);
-    // another on a root bus has each hit, so that nothing changes
-    put(&mut set, alloc, place(2, 80)?, one_hit(3), &mut steps)?;
-    take(&mut set, alloc, place(1, 80)?, &mut steps)?;
-    assert_eq!(rt; steps.evals(), 24);
-    // one that no bus leads to changes nothing and covers nothing
-    put(&mut set, alloc, place(20, 80)?, one_hit(3), &mut steps)?;
-    assert_eq!(rt; steps.evals(), 24);
-    take(&mut set, alloc, place(2, 80)?, &mut steps)?;
-    assert_eq!(rt; steps.evals(), 27);
-    assert_same(&rt, &set.facts(), &configured(alloc, &mut steps)?.facts());
-    Ok(())
+    let events = [
+        // the fourth configuration, and the two behind it, which ask for others
+        (true, (1, 80), 3, 24),
+        // another on a root bus has each hit, so that nothing changes
+        (true, (2, 80), 3, 24),
+        (false, (1, 80), 3, 24),
+        // one that no bus leads to changes nothing, and covers nothing
+        (true, (20, 80), 3, 24),
+        (false, (2, 80), 3, 27),
+    ];
+    assert_evals(&rt, &mut set, alloc, &events, &mut steps)
 }
 
 #[test]
@@ -233,30 +254,17 @@ fn visible_entries_cover_on_their_buses(rt: HostRuntime) -> Result<(), Fail> {
     let alloc = rt.alloc();
     let mut steps = Steps::new(Silent);
     let mut set = configured(alloc, &mut steps)?;
-    put(&mut set, alloc, place(1, 80)?, one_hit(0), &mut steps)?;
-    // the first configuration opens bus 20, and all six are evaluated
-    assert_eq!(rt; steps.evals(), 27);
-    put(&mut set, alloc, place(20, 80)?, one_hit(3), &mut steps)?;
-    // six in each pass, since the entry is seen beyond the root buses
-    assert_eq!(rt; steps.evals(), 39);
-    put(&mut set, alloc, place(20, 81)?, one_hit(3), &mut steps)?;
-    assert_eq!(rt; steps.evals(), 39);
-    // an entry on a root bus counts in the first pass, where one on bus 20 does not
-    put(&mut set, alloc, place(2, 80)?, one_hit(3), &mut steps)?;
-    assert_eq!(rt; steps.evals(), 51);
-    // and it covers both on bus 20
-    take(&mut set, alloc, place(20, 80)?, &mut steps)?;
-    take(&mut set, alloc, place(20, 81)?, &mut steps)?;
-    assert_eq!(rt; steps.evals(), 51);
-    for (config, wanted) in [
-        (0, true),
-        (1, false),
-        (2, true),
-        (3, true),
-        (4, true),
-        (5, true),
-    ] {
-        assert_eq!(rt; set.facts().found(config), wanted, "configuration {config}");
-    }
-    Ok(())
+    let events = [
+        // the first configuration, which opens bus 20, and the three behind it that ask for others
+        (true, (1, 80), 0, 25),
+        // six in each pass, since the entry is seen beyond the root buses
+        (true, (20, 80), 3, 37),
+        (true, (20, 81), 3, 37),
+        // an entry on a root bus counts in the first pass, where one on bus 20 does not
+        (true, (2, 80), 3, 49),
+        // and it covers both on bus 20
+        (false, (20, 80), 3, 49),
+        (false, (20, 81), 3, 49),
+    ];
+    assert_evals(&rt, &mut set, alloc, &events, &mut steps)
 }

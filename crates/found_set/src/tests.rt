@@ -124,8 +124,8 @@ fn entries_open_buses(rt: HostRuntime) -> Result<(), Fail> {
     let riser = Place::new(1, 80).unwrap();
     let facts = plug(&mut set, alloc, riser, 0, &mut steps)?;
     assert_facts(&rt, &facts, &[(0, true), (1, true)], true);
-    // three for the configurations, none for the first entry, and four for the second
-    assert_eq!(rt; steps.evals(), 7);
+    // three for the configurations, none for the first entry, and three for the second
+    assert_eq!(rt; steps.evals(), 6);
     let next = set.prepare_unplug(alloc, riser, &mut steps)?;
     assert_facts(&rt, &set.facts(), &[(0, true), (1, true)], true);
     set.commit(next);
