@@ -16,12 +16,13 @@ use Rattle.probe_lang.specs.declared.rows.Entry.{Entry}
 use Rattle.cfg_json.specs.Configs.{Config, fixed_of}
 use Rattle.cfg_json.specs.Shelves as shelves
 use Rattle.match_rows.specs.Matching.{entry_of}
+use Rattle.match_rows.proofs.RowsLemmas.{found_is_held}
 use Rattle.found_set.specs.declared.facts.Facts.{Facts}
 use Rattle.found_set.specs.declared.row.Row.{Row}
 use Rattle.found_set.specs.Found.{Rule, rule_of, has_name, number_of, facts, is_found, is_reached}
 use Rattle.found_set.specs.Marks.{AreMarked, marks, mark_count}
 use Rattle.found_set.specs.Rows as rows
-use Rattle.found_set.specs.Rows.{row_of, sights_of, is_idle, IsKnown}
+use Rattle.found_set.specs.Rows.{row_of, sights_of, IsKnown}
 use Rattle.found_set.specs.Events.{Event, PlugEvent, UnplugEvent, rules_after, rows_after}
 use Rattle.found_set.specs.Sets.{SetView, after, as_staged, committed}
 use Rattle.inventory.specs.Boards as of_configs
@@ -33,9 +34,10 @@ use Rattle.inventory.proofs.MomentsLemmas.{with_among, found_apart}
 use Rattle.bmc_report.specs.declared.change.Change.{Change}
 use Rattle.bmc_replay.specs.Changes.{IsDifference, AreWithin, Tells}
 use Rattle.bmc_replay.proofs.KeysLemmas.{keys_within}
-use Rattle.bmc_replay.specs.Insides.{busy}
-use Rattle.bmc_replay.proofs.BusyLemmas.{busy_facts, busy_free, busy_held, busy_with, busy_without}
-use Rattle.bmc_replay.proofs.RowsLemmas.{rows_sights, rows_hold, rows_without, entry_is_known}
+use Rattle.fru_rows.specs.Idle.{is_idle, busy}
+use Rattle.bmc_replay.proofs.BusyLemmas.{busy_free, busy_found, busy_with, busy_without}
+use Rattle.bmc_replay.proofs.IdleLemmas.{busy_boards}
+use Rattle.bmc_replay.proofs.RowsLemmas.{rows_sights, rows_hold, rows_with, rows_without, entry_is_known}
 
 pub on_err : {T E P : Type 0} (result : Result T E) → P → OnErr result P
 on_err (Ok value) fact = tt
@@ -44,16 +46,17 @@ on_err (Err fault) fact = fact
 -- ---- what the set asks for
 
 pub new_place : (set_rows : List Row) (entries : List Entry) (entry : Entry) (configs : List Config) (place : Place) (fields : List Field)
-    → set_rows ≡ busy (map row_of entries) → entry ≡ entry_of configs place fields → presents.holds_place entries place ≡ false
+    → set_rows ≡ map row_of (busy entries) → entry ≡ entry_of configs place fields → presents.holds_place entries place ≡ false
     → rows.holds_place set_rows entry.place ≡ false
 new_place set_rows entries entry configs place fields same is free =
     ap₂ (λ (set_rows : List Row) (entry : Entry). rows.holds_place set_rows entry.place) same is
-    ∙ busy_free (map row_of entries) place (rows_hold entries place ∙ free)
+    ∙ rows_hold (busy entries) place ∙ busy_free entries place free
 
-pub held_place : (set_rows : List Row) (entries : List Entry) (place : Place) (entry : Entry) → set_rows ≡ busy (map row_of entries)
-    → find (is_entry_at place) entries ≡ Some entry → is_idle (row_of entry) ≡ false → rows.holds_place set_rows place ≡ true
+pub held_place : (set_rows : List Row) (entries : List Entry) (place : Place) (entry : Entry) → set_rows ≡ map row_of (busy entries)
+    → find (is_entry_at place) entries ≡ Some entry → is_idle entry ≡ false → rows.holds_place set_rows place ≡ true
 held_place set_rows entries place entry same found works =
-    ap (λ (set_rows : List Row). rows.holds_place set_rows place) same ∙ busy_held place entry entries found works
+    ap (λ (set_rows : List Row). rows.holds_place set_rows place) same ∙ rows_hold (busy entries) place
+    ∙ sym (found_is_held place (busy entries)) ∙ ap is_some (busy_found place entry entries found works)
 
 pub known_entry : (rules : List Rule) (configs : List Config) (entry : Entry) (place : Place) (fields : List Field) → rules ≡ rules_of configs
     → entry ≡ entry_of configs place fields → IsKnown rules (row_of entry)
@@ -96,10 +99,21 @@ rules_more rules configs config name probe fixed same named by leads =
 
 -- ---- the two moments
 
+-- the place of an entry is free among the busy ones too
+pub free_there : (entry : Entry) (entries before : List Entry) → presents.holds_place entries entry.place ≡ false → before ≡ busy entries
+    → presents.holds_place before entry.place ≡ false
+free_there entry entries before free same =
+    ap (λ (there : List Entry). presents.holds_place there entry.place) same ∙ busy_free entries entry.place free
+
 pub plug_among : (entry : Entry) (entries before behind : List Entry) → before ≡ entries → behind ≡ with_entry entry entries → IsAmong entry before behind
 plug_among entry entries before behind same with =
     subst (λ (before : List Entry). IsAmong entry before behind) (sym same)
     (subst (λ (behind : List Entry). IsAmong entry entries behind) (sym with) (with_among entry entries))
+
+pub busy_plugged : (entry held : Entry) (entries before behind : List Entry) → entry ≡ held → are_by_place entries ≡ true → is_idle entry ≡ false
+    → before ≡ busy entries → behind ≡ with_entry held before → behind ≡ busy (with_entry held entries)
+busy_plugged entry held entries before behind is order works same with =
+    with ∙ ap (with_entry held) same ∙ busy_with held entries order (ap is_idle (sym is) ∙ works)
 
 pub unplug_among : (place : Place) (entry : Entry) (entries before behind : List Entry) → are_by_place entries ≡ true
     → find (is_entry_at place) entries ≡ Some entry → before ≡ entries → behind ≡ without_entry place entries → IsAmong entry behind before
@@ -117,26 +131,33 @@ marked_by held rules sights same =
     subst (λ (held : Facts). IsMarkedBy held (is_found rules sights) (is_reached rules sights)) (sym same)
     (record { found = are_marked (is_found rules sights); reach = are_marked (is_reached rules sights) })
 
-boards_same : (configs : List Config) (moment : Moment) (entries : List Entry) → moment.entries ≡ entries → (number : ℕ)
-    → boards_at configs (is_found (rules_of configs) (map entry_sight entries)) (is_reached (rules_of configs) (map entry_sight entries)) moment number
+boards_same : (configs : List Config) (moment : Moment) (entries : List Entry) → moment.entries ≡ busy entries → (number : ℕ)
+    → boards_at configs (is_found (rules_of configs) (map entry_sight (busy entries))) (is_reached (rules_of configs) (map entry_sight (busy entries)))
+    moment number
     ≡ boards_in configs (map entry_sight entries) number
 unfolding boards_in
-boards_same configs moment entries same number =
-    ap (λ (there : List Entry). boards_at configs (is_found (rules_of configs) (map entry_sight entries))
-    (is_reached (rules_of configs) (map entry_sight entries)) (record { facts = moment.facts; entries = there }) number) same
+boards_same configs moment entries same number = at_busy (busy entries) same ∙ busy_boards configs entries number
+  where
+    at_busy : (there : List Entry) → moment.entries ≡ there
+        → boards_at configs (is_found (rules_of configs) (map entry_sight there)) (is_reached (rules_of configs) (map entry_sight there)) moment number
+        ≡ boards_in configs (map entry_sight there) number
+    at_busy there same =
+        ap (λ (entries : List Entry). boards_at configs (is_found (rules_of configs) (map entry_sight there))
+        (is_reached (rules_of configs) (map entry_sight there)) (record { facts = moment.facts; entries = entries }) number) same
 
 facts_same : (held : Facts) (configs : List Config) (rules : List Rule) (set_rows : List Row) (entries : List Entry) → held ≡ facts rules (sights_of set_rows)
-    → rules ≡ rules_of configs → set_rows ≡ busy (map row_of entries) → held ≡ facts (rules_of configs) (map entry_sight entries)
+    → rules ≡ rules_of configs → set_rows ≡ map row_of (busy entries)
+    → held ≡ facts (rules_of configs) (map entry_sight (busy entries))
 facts_same held configs rules set_rows entries is same rows_same =
     is ∙ ap₂ (λ (rules : List Rule) (set_rows : List Row). facts rules (sights_of set_rows)) same rows_same
-    ∙ busy_facts (rules_of configs) (map row_of entries) ∙ ap (facts (rules_of configs)) (rows_sights entries)
+    ∙ ap (facts (rules_of configs)) (rows_sights (busy entries))
 
 -- what comparing the two moments gives, over what is known at each
 pub difference_is : (configs configs_after : List Config) (before behind : Moment) (rules rules_behind : List Rule) (entries entries_after : List Entry)
     (set_rows rows_behind : List Row) (gone new : List BoardKey)
-    → rules ≡ rules_of configs → set_rows ≡ busy (map row_of entries) → before.facts ≡ facts rules (sights_of set_rows) → before.entries ≡ entries
-    → rules_behind ≡ rules_of configs_after → rows_behind ≡ busy (map row_of entries_after) → behind.facts ≡ facts rules_behind (sights_of rows_behind)
-    → behind.entries ≡ entries_after
+    → rules ≡ rules_of configs → set_rows ≡ map row_of (busy entries) → before.facts ≡ facts rules (sights_of set_rows) → before.entries ≡ busy entries
+    → rules_behind ≡ rules_of configs_after → rows_behind ≡ map row_of (busy entries_after) → behind.facts ≡ facts rules_behind (sights_of rows_behind)
+    → behind.entries ≡ busy entries_after
     → ((found reach found_after reach_after : ℕ → Bool) → IsMarkedBy before.facts found reach → IsMarkedBy behind.facts found_after reach_after
     → (gone ≡ keys_left (length configs) (boards_at configs found reach before) (boards_at configs_after found_after reach_after behind))
     × (new ≡ keys_left (length configs_after) (boards_at configs_after found_after reach_after behind) (boards_at configs found reach before)))
@@ -146,9 +167,9 @@ pub difference_is : (configs configs_after : List Config) (before behind : Momen
 difference_is configs configs_after before behind rules rules_behind entries entries_after set_rows rows_behind gone new same rows_same facts_are entries_are
     same_after rows_after facts_after entries_behind differs =
     let both = differs _ _ _ _
-    (marked_by before.facts (rules_of configs) (map entry_sight entries)
+    (marked_by before.facts (rules_of configs) (map entry_sight (busy entries))
     (facts_same before.facts configs rules set_rows entries facts_are same rows_same))
-    (marked_by behind.facts (rules_of configs_after) (map entry_sight entries_after)
+    (marked_by behind.facts (rules_of configs_after) (map entry_sight (busy entries_after))
     (facts_same behind.facts configs_after rules_behind rows_behind entries_after facts_after same_after rows_after)) in
     record {
       those_gone = both.0 ∙ ap₂ (keys_left (length configs)) (λ i number. boards_same configs before entries entries_are number i)
@@ -195,17 +216,18 @@ pub set_after : (event : Event) (set staged_set now : SetView) → staged_set �
 set_after event set staged_set now staged commits =
     let is = commits ∙ ap committed staged in (ap (λ (set : SetView). set.rules) is, ap (λ (set : SetView). set.rows) is)
 
-pub rows_plugged : (set_rows : List Row) (entries entries_now : List Entry) (entry : Entry) → set_rows ≡ busy (map row_of entries)
-    → presents.are_by_place entries ≡ true → is_idle (row_of entry) ≡ false → entries_now ≡ with_entry entry entries
-    → rows_after (PlugEvent (row_of entry)) set_rows ≡ busy (map row_of entries_now)
+pub rows_plugged : (set_rows : List Row) (entries entries_now : List Entry) (entry : Entry) → set_rows ≡ map row_of (busy entries)
+    → presents.are_by_place entries ≡ true → is_idle entry ≡ false → entries_now ≡ with_entry entry entries
+    → rows_after (PlugEvent (row_of entry)) set_rows ≡ map row_of (busy entries_now)
 rows_plugged set_rows entries entries_now entry same order works now =
-    ap (rows.with_row (row_of entry)) same ∙ busy_with entry entries order works ∙ ap (λ (there : List Entry). busy (map row_of there)) (sym now)
+    ap (rows.with_row (row_of entry)) same ∙ rows_with entry (busy entries)
+    ∙ ap (map row_of) (busy_with entry entries order works ∙ ap busy (sym now))
 
-pub rows_unplugged : (set_rows : List Row) (entries entries_now : List Entry) (place : Place) → set_rows ≡ busy (map row_of entries)
-    → entries_now ≡ without_entry place entries → rows_after (UnplugEvent place) set_rows ≡ busy (map row_of entries_now)
+pub rows_unplugged : (set_rows : List Row) (entries entries_now : List Entry) (place : Place) → set_rows ≡ map row_of (busy entries)
+    → entries_now ≡ without_entry place entries → rows_after (UnplugEvent place) set_rows ≡ map row_of (busy entries_now)
 rows_unplugged set_rows entries entries_now place same now =
-    ap (rows.without_row place) same ∙ busy_without place (map row_of entries)
-    ∙ ap busy (rows_without place entries ∙ ap (map row_of) (sym now))
+    ap (rows.without_row place) same ∙ rows_without place (busy entries)
+    ∙ ap (map row_of) (busy_without place entries ∙ ap busy (sym now))
 
 -- no FRU is left where none was ever plugged
 pub none_left : (plugged : Bool) (entries entries_now : List Entry) (place : Place) → (plugged || (length entries == 0)) ≡ true

@@ -1,13 +1,10 @@
 -- Text that is gathered and written.
-use Rattle.std.proofs.Common.{◌≡◌, ◌<◌, ◌+◌, ℕ, length, take, drop, get_or, List, [], ◌∷◌, ◌++◌, refl, ap, sym, ◌∙◌, append_assoc, append-nil}
-use Rattle.std.specs.Global.{Box}
-use Rattle.std.proofs.lemmas.List.{take_more, take-append-drop}
+use Rattle.std.proofs.Common.{◌≡◌, ℕ, List, [], ◌∷◌, ◌++◌, refl, ap, sym, subst, ◌∙◌, append_assoc, append-nil}
 use Rattle.bmc_io.specs.Told.{Told, added}
 use Rattle.bmc_io.specs.Sinks.{AppendsFront}
 use Rattle.bmc_io.proofs.ToldLemmas.{added_none, added_more}
 use Rattle.bmc_io.proofs.Fronts.{front_so_far, front_after}
 use Rattle.probe_lang.specs.declared.rows.Entry.{Entry}
-use Rattle.probe_lang.specs.Presents.{unboxed}
 use Rattle.bmc_replay.specs.Gathering.{Gathers, entry_row, entry_rows}
 
 -- nothing was added and nothing written
@@ -52,47 +49,55 @@ gathers_cut old mid new text held added_first gathers front =
     front_after old mid new gathers.written held (text ++ added_first) [] gathers.told front
     (sym gathers.parts ∙ ap (λ (rest : List ℕ). gathers.written ++ rest) (sym (append-nil held)))
 
--- the rows of the entries in these boxes
-abbrev pub rows_of : List (Box Entry) → List ℕ
-rows_of entries = entry_rows (unboxed entries)
+-- ---- the rows of entries
 
-rows-append : (done rest : List (Box Entry)) → rows_of (done ++ rest) ≡ rows_of done ++ rows_of rest
+rows-append : (done rest : List Entry) → entry_rows (done ++ rest) ≡ entry_rows done ++ entry_rows rest
 rows-append [] rest = refl
 rows-append (entry ∷ done) rest =
-    ap (λ (rows : List ℕ). entry_row entry.value ++ rows) (rows-append done rest)
-    ∙ sym (append_assoc (entry_row entry.value) (rows_of done) (rows_of rest))
+    ap (λ (rows : List ℕ). entry_row entry ++ rows) (rows-append done rest) ∙ sym (append_assoc (entry_row entry) (entry_rows done) (entry_rows rest))
 
--- the rows of the entries up to the one at an index and with it
-rows_next : (entries : List (Box Entry)) (i : ℕ) (entry : Box Entry) → i < length entries → entry ≡ get_or entries i entry
-    → rows_of (take (i + 1) entries) ≡ rows_of (take i entries) ++ entry_row entry.value
-rows_next entries i entry within is =
-    ap (λ (done : List (Box Entry)). rows_of done) (take_more entries i entry within ∙ ap (λ (last : Box Entry). take i entries ++ last ∷ []) (sym is))
-    ∙ rows-append (take i entries) (entry ∷ []) ∙ ap (λ (rows : List ℕ). rows_of (take i entries) ++ rows) (append-nil (entry_row entry.value))
+-- of all entries the rows of those at the front are gathered, and these are left
+pub record GathersFront (old new : Told) (text held : List ℕ) (all rest : List Entry) : Type 0 where
+  pub done : List Entry
+  pub split : all ≡ done ++ rest
+  pub rows : Gathers old new text held (entry_rows done)
 
--- all rows, by those that came before
-rows_split : (entries : List (Box Entry)) (i : ℕ) → rows_of entries ≡ rows_of (take i entries) ++ rows_of (drop i entries)
-rows_split entries i =
-    ap (λ (all : List (Box Entry)). rows_of all) (sym (take-append-drop i entries)) ∙ rows-append (take i entries) (drop i entries)
+pub rows_none : (told : Told) (text : List ℕ) (entries : List Entry) → GathersFront told told text text entries entries
+rows_none told text entries = record { done = []; split = refl; rows = gathers_nothing told text }
 
 -- a row more
-pub rows_more : (entries : List (Box Entry)) (i : ℕ) (entry : Box Entry) (old mid new : Told) (text held grown left : List ℕ) → i < length entries
-    → entry ≡ get_or entries i entry → Gathers old mid text held (rows_of (take i entries)) → grown ≡ held ++ entry_row entry.value
-    → Gathers mid new grown left [] → Gathers old new text left (rows_of (take (i + 1) entries))
-rows_more entries i entry old mid new text held grown left within is rows row gathers =
-    rw (rows_next entries i entry within is)
-    (gathers_more old mid new text held grown left (rows_of (take i entries)) (entry_row entry.value) rows row gathers)
+pub rows_more : (old mid new : Told) (text held grown left : List ℕ) (all rest later : List Entry) (entry : Entry)
+    → GathersFront old mid text held all rest → rest ≡ entry ∷ later → grown ≡ held ++ entry_row entry → Gathers mid new grown left []
+    → GathersFront old new text left all later
+rows_more old mid new text held grown left all rest later entry front next row gathers = record {
+  done = front.done ++ entry ∷ [];
+  split = front.split ∙ ap (λ (rest : List Entry). front.done ++ rest) next ∙ sym (append_assoc front.done (entry ∷ []) later);
+  rows =
+      subst (λ (rows : List ℕ). Gathers old new text left rows) (sym (rows-append front.done (entry ∷ [])
+      ∙ ap (λ (rows : List ℕ). entry_rows front.done ++ rows) (append-nil (entry_row entry))))
+      (gathers_more old mid new text held grown left (entry_rows front.done) (entry_row entry) front.rows row gathers);
+}
+
+-- none is left
+pub rows_all : (old new : Told) (text held : List ℕ) (all rest : List Entry) → GathersFront old new text held all rest → rest ≡ []
+    → Gathers old new text held (entry_rows all)
+rows_all old new text held all rest front none =
+    subst (λ (entries : List Entry). Gathers old new text held (entry_rows entries))
+    (sym (front.split ∙ ap (λ (rest : List Entry). front.done ++ rest) none ∙ append-nil front.done)) front.rows
+
+-- all rows, by those that are gathered
+rows_split : (all done rest : List Entry) → all ≡ done ++ rest → entry_rows all ≡ entry_rows done ++ entry_rows rest
+rows_split all done rest split = ap entry_rows split ∙ rows-append done rest
 
 -- it stops before a row
-pub rows_front : (entries : List (Box Entry)) (i : ℕ) (old new : Told) (text held : List ℕ) → Gathers old new text held (rows_of (take i entries))
-    → AppendsFront old new (text ++ rows_of entries)
-rows_front entries i old new text held rows =
-    rw (rows_split entries i) (gathers_front old new text held (rows_of (take i entries)) (rows_of (drop i entries)) rows)
+pub rows_front : (old new : Told) (text held : List ℕ) (all rest : List Entry) → GathersFront old new text held all rest
+    → AppendsFront old new (text ++ entry_rows all)
+rows_front old new text held all rest front =
+    rw (rows_split all front.done rest front.split) (gathers_front old new text held (entry_rows front.done) (entry_rows rest) front.rows)
 
 -- it stops where a row was gathered
-pub rows_stopped : (entries : List (Box Entry)) (i : ℕ) (entry : Box Entry) (old mid new : Told) (text held grown : List ℕ) → i < length entries
-    → entry ≡ get_or entries i entry → Gathers old mid text held (rows_of (take i entries)) → grown ≡ held ++ entry_row entry.value
-    → AppendsFront mid new grown → AppendsFront old new (text ++ rows_of entries)
-rows_stopped entries i entry old mid new text held grown within is rows row front =
-    rw (rows_split entries (i + 1) ∙ ap (λ (done : List ℕ). done ++ rows_of (drop (i + 1) entries)) (rows_next entries i entry within is)
-    ∙ append_assoc (rows_of (take i entries)) (entry_row entry.value) (rows_of (drop (i + 1) entries)))
-    (gathers_stopped old mid new text held grown (rows_of (take i entries)) (entry_row entry.value) (rows_of (drop (i + 1) entries)) rows row front)
+pub rows_stopped : (old mid new : Told) (text held grown : List ℕ) (all rest later : List Entry) (entry : Entry) → GathersFront old mid text held all rest
+    → rest ≡ entry ∷ later → grown ≡ held ++ entry_row entry → AppendsFront mid new grown → AppendsFront old new (text ++ entry_rows all)
+rows_stopped old mid new text held grown all rest later entry front next row stops =
+    rw (rows_split all front.done rest front.split ∙ ap (λ (rest : List Entry). entry_rows front.done ++ entry_rows rest) next)
+    (gathers_stopped old mid new text held grown (entry_rows front.done) (entry_row entry) (entry_rows later) front.rows row stops)

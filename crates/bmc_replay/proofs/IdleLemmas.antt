@@ -1,8 +1,10 @@
 -- FRUs without hits and channels change nothing that is found, reachable or a board.
-use Rattle.std.proofs.Common.{◌≡◌, ℕ, ◌+◌, List, [], ◌∷◌, ◌++◌, map, length, Bool, true, false, cond, ◌&&◌, ◌||◌, nat_eq, Option, refl, ap, ap₂, sym, ◌∙◌, inl}
+use Rattle.std.proofs.Common.{◌≡◌, ℕ, ◌+◌, List, [], ◌∷◌, ◌++◌, map, length, Bool, true, false, cond, not, ◌==◌, ◌&&◌, ◌||◌, nat_eq, Option, append_assoc, arith}
+use Rattle.std.proofs.Common.{refl, ap, ap₂, sym, ◌∙◌, inl}
 use Rattle.std.specs.Prelude.{slice_get, option_map}
 use Rattle.std.specs.List.{list_any, flat_map, range_with_len}
 use Rattle.std.specs.Option.{unwrap_or}
+use Rattle.std.proofs.lemmas.Bool.Decides.{nat_tests}
 use Rattle.bmc_base.specs.Places.{Place}
 use Rattle.probe_lang.specs.Sights.{Sight, entry_sight, has_hit, has_config, has_channel}
 use Rattle.probe_lang.specs.declared.rows.Entry.{Entry}
@@ -11,7 +13,7 @@ use Rattle.probe_lang.specs.declared.rows.Channel.{Channel}
 use Rattle.cfg_json.specs.Configs.{Config}
 use Rattle.found_set.specs.Marks.{is_marked}
 use Rattle.found_set.specs.Found.{Rule, found_from, found, matched_by, on_buses, is_root, roots, moves_to, opens, is_reached, is_found}
-use Rattle.found_set.specs.Rows.{row_of, is_idle}
+use Rattle.fru_rows.specs.Idle.{is_idle, busy}
 use Rattle.inventory.specs.Boards.{boards_in, board_places, places_or_none, rules_of, has_board}
 use Rattle.inventory.specs.Indexes.{kept_of, except, with_boards}
 use Rattle.inventory.specs.Differences.{key_of}
@@ -20,8 +22,16 @@ use Rattle.inventory.proofs.BoardLemmas.{pass_all, except_none}
 use Rattle.inventory.proofs.MomentsLemmas.{hits_stay}
 use Rattle.inventory.specs.declared.board.BoardKey.{BoardKey}
 use Rattle.bmc_machine.specs.Changes.{changes_between, board_change}
-use Rattle.bmc_replay.proofs.BusyLemmas.{idle_parts}
 use Rattle.bmc_replay.specs.States.{View, view_boards, Moves}
+
+empties : (hits : List Hit) (channels : List Channel) → (length hits == 0 && length channels == 0) ≡ true → (hits ≡ []) × (channels ≡ [])
+empties [] [] none = (refl, refl)
+empties [] (channel ∷ channels) none = absurd (grind (arith, nat_tests))
+empties (hit ∷ hits) channels none = absurd (grind (arith, nat_tests))
+
+-- what an idle entry has
+idle_parts : (entry : Entry) → is_idle entry ≡ true → (entry.hits ≡ []) × (entry.channels ≡ [])
+idle_parts entry idle = empties entry.hits entry.channels idle
 
 -- ---- what is found and reachable over FRUs of which as much is seen
 
@@ -115,13 +125,35 @@ module _ (entry : Entry) (hits : entry.hits ≡ []) (channels : entry.channels �
 -- ---- an idle FRU comes or goes
 
 -- the boards are the same with it and without it
-pub idle_boards : (configs : List Config) (entry : Entry) (others entries : List Entry) → IsAmong entry others entries → is_idle (row_of entry) ≡ true
+pub idle_boards : (configs : List Config) (entry : Entry) (others entries : List Entry) → IsAmong entry others entries → is_idle entry ≡ true
     → (number : ℕ) → boards_in configs (map entry_sight entries) number ≡ boards_in configs (map entry_sight others) number
 idle_boards configs entry others entries among idle number =
-    let parts = idle_parts (row_of entry) idle in
+    let parts = idle_parts entry idle in
     ap (λ (there : List Entry). boards_in configs (map entry_sight there) number) among.with
     ∙ boards_among entry parts.0 parts.1 configs among.front among.back number
     ∙ sym (ap (λ (there : List Entry). boards_in configs (map entry_sight there) number) among.without)
+
+-- so they are the same with the busy FRUs alone
+pub busy_boards : (configs : List Config) (entries : List Entry) (number : ℕ)
+    → boards_in configs (map entry_sight (busy entries)) number ≡ boards_in configs (map entry_sight entries) number
+busy_boards configs entries number = behind [] entries
+  where
+    behind : (front entries : List Entry)
+        → boards_in configs (map entry_sight (front ++ busy entries)) number ≡ boards_in configs (map entry_sight (front ++ entries)) number
+    behind front [] = refl
+    behind front (entry ∷ entries) = by (is_idle entry) refl (λ front. behind front entries)
+      where
+        by : (idle : Bool) → is_idle entry ≡ idle
+            → ((front : List Entry) → boards_in configs (map entry_sight (front ++ busy entries)) number
+            ≡ boards_in configs (map entry_sight (front ++ entries)) number)
+            → boards_in configs (map entry_sight (front ++ cond (not idle) (entry ∷ busy entries) (busy entries))) number
+            ≡ boards_in configs (map entry_sight (front ++ entry ∷ entries)) number
+        by true is rest =
+            let parts = idle_parts entry is in rest front ∙ sym (boards_among entry parts.0 parts.1 configs front entries number)
+        by false is rest =
+            ap (λ (there : List Entry). boards_in configs (map entry_sight there) number) (sym (append_assoc front (entry ∷ []) (busy entries)))
+            ∙ rest (front ++ entry ∷ [])
+            ∙ ap (λ (there : List Entry). boards_in configs (map entry_sight there) number) (append_assoc front (entry ∷ []) entries)
 
 -- no board is left over of those that are there too
 except_self : (boards : List (Option Place)) → except (has_board boards) boards ≡ []

@@ -2,7 +2,7 @@
 use Rattle.std.proofs.Common.{◌≡◌, ℕ, ◌+◌, ◌<◌, ◌≤◌, List, [], ◌∷◌, map, length, Bool, true, false, not, cond, refl, ap, arith}
 use Rattle.std.specs.Prelude.{◌||◌}
 use Rattle.std.specs.List.{All}
-use Rattle.std.specs.Ordering.{is_eq}
+use Rattle.std.specs.Ordering.{is_lt, is_eq}
 use Rattle.std.proofs.lemmas.List.{length-map}
 use Rattle.std.proofs.lemmas.List.Elements.{All-nil, All-cons, All-append}
 use Rattle.bmc_base.specs.Places.{Place, place_cmp}
@@ -37,6 +37,16 @@ rows_without place (entry ∷ entries) = by (is_eq (place_cmp place entry.place)
         ≡ map row_of (cond (not is_here) (entry ∷ presents.without_entry place entries) (presents.without_entry place entries))
     by true rest = rest
     by false rest = ap (λ (later : List Row). row_of entry ∷ later) rest
+
+pub rows_with : (entry : Entry) (entries : List Entry) → rows.with_row (row_of entry) (map row_of entries) ≡ map row_of (presents.with_entry entry entries)
+rows_with entry [] = refl
+rows_with entry (other ∷ entries) = by (is_lt (place_cmp entry.place other.place)) (rows_with entry entries)
+  where
+    by : (first : Bool) → rows.with_row (row_of entry) (map row_of entries) ≡ map row_of (presents.with_entry entry entries)
+        → cond first (row_of entry ∷ row_of other ∷ map row_of entries) (row_of other ∷ rows.with_row (row_of entry) (map row_of entries))
+        ≡ map row_of (cond first (entry ∷ other ∷ entries) (other ∷ presents.with_entry entry entries))
+    by true rest = refl
+    by false rest = ap (λ (later : List Row). row_of other ∷ later) rest
 
 -- ---- the hits of an entry are of configurations that are there
 

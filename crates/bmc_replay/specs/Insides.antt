@@ -1,7 +1,7 @@
 -- What is seen of a state, and what holds inside.
-use Rattle.std.specs.Prelude.{◌≡◌, true, not, ◌||◌, ◌==◌, List, filter, map, length}
-use Rattle.found_set.specs.Rows.{row_of, is_idle}
-use Rattle.found_set.specs.declared.row.Row.{Row}
+use Rattle.std.specs.Prelude.{◌≡◌, true, ◌||◌, ◌==◌, map, length}
+use Rattle.fru_rows.specs.Idle.{busy}
+use Rattle.found_set.specs.Rows.{row_of}
 use Rattle.inventory.specs.Boards.{rules_of}
 use Rattle.bmc_replay.specs.States.{View}
 use Rattle.bmc_replay.specs.declared.state.State.TheInside.{Inside}
@@ -15,13 +15,9 @@ view_of a = record {
   changes = a.changes.items;
 }
 
--- the rows with hits or channels
-abbrev pub busy : List Row → List Row
-busy rows = filter (λ (row : Row). not (is_idle row)) rows
-
 -- the found set has a rule for each configuration and a row for each FRU with hits or channels, as the others change nothing there; and no
 -- FRU is present where none was ever plugged
 pub record IsSound {L : Type 0} (a : Inside L) : Type 0 where
   pub rules : a.set.rules ≡ rules_of a.shelf
-  pub rows : a.set.rows ≡ busy (map row_of a.rows.entries)
+  pub rows : a.set.rows ≡ map row_of (busy a.rows.entries)
   pub none : (a.plugged || (length a.rows.entries == 0)) ≡ true

@@ -2,14 +2,13 @@ ghost use Rattle.std.specs.Prelude.{◌≡◌, ◌<◌, ◌++◌, [], length, On
 ghost use Rattle.bmc_base.specs.Calls.{HasCause};
 ghost use Rattle.bmc_io.specs.Told.{added};
 ghost use Rattle.bmc_io.specs.Sinks.{AppendsFront};
-ghost use Rattle.probe_lang.specs.Presents.{unboxed};
 ghost use Rattle.bmc_replay.specs.Statuses.{WriteCause};
 ghost use Rattle.bmc_replay.specs.Gathering.{Gathers, most_gathered, entry_rows};
 
 use crate::stop::Stop;
 use bmc_io::{IoFault, Sink, put_all};
 use bmc_report::push_fru_row;
-use probe_lang::Entry;
+use fru_rows::Entries;
 
 /// How many bytes of text are gathered before they are written.
 pub const GATHERED: usize = 64 * 1024;
@@ -44,18 +43,17 @@ pub fn flush_large<K: Sink>(text: &mut String, output: &mut K) -> Result<(), IoF
 
 /// Gathers the row of each FRU, and writes what grows large on the way.
 pub fn push_list<K: Sink>(
-    entries: &[Box<Entry>],
+    mut entries: Entries<'_>,
     text: &mut String,
     output: &mut K,
 ) -> Result<(), Stop>
     ensures all { OnOk result (Gathers (K.seen output.old).taken (K.seen output.new).taken (string_bytes text.old) (string_bytes text.new)
-        (entry_rows (unboxed entries.now))) }
-    ensures front { OnErr result (AppendsFront (K.seen output.old).taken (K.seen output.new).taken (string_bytes text.old ++ entry_rows (unboxed entries.now))) }
+        (entry_rows entries.entry)) }
+    ensures front { OnErr result (AppendsFront (K.seen output.old).taken (K.seen output.new).taken (string_bytes text.old ++ entry_rows entries.entry)) }
     ensures cause { MatchResult result (λ _. (K.seen output.new).calls.faults ≡ (K.seen output.old).calls.faults)
         (λ stop. WriteCause stop (K.seen output.old).calls (K.seen output.new).calls) }
 {
-    'rows: for stored in entries {
-        let entry: &Entry = stored;
+    while let Some(entry) = entries.next() {
         push_fru_row(text, entry.place, entry.fru.fields())?;
         flush_large(text, output)?;
     }

@@ -1,8 +1,7 @@
 ghost use Rattle.std.specs.Prelude.{◌≡◌, [], false, IfOk, OnOk, OnErr, Some};
 ghost use Rattle.bmc_machine.specs.Histories as histories;
 ghost use Rattle.bmc_replay.specs.States.{no_view, IsSame};
-ghost use Rattle.found_set.specs.Rows.{row_of, is_idle};
-ghost use Rattle.probe_lang.specs.Presents.{unboxed, holds_place};
+ghost use Rattle.probe_lang.specs.Presents.{holds_place};
 ghost use Rattle.bmc_replay.specs.Steps.{AddsFru, Tries};
 
 use crate::changes::{fixed_channels, stage_changes, tell_changes};
@@ -12,8 +11,9 @@ use bmc_report::{Change, Refusal};
 use cfg_json::{Config, MOST_CONFIGS, Shelf};
 use found_set::FoundSet;
 use fru_record::FruRecord;
+use fru_rows::{Entries, FruRows, is_idle};
 use inventory::{IndexKeep, Moment, difference, difference_by};
-use match_rows::{Rows, make};
+use match_rows::make;
 use probe_lang::Entry;
 use std::alloc::Global;
 use std::marker::Model;
@@ -24,7 +24,7 @@ use std::marker::Model;
 #[derive(Drop)]
 pub struct State<L: Ledger> {
     shelf: Shelf<L>,
-    rows: Rows,
+    rows: FruRows,
     set: FoundSet<L>,
     keep: IndexKeep,
     plugged: bool,
@@ -42,20 +42,13 @@ impl<L: Ledger> Model for State<L> {
     ghost invariant = { IsSound };
 }
 
-// Whether a FRU has neither hits nor channels. The found set has no row of it, and no board changes with it.
-fn is_idle(entry: &Entry) -> bool
-    ensures { result ≡ is_idle (row_of entry.now) }
-{
-    entry.hits.as_slice().is_empty() && entry.channels.as_slice().is_empty()
-}
-
 impl<L: Ledger> State<L> {
     /// Returns the state in which nothing has happened.
     pub fn new(alloc: Global) -> Result<State<L>, OutOfMemory>
         ensures { IfOk result (λ state. state ≡ no_view) }
     {
         let shelf = Shelf::new(alloc)?;
-        let rows = Rows::new(alloc)?;
+        let rows = FruRows::new(alloc)?;
         let set = FoundSet::new(alloc)?;
         let keep = IndexKeep::new(alloc)?;
         Ok(State {
@@ -68,9 +61,9 @@ impl<L: Ledger> State<L> {
         })
     }
 
-    /// Borrows the entries of the FRUs that are present, by place.
-    pub fn entries(&self) -> &[Box<Entry>]
-        ensures { unboxed result.now ≡ self.now.entries }
+    /// Returns an iterator over the entries of the FRUs that are present, by place.
+    pub fn entries(&self) -> Entries<'_>
+        ensures { result ≡ self.now.entries }
     {
         self.rows.entries()
     }
@@ -118,8 +111,8 @@ impl<L: Ledger> State<L> {
             fixed.as_slice(),
             steps,
         )?;
-        let before = Moment::of(self.set.facts(), self.rows.entries());
-        let after = Moment::of(next.facts(), self.rows.entries());
+        let before = Moment::of(self.set.facts(), self.rows.busy());
+        let after = Moment::of(next.facts(), self.rows.busy());
         let difference = difference(alloc, &self.shelf, Some(&config), &before, &after)?;
         let gone = stage_changes(alloc, difference, &mut self.keep, &mut self.changes)?;
         self.shelf.add(alloc, config)?;
@@ -178,8 +171,8 @@ impl<L: Ledger> State<L> {
             return Ok(());
         }
         let next = self.set.prepare_plug(alloc, entry, steps)?;
-        let before = Moment::of(self.set.facts(), self.rows.entries());
-        let after = Moment::with(next.facts(), self.rows.entries(), &boxed);
+        let before = Moment::of(self.set.facts(), self.rows.busy());
+        let after = Moment::with(next.facts(), self.rows.busy(), &boxed);
         let difference = difference_by(alloc, &self.shelf, entry, &before, &after)?;
         let gone = stage_changes(alloc, difference, &mut self.keep, &mut self.changes)?;
         self.set.commit(next);
@@ -209,8 +202,8 @@ impl<L: Ledger> State<L> {
             return Ok(None);
         }
         let next = self.set.prepare_unplug(alloc, place, steps)?;
-        let before = Moment::of(self.set.facts(), self.rows.entries());
-        let after = Moment::without(next.facts(), self.rows.entries(), place);
+        let before = Moment::of(self.set.facts(), self.rows.busy());
+        let after = Moment::without(next.facts(), self.rows.busy(), place);
         let difference = difference_by(alloc, &self.shelf, entry, &before, &after)?;
         let gone = stage_changes(alloc, difference, &mut self.keep, &mut self.changes)?;
         self.set.commit(next);

@@ -1,8 +1,9 @@
-use Rattle.std.proofs.Common.{◌≡◌, ◌∙◌, [], true, refl, ap, ap₂, sym, subst, append-nil, inl}
+use Rattle.std.proofs.Common.{◌≡◌, ◌∙◌, List, [], map, true, refl, ap, ap₂, sym, subst, append-nil, inl}
 use Rattle.probe_lang.specs.declared.rows.Entry.{Entry}
 use Rattle.bmc_replay.specs.States.{View}
 use Rattle.bmc_replay.specs.Steps.{AddsFru}
-use Rattle.probe_lang.specs.Presents.{with_entry, are_by_place}
+use Rattle.probe_lang.specs.Presents.{with_entry, are_by_place, holds_place}
+use Rattle.fru_rows.specs.Idle.{busy}
 use Rattle.found_set.specs.Found.{facts}
 use Rattle.found_set.specs.Sets.{SetView}
 use Rattle.found_set.specs.declared.next_facts.NextFacts.{NextFacts}
@@ -12,7 +13,7 @@ use Rattle.found_set.specs.Events.{PlugEvent}
 use Rattle.bmc_replay.proofs.KeysLemmas.{moves}
 use Rattle.bmc_replay.proofs.BusyLemmas.{busy_among}
 use Rattle.bmc_replay.proofs.IdleLemmas.{idle_boards, idle_moves}
-use Rattle.bmc_replay.proofs.EventsLemmas.{on_err, new_place, known_entry, plug_among, difference_is, gone_within, staged_within, tells_those}
+use Rattle.bmc_replay.proofs.EventsLemmas.{on_err, new_place, known_entry, free_there, plug_among, busy_plugged, difference_is, gone_within, staged_within, tells_those}
 use Rattle.bmc_replay.proofs.EventsLemmas.{set_after, rows_plugged}
 use Rattle.bmc_replay.proofs.state.State.add_fru.Goals as goal
 
@@ -26,12 +27,17 @@ prepare_plug-requires-clause-known g c =
     known_entry c.self.inside.set.rules c.self.inside.shelf c.deref-entry.result.now c.args.place c.args.fru c.self.invariant.rules
     (c.deref-entry.ensures ∙ c.in_ok-boxed.ensures.ok ∙ c.in_ok-made.ensures.ok)
 
+pub with-after-requires-clause-free : goal.with-after-requires-clause-free
+with-after-requires-clause-free g c =
+    free_there c.in_ok-boxed.boxed.value c.reserve.new.self.entries _
+    (ap₂ (λ (there : List Entry) (entry : Entry). holds_place there entry.place) c.in_ok-reserve.ensures.entries
+    (c.in_ok-boxed.ensures.ok ∙ c.in_ok-made.ensures.ok) ∙ rw (← c.self.view_is) at c.requires) c.busy-2.ensures.value
+
 pub difference_by-requires : goal.difference_by-requires
 difference_by-requires g c =
-    inl (plug_among c.deref-entry.result.now c.self.inside.rows.entries c.of-before.result.entries c.with-after.result.entries
-    (c.of-before.ensures.entries ∙ c.entries.ensures.value ∙ c.in_ok-reserve.ensures.entries)
-    (c.with-after.ensures.entries ∙ ap (with_entry c.in_ok-boxed.boxed.value) (c.entries-2.ensures.value ∙ c.in_ok-reserve.ensures.entries)
-    ∙ ap (λ (entry : Entry). with_entry entry c.self.inside.rows.entries) (sym c.deref-entry.ensures)))
+    inl (plug_among c.deref-entry.result.now (busy c.reserve.new.self.entries) c.of-before.result.entries c.with-after.result.entries
+    (c.of-before.ensures.entries ∙ c.busy.ensures.value)
+    (c.with-after.ensures.entries ∙ ap₂ with_entry (sym c.deref-entry.ensures) c.busy-2.ensures.value))
 
 pub returns-in_err-gone-clause-same : goal.returns-in_err-gone-clause-same
 returns-in_err-gone-clause-same g c =
@@ -51,12 +57,14 @@ tell_changes-requires-clause-staged g c =
     c.in_ok-difference.difference.gone_boards c.in_ok-difference.difference.new_boards c.self.invariant.rules c.self.invariant.rows
     (c.of-before.ensures.facts ∙ c.facts.ensures.current
     ∙ ap (λ (set : SetView). facts set.rules (sights_of set.rows)) c.in_ok-next.ensures.ok)
-    (c.of-before.ensures.entries ∙ c.entries.ensures.value ∙ c.in_ok-reserve.ensures.entries) c.self.invariant.rules
+    (c.of-before.ensures.entries ∙ c.busy.ensures.value ∙ ap busy c.in_ok-reserve.ensures.entries) c.self.invariant.rules
     (rows_plugged c.self.inside.set.rows c.self.inside.rows.entries (with_entry c.in_ok-boxed.boxed.value c.self.inside.rows.entries) c.deref-entry.result.now
-    c.self.invariant.rows (ap are_by_place (sym c.in_ok-reserve.ensures.entries) ∙ c.entries.ensures.order) (sym c.is_idle.ensures ∙ c.if-is_idle.false)
+    c.self.invariant.rows (ap are_by_place (sym c.in_ok-reserve.ensures.entries) ∙ c.busy.ensures.all) (sym c.is_idle.ensures ∙ c.if-is_idle.false)
     (ap (λ (entry : Entry). with_entry entry c.self.inside.rows.entries) (sym c.deref-entry.ensures)))
     (c.with-after.ensures.facts ∙ c.facts-2.ensures ∙ ap (λ (next : NextFacts). next.facts) c.in_ok-next.ensures.next)
-    (c.with-after.ensures.entries ∙ ap (with_entry c.in_ok-boxed.boxed.value) (c.entries-2.ensures.value ∙ c.in_ok-reserve.ensures.entries))
+    (busy_plugged c.deref-entry.result.now c.in_ok-boxed.boxed.value c.reserve.new.self.entries _ c.with-after.result.entries c.deref-entry.ensures
+    c.busy.ensures.all (sym c.is_idle.ensures ∙ c.if-is_idle.false) c.busy-2.ensures.value c.with-after.ensures.entries
+    ∙ ap (λ (there : List Entry). busy (with_entry c.in_ok-boxed.boxed.value there)) c.in_ok-reserve.ensures.entries)
     c.in_ok-difference.ensures) c.in_ok-gone.ensures.staged
 
 pub tell_changes-requires-clause-gone : goal.tell_changes-requires-clause-gone
@@ -67,12 +75,14 @@ tell_changes-requires-clause-gone g c =
     c.in_ok-difference.difference.gone_boards c.in_ok-difference.difference.new_boards c.self.invariant.rules c.self.invariant.rows
     (c.of-before.ensures.facts ∙ c.facts.ensures.current
     ∙ ap (λ (set : SetView). facts set.rules (sights_of set.rows)) c.in_ok-next.ensures.ok)
-    (c.of-before.ensures.entries ∙ c.entries.ensures.value ∙ c.in_ok-reserve.ensures.entries) c.self.invariant.rules
+    (c.of-before.ensures.entries ∙ c.busy.ensures.value ∙ ap busy c.in_ok-reserve.ensures.entries) c.self.invariant.rules
     (rows_plugged c.self.inside.set.rows c.self.inside.rows.entries (with_entry c.in_ok-boxed.boxed.value c.self.inside.rows.entries) c.deref-entry.result.now
-    c.self.invariant.rows (ap are_by_place (sym c.in_ok-reserve.ensures.entries) ∙ c.entries.ensures.order) (sym c.is_idle.ensures ∙ c.if-is_idle.false)
+    c.self.invariant.rows (ap are_by_place (sym c.in_ok-reserve.ensures.entries) ∙ c.busy.ensures.all) (sym c.is_idle.ensures ∙ c.if-is_idle.false)
     (ap (λ (entry : Entry). with_entry entry c.self.inside.rows.entries) (sym c.deref-entry.ensures)))
     (c.with-after.ensures.facts ∙ c.facts-2.ensures ∙ ap (λ (next : NextFacts). next.facts) c.in_ok-next.ensures.next)
-    (c.with-after.ensures.entries ∙ ap (with_entry c.in_ok-boxed.boxed.value) (c.entries-2.ensures.value ∙ c.in_ok-reserve.ensures.entries))
+    (busy_plugged c.deref-entry.result.now c.in_ok-boxed.boxed.value c.reserve.new.self.entries _ c.with-after.result.entries c.deref-entry.ensures
+    c.busy.ensures.all (sym c.is_idle.ensures ∙ c.if-is_idle.false) c.busy-2.ensures.value c.with-after.ensures.entries
+    ∙ ap (λ (there : List Entry). busy (with_entry c.in_ok-boxed.boxed.value there)) c.in_ok-reserve.ensures.entries)
     c.in_ok-difference.ensures) c.in_ok-gone.ensures.gone
 
 -- ---- a FRU without hits
@@ -83,9 +93,9 @@ invariant_of-self-then-is_idle g c =
     c.plug.ensures ∙ ap₂ with_entry (sym c.deref-entry.ensures) c.in_ok-reserve.ensures.entries in
     record {
       rules = c.self.invariant.rules;
-      rows = c.self.invariant.rows ∙ sym (busy_among c.deref-entry.result.now c.self.inside.rows.entries c.plug.new.self.entries
+      rows = c.self.invariant.rows ∙ sym (ap (map row_of) (busy_among c.deref-entry.result.now c.self.inside.rows.entries c.plug.new.self.entries
           (plug_among c.deref-entry.result.now c.self.inside.rows.entries c.self.inside.rows.entries c.plug.new.self.entries refl now)
-          (sym c.is_idle.ensures ∙ c.if-is_idle.true));
+          (sym c.is_idle.ensures ∙ c.if-is_idle.true)));
       none = refl;
     }
 
@@ -127,7 +137,7 @@ invariant_of-self-2 g c =
     record {
       rules = now.0 ∙ c.self.invariant.rules;
       rows = now.1 ∙ rows_plugged c.self.inside.set.rows c.self.inside.rows.entries c.plug-2.new.self.entries c.deref-entry.result.now c.self.invariant.rows
-          (ap are_by_place (sym c.in_ok-reserve.ensures.entries) ∙ c.entries.ensures.order) (sym c.is_idle.ensures ∙ c.if-is_idle.false)
+          (ap are_by_place (sym c.in_ok-reserve.ensures.entries) ∙ c.busy.ensures.all) (sym c.is_idle.ensures ∙ c.if-is_idle.false)
           (c.plug-2.ensures ∙ ap₂ with_entry (sym c.deref-entry.ensures) c.in_ok-reserve.ensures.entries);
       none = refl;
     }
@@ -162,11 +172,13 @@ returns-clause-ok g c =
           c.in_ok-difference.difference.gone_boards c.in_ok-difference.difference.new_boards c.self.invariant.rules c.self.invariant.rows
           (c.of-before.ensures.facts ∙ c.facts.ensures.current
           ∙ ap (λ (set : SetView). facts set.rules (sights_of set.rows)) c.in_ok-next.ensures.ok)
-          (c.of-before.ensures.entries ∙ c.entries.ensures.value ∙ c.in_ok-reserve.ensures.entries) c.self.invariant.rules
+          (c.of-before.ensures.entries ∙ c.busy.ensures.value ∙ ap busy c.in_ok-reserve.ensures.entries) c.self.invariant.rules
           (rows_plugged c.self.inside.set.rows c.self.inside.rows.entries c.plug-2.new.self.entries c.deref-entry.result.now c.self.invariant.rows
-          (ap are_by_place (sym c.in_ok-reserve.ensures.entries) ∙ c.entries.ensures.order) (sym c.is_idle.ensures ∙ c.if-is_idle.false) now)
+          (ap are_by_place (sym c.in_ok-reserve.ensures.entries) ∙ c.busy.ensures.all) (sym c.is_idle.ensures ∙ c.if-is_idle.false) now)
           (c.with-after.ensures.facts ∙ c.facts-2.ensures ∙ ap (λ (next : NextFacts). next.facts) c.in_ok-next.ensures.next)
-          (c.with-after.ensures.entries ∙ ap (with_entry c.in_ok-boxed.boxed.value) c.entries-2.ensures.value ∙ sym c.plug-2.ensures)
+          (busy_plugged c.deref-entry.result.now c.in_ok-boxed.boxed.value c.reserve.new.self.entries _ c.with-after.result.entries c.deref-entry.ensures
+          c.busy.ensures.all (sym c.is_idle.ensures ∙ c.if-is_idle.false) c.busy-2.ensures.value c.with-after.ensures.entries
+          ∙ ap busy (sym c.plug-2.ensures))
           c.in_ok-difference.ensures) c.stage_changes.ensures.kept
           (tells_those c.self.inside.shelf c.in_ok-difference.difference.gone_boards c.in_ok-difference.difference.new_boards c.in_ok-gone.gone
           c.stage_changes.new.keep.staged _ _ _ c.in_ok-gone.ensures.gone c.in_ok-gone.ensures.staged c.tell_changes.ensures) refl refl;

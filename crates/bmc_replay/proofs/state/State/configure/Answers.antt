@@ -55,12 +55,12 @@ tell_changes-requires-clause-staged g c =
     c.in_ok-difference.difference.gone_boards c.in_ok-difference.difference.new_boards c.self.invariant.rules c.self.invariant.rows
     (c.of-before.ensures.facts ∙ c.facts.ensures.current
     ∙ ap (λ (set : SetView). facts set.rules (sights_of set.rows)) c.in_ok-next.ensures.ok)
-    (c.of-before.ensures.entries ∙ c.entries.ensures.value)
+    (c.of-before.ensures.entries ∙ c.busy.ensures.value)
     (rules_more c.self.inside.set.rules c.self.inside.shelf c.args.config c.name-2.result c.probe.result.now c.as_slice.result.now c.self.invariant.rules
     c.name-2.ensures c.probe.ensures (c.as_slice.ensures ∙ c.in_ok-fixed.ensures))
     c.self.invariant.rows
     (c.of-after.ensures.facts ∙ c.facts-2.ensures ∙ ap (λ (next : NextFacts). next.facts) c.in_ok-next.ensures.next)
-    (c.of-after.ensures.entries ∙ c.entries-2.ensures.value)
+    (c.of-after.ensures.entries ∙ c.busy-2.ensures.value)
     c.in_ok-difference.ensures)) c.in_ok-gone.ensures.staged
 
 pub tell_changes-requires-clause-gone : goal.tell_changes-requires-clause-gone
@@ -73,12 +73,12 @@ tell_changes-requires-clause-gone g c =
     c.in_ok-difference.difference.gone_boards c.in_ok-difference.difference.new_boards c.self.invariant.rules c.self.invariant.rows
     (c.of-before.ensures.facts ∙ c.facts.ensures.current
     ∙ ap (λ (set : SetView). facts set.rules (sights_of set.rows)) c.in_ok-next.ensures.ok)
-    (c.of-before.ensures.entries ∙ c.entries.ensures.value)
+    (c.of-before.ensures.entries ∙ c.busy.ensures.value)
     (rules_more c.self.inside.set.rules c.self.inside.shelf c.args.config c.name-2.result c.probe.result.now c.as_slice.result.now c.self.invariant.rules
     c.name-2.ensures c.probe.ensures (c.as_slice.ensures ∙ c.in_ok-fixed.ensures))
     c.self.invariant.rows
     (c.of-after.ensures.facts ∙ c.facts-2.ensures ∙ ap (λ (next : NextFacts). next.facts) c.in_ok-next.ensures.next)
-    (c.of-after.ensures.entries ∙ c.entries-2.ensures.value)
+    (c.of-after.ensures.entries ∙ c.busy-2.ensures.value)
     c.in_ok-difference.ensures) c.in_ok-gone.ensures.gone))
 
 pub returns-clause-tried : goal.returns-clause-tried
@@ -110,12 +110,12 @@ returns-clause-tried g c =
     c.in_ok-difference.difference.gone_boards c.in_ok-difference.difference.new_boards c.self.invariant.rules c.self.invariant.rows
     (c.of-before.ensures.facts ∙ c.facts.ensures.current
     ∙ ap (λ (set : SetView). facts set.rules (sights_of set.rows)) c.in_ok-next.ensures.ok)
-    (c.of-before.ensures.entries ∙ c.entries.ensures.value)
+    (c.of-before.ensures.entries ∙ c.busy.ensures.value)
     (rules_more c.self.inside.set.rules c.self.inside.shelf c.args.config c.name-2.result c.probe.result.now c.as_slice.result.now c.self.invariant.rules
     c.name-2.ensures c.probe.ensures (c.as_slice.ensures ∙ c.in_ok-fixed.ensures))
     c.self.invariant.rows
     (c.of-after.ensures.facts ∙ c.facts-2.ensures ∙ ap (λ (next : NextFacts). next.facts) c.in_ok-next.ensures.next)
-    (c.of-after.ensures.entries ∙ c.entries-2.ensures.value)
+    (c.of-after.ensures.entries ∙ c.busy-2.ensures.value)
     c.in_ok-difference.ensures)) c.stage_changes.ensures.kept
     (tells_those c.add.new.self c.in_ok-difference.difference.gone_boards c.in_ok-difference.difference.new_boards c.in_ok-gone.gone
     c.stage_changes.new.keep.staged _ _ _ c.in_ok-gone.ensures.gone c.in_ok-gone.ensures.staged c.tell_changes.ensures) refl refl))

@@ -1,7 +1,8 @@
-use Rattle.std.proofs.Common.{◌∙◌, [], Option, None, refl, ap, sym, subst, append-nil, inr, true}
-use Rattle.probe_lang.specs.Presents.{without_entry, holds_place}
+use Rattle.std.proofs.Common.{◌∙◌, [], map, Option, None, refl, ap, sym, subst, append-nil, inr, true}
+use Rattle.probe_lang.specs.Presents.{without_entry, holds_place, are_by_place}
+use Rattle.fru_rows.specs.Idle.{busy}
 use Rattle.found_set.specs.Found.{facts}
-use Rattle.found_set.specs.Rows.{sights_of}
+use Rattle.found_set.specs.Rows.{row_of, sights_of}
 use Rattle.found_set.specs.Events.{UnplugEvent}
 use Rattle.found_set.specs.Sets.{SetView}
 use Rattle.found_set.specs.declared.next_facts.NextFacts.{NextFacts}
@@ -12,7 +13,7 @@ use Rattle.bmc_replay.specs.States.{View}
 use Rattle.bmc_replay.specs.Steps.{Tries}
 use Rattle.bmc_replay.proofs.KeysLemmas.{moves}
 use Rattle.bmc_replay.proofs.StepsLemmas.{not_present, unplugged}
-use Rattle.bmc_replay.proofs.BusyLemmas.{busy_among}
+use Rattle.bmc_replay.proofs.BusyLemmas.{busy_among, busy_found, busy_without}
 use Rattle.bmc_replay.proofs.IdleLemmas.{idle_boards, idle_moves}
 use Rattle.bmc_replay.proofs.EventsLemmas.{on_err, held_place, unplug_among, difference_is, gone_within, staged_within, tells_those, set_after}
 use Rattle.bmc_replay.proofs.EventsLemmas.{rows_unplugged, none_left}
@@ -31,9 +32,11 @@ prepare_unplug-requires g c =
 
 pub difference_by-requires : goal.difference_by-requires
 difference_by-requires g c =
-    inr (unplug_among c.args.place c.in-Some.entry.now c.self.inside.rows.entries c.of-before.result.entries c.without-after.result.entries
-    c.entries.ensures.order (sym c.in-Some.ensures.value) (c.of-before.ensures.entries ∙ c.entries.ensures.value)
-    (c.without-after.ensures.entries ∙ ap (without_entry c.args.place) c.entries-2.ensures.value))
+    inr (unplug_among c.args.place c.in-Some.entry.now (busy c.self.inside.rows.entries) c.of-before.result.entries c.without-after.result.entries
+    (ap are_by_place (sym c.busy.ensures.value) ∙ c.busy.ensures.order)
+    (busy_found c.args.place c.in-Some.entry.now c.self.inside.rows.entries (sym c.in-Some.ensures.value) (sym c.is_idle.ensures ∙ c.if-is_idle.false))
+    (c.of-before.ensures.entries ∙ c.busy.ensures.value)
+    (c.without-after.ensures.entries ∙ ap (without_entry c.args.place) c.busy-2.ensures.value))
 
 pub returns-in_err-gone-clause-same : goal.returns-in_err-gone-clause-same
 returns-in_err-gone-clause-same g c =
@@ -53,11 +56,12 @@ tell_changes-requires-clause-staged g c =
     c.in_ok-difference.difference.gone_boards c.in_ok-difference.difference.new_boards c.self.invariant.rules c.self.invariant.rows
     (c.of-before.ensures.facts ∙ c.facts.ensures.current
     ∙ ap (λ (set : SetView). facts set.rules (sights_of set.rows)) c.in_ok-next.ensures.ok)
-    (c.of-before.ensures.entries ∙ c.entries.ensures.value) c.self.invariant.rules
+    (c.of-before.ensures.entries ∙ c.busy.ensures.value) c.self.invariant.rules
     (rows_unplugged c.self.inside.set.rows c.self.inside.rows.entries (without_entry c.args.place c.self.inside.rows.entries) c.args.place
     c.self.invariant.rows refl)
     (c.without-after.ensures.facts ∙ c.facts-2.ensures ∙ ap (λ (next : NextFacts). next.facts) c.in_ok-next.ensures.next)
-    (c.without-after.ensures.entries ∙ ap (without_entry c.args.place) c.entries-2.ensures.value)
+    (c.without-after.ensures.entries ∙ ap (without_entry c.args.place) c.busy-2.ensures.value
+    ∙ busy_without c.args.place c.self.inside.rows.entries)
     c.in_ok-difference.ensures) c.in_ok-gone.ensures.staged
 
 pub tell_changes-requires-clause-gone : goal.tell_changes-requires-clause-gone
@@ -68,11 +72,12 @@ tell_changes-requires-clause-gone g c =
     c.in_ok-difference.difference.gone_boards c.in_ok-difference.difference.new_boards c.self.invariant.rules c.self.invariant.rows
     (c.of-before.ensures.facts ∙ c.facts.ensures.current
     ∙ ap (λ (set : SetView). facts set.rules (sights_of set.rows)) c.in_ok-next.ensures.ok)
-    (c.of-before.ensures.entries ∙ c.entries.ensures.value) c.self.invariant.rules
+    (c.of-before.ensures.entries ∙ c.busy.ensures.value) c.self.invariant.rules
     (rows_unplugged c.self.inside.set.rows c.self.inside.rows.entries (without_entry c.args.place c.self.inside.rows.entries) c.args.place
     c.self.invariant.rows refl)
     (c.without-after.ensures.facts ∙ c.facts-2.ensures ∙ ap (λ (next : NextFacts). next.facts) c.in_ok-next.ensures.next)
-    (c.without-after.ensures.entries ∙ ap (without_entry c.args.place) c.entries-2.ensures.value)
+    (c.without-after.ensures.entries ∙ ap (without_entry c.args.place) c.busy-2.ensures.value
+    ∙ busy_without c.args.place c.self.inside.rows.entries)
     c.in_ok-difference.ensures) c.in_ok-gone.ensures.gone
 
 pub invariant_of-self-2 : goal.invariant_of-self-2
@@ -110,11 +115,12 @@ returns-clause-tried g c =
     c.in_ok-difference.difference.gone_boards c.in_ok-difference.difference.new_boards c.self.invariant.rules c.self.invariant.rows
     (c.of-before.ensures.facts ∙ c.facts.ensures.current
     ∙ ap (λ (set : SetView). facts set.rules (sights_of set.rows)) c.in_ok-next.ensures.ok)
-    (c.of-before.ensures.entries ∙ c.entries.ensures.value) c.self.invariant.rules
+    (c.of-before.ensures.entries ∙ c.busy.ensures.value) c.self.invariant.rules
     (rows_unplugged c.self.inside.set.rows c.self.inside.rows.entries c.unplug-2.new.self.entries c.args.place
     c.self.invariant.rows c.unplug-2.ensures.entries)
     (c.without-after.ensures.facts ∙ c.facts-2.ensures ∙ ap (λ (next : NextFacts). next.facts) c.in_ok-next.ensures.next)
-    (c.without-after.ensures.entries ∙ ap (without_entry c.args.place) c.entries-2.ensures.value ∙ sym c.unplug-2.ensures.entries)
+    (c.without-after.ensures.entries ∙ ap (without_entry c.args.place) c.busy-2.ensures.value
+    ∙ busy_without c.args.place c.self.inside.rows.entries ∙ ap busy (sym c.unplug-2.ensures.entries))
     c.in_ok-difference.ensures) c.stage_changes.ensures.kept
     (tells_those c.self.inside.shelf c.in_ok-difference.difference.gone_boards c.in_ok-difference.difference.new_boards c.in_ok-gone.gone
     c.stage_changes.new.keep.staged _ _ _ c.in_ok-gone.ensures.gone c.in_ok-gone.ensures.staged c.tell_changes.ensures) refl refl))
@@ -124,10 +130,10 @@ returns-clause-tried g c =
 pub invariant_of-self : goal.invariant_of-self
 invariant_of-self g c = record {
   rules = c.self.invariant.rules;
-  rows = c.self.invariant.rows ∙ busy_among c.in-Some.entry.now c.unplug.new.self.entries c.self.inside.rows.entries
+  rows = c.self.invariant.rows ∙ ap (map row_of) (busy_among c.in-Some.entry.now c.unplug.new.self.entries c.self.inside.rows.entries
       (unplug_among c.args.place c.in-Some.entry.now c.self.inside.rows.entries c.self.inside.rows.entries c.unplug.new.self.entries c.in-Some.ensures.order
       (sym c.in-Some.ensures.value) refl c.unplug.ensures.entries)
-      (sym c.is_idle.ensures ∙ c.if-is_idle.true);
+      (sym c.is_idle.ensures ∙ c.if-is_idle.true));
   none = none_left c.self.inside.plugged c.self.inside.rows.entries c.unplug.new.self.entries c.args.place c.self.invariant.none c.unplug.ensures.entries;
 }
 
