@@ -30,8 +30,8 @@ fn mark_config(marks: &mut [bool; MOST_RULES], config: usize)
     }
 }
 
-// Marks the configurations of these hits.
-pub(crate) fn touched_by(hits: &[Hit]) -> [bool; MOST_RULES]
+/// Returns a mark for each configuration that a set can hold, by its number: whether a hit of it is among these.
+pub fn touched_by(hits: &[Hit]) -> [bool; MOST_RULES]
     ensures { AreMarked result (has_config hits.now) }
 {
     let mut touched = [false; MOST_RULES];

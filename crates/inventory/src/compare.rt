@@ -1,14 +1,17 @@
 ghost use Rattle.std.specs.Prelude.{◌≡◌, ◌+◌, ◌<◌, ◌≤◌, ◌++◌, ℕ, Bool, true, [], length, option_to_list, option_map, IfOk, OnOk, OnSome};
 ghost use Rattle.inventory.specs.Differences.{IsMarkedBy, boards_at, keys_left};
 ghost use Rattle.inventory.specs.Moments.{boards_now, left, plus_keys, IsApartBy, IsLoneIf};
+ghost use Rattle.probe_lang.specs.Sights.{has_config};
 
 use crate::boards::{list_boards, push_both, push_left};
 use crate::lone::{lone_swap, push_key};
 use crate::{BoardKeys, Difference, Moment};
 use bmc_base::{Ledger, OutOfMemory, Place};
 use cfg_json::{Config, Shelf};
+use found_set::{MOST_RULES, touched_by};
 use probe_lang::Entry;
 use std::alloc::Global;
+use std::marker::Model;
 
 // The keys of the boards that go and that come so far, and the boards of one configuration at both moments, in
 // memory that serves for each in turn.
@@ -46,13 +49,59 @@ impl Comparison {
     }
 }
 
+// An entry that alone comes or goes, with a mark for each configuration of which it has a hit.
+#[derive(Drop)]
+struct Lone<'e> {
+    entry: &'e Entry,
+    hits: [bool; MOST_RULES],
+}
+
+impl<'e> Model for Lone<'e> {
+    ghost use Rattle.probe_lang.specs.declared.rows.Entry.{Entry};
+    ghost use Rattle.probe_lang.specs.Sights.{has_config};
+    ghost use Rattle.found_set.specs.Marks.{AreMarked};
+
+    ghost Value = { Entry };
+
+    ghost view = { λ l. l.entry.now };
+
+    ghost invariant = { λ l. AreMarked l.hits (has_config l.entry.now.hits) };
+}
+
+impl<'e> Lone<'e> {
+    // Returns this entry with its marks.
+    fn new(entry: &'e Entry) -> Lone<'e>
+        ensures { result ≡ entry.now }
+    {
+        Lone {
+            entry,
+            hits: touched_by(entry.hits.as_slice()),
+        }
+    }
+
+    // Borrows the entry.
+    fn entry(&self) -> &'e Entry
+        ensures { result.now ≡ self.now }
+    {
+        self.entry
+    }
+
+    // Whether it has a hit of this configuration.
+    fn has_hit(&self, number: u32) -> bool
+        requires { number < 256 }
+        ensures { result ≡ has_config self.now.hits number }
+    {
+        self.hits[number as usize]
+    }
+}
+
 // Returns the entry that alone comes or goes, where each other FRU is seen as before.
-fn lone_change<'e>(changed: &'e Entry, before: &Moment<'_>, after: &Moment<'_>) -> Option<&'e Entry>
+fn lone_change<'e>(changed: &'e Entry, before: &Moment<'_>, after: &Moment<'_>) -> Option<Lone<'e>>
     requires { IsApartBy changed.now before.now.entries after.now.entries }
-    ensures { IsLoneIf (option_map (λ entry. entry.now) result) before.now after.now }
+    ensures { IsLoneIf result before.now after.now }
 {
     if before.is_seen_alike(after) {
-        Some(changed)
+        Some(Lone::new(changed))
     } else {
         None
     }
@@ -61,7 +110,7 @@ fn lone_change<'e>(changed: &'e Entry, before: &Moment<'_>, after: &Moment<'_>) 
 // Whether a configuration has the same boards at both moments: it is found at both or at neither, and what
 // changed has no hit of it.
 fn has_same_boards(
-    changed: Option<&Entry>,
+    changed: Option<&Lone<'_>>,
     before: &Moment<'_>,
     after: &Moment<'_>,
     number: u32,
@@ -73,9 +122,7 @@ fn has_same_boards(
         → boards_now match_one found reach before.now number ≡ boards_now match_one found_after reach_after after.now number }
 {
     match changed {
-        Some(entry) => {
-            before.found(number) == after.found(number) && !entry.hits.has_config(number)
-        }
+        Some(lone) => before.found(number) == after.found(number) && !lone.has_hit(number),
         None => false,
     }
 }
@@ -83,7 +130,7 @@ fn has_same_boards(
 // Returns what changed where no list is needed to find the boards of a configuration that go and come: where it is
 // found at both moments.
 fn lone_of<'e>(
-    changed: Option<&'e Entry>,
+    changed: Option<&Lone<'e>>,
     before: &Moment<'_>,
     after: &Moment<'_>,
     number: u32,
@@ -94,8 +141,9 @@ fn lone_of<'e>(
     ensures found { (found reach found_after reach_after : ℕ → Bool) → IsMarkedBy before.now.facts found reach
         → IsMarkedBy after.now.facts found_after reach_after → OnSome result ((found number ≡ true) × (found_after number ≡ true)) }
 {
+    let lone = changed?;
     if before.found(number) && after.found(number) {
-        changed
+        Some(lone.entry())
     } else {
         None
     }
@@ -135,7 +183,7 @@ fn push_lists(
 fn push_config(
     alloc: Global,
     comparison: &mut Comparison,
-    changed: Option<&Entry>,
+    changed: Option<&Lone<'_>>,
     before: &Moment<'_>,
     after: &Moment<'_>,
     number: u32,
@@ -164,7 +212,7 @@ fn push_shelf<L: Ledger>(
     alloc: Global,
     comparison: &mut Comparison,
     shelf: &Shelf<L>,
-    changed: Option<&Entry>,
+    changed: Option<&Lone<'_>>,
     before: &Moment<'_>,
     after: &Moment<'_>,
 ) -> Result<(), OutOfMemory>
@@ -261,6 +309,6 @@ pub fn difference_by<L: Ledger>(
     // a shelf has at most 256 configurations
     let _count = shelf.len();
     let lone = lone_change(changed, before, after);
-    push_shelf(alloc, &mut comparison, shelf, lone, before, after)?;
+    push_shelf(alloc, &mut comparison, shelf, lone.as_ref(), before, after)?;
     Ok(comparison.into_difference())
 }
