@@ -58,6 +58,13 @@ held_place set_rows entries place entry same found works =
     ap (λ (set_rows : List Row). rows.holds_place set_rows place) same ∙ rows_hold (busy entries) place
     ∙ sym (found_is_held place (busy entries)) ∙ ap is_some (busy_found place entry entries found works)
 
+-- the entry that is found is not idle
+pub busy_at : (found : Option Entry) (entry : Entry) → Some entry ≡ found → IsSomeAnd found (λ entry. is_idle entry ≡ false) → is_idle entry ≡ false
+busy_at found entry same works = subst (λ (found : Option Entry). IsSomeAnd found (λ entry. is_idle entry ≡ false)) (sym same) works
+
+pub busy_none : (found : Option Entry) → None ≡ found → IsSomeAnd found (λ entry. is_idle entry ≡ false) → ⊥
+busy_none found same works = subst (λ (found : Option Entry). IsSomeAnd found (λ entry. is_idle entry ≡ false)) (sym same) works
+
 pub known_entry : (rules : List Rule) (configs : List Config) (entry : Entry) (place : Place) (fields : List Field) → rules ≡ rules_of configs
     → entry ≡ entry_of configs place fields → IsKnown rules (row_of entry)
 known_entry rules configs entry place fields same is =

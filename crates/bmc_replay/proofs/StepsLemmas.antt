@@ -19,7 +19,7 @@ use Rattle.bmc_machine.specs.Standings.{Fru, Standing, fields_in, fields_of, put
 use Rattle.bmc_machine.specs.Histories.{Step, Configure, Plug, Unplug, standing}
 use Rattle.bmc_machine.specs.Refusals.{record_refusal, broken_rule, refusal_of}
 use Rattle.bmc_replay.specs.States.{View, fru_entry, Stands, Moves}
-use Rattle.bmc_replay.specs.Steps.{AddsFru, Tries}
+use Rattle.bmc_replay.specs.Steps.{AddsFru, RemovesFru, Tries}
 use Rattle.bmc_replay.proofs.StatesLemmas.{accepted, refused}
 
 -- ---- FRUs and their entries
@@ -120,16 +120,15 @@ not_present old new place free left =
     refused old new (Unplug place) NotPresent
     (λ past stood. ap (λ (there : Bool). cond there None (Some NotPresent)) (is_known old past place false stood free)) left
 
-pub unplugged : (old new : View) (place : Place) → holds_place old.entries place ≡ true → new.configs ≡ old.configs
-    → new.entries ≡ without_entry place old.entries → new.plugged ≡ old.plugged → Moves old new → Tries old (Unplug place) None new
+pub unplugged : (old new : View) (place : Place) → holds_place old.entries place ≡ true → RemovesFru place old new → Tries old (Unplug place) None new
 unfolding standing
-unplugged old new place held configs entries same moves = record {
+unplugged old new place held removes = record {
   tried = λ past stood.
       let reason : refusal_of (standing past) (Unplug place) ≡ None =
       ap (λ (there : Bool). cond there None (Some NotPresent)) (is_known old past place true stood held) in
-      accepted old new past (Unplug place) stood reason reason (configs ∙ stood.configs)
-      (entries ∙ ap (without_entry place) stood.entries ∙ without_is (standing past).configs place (standing past).frus)
-      (same ∙ stood.plugged) moves;
+      accepted old new past (Unplug place) stood reason reason (removes.configs ∙ stood.configs)
+      (removes.entries ∙ ap (without_entry place) stood.entries ∙ without_is (standing past).configs place (standing past).frus)
+      (removes.plugged ∙ stood.plugged) removes.moves;
   left = tt;
 }
 

@@ -2,7 +2,7 @@
 use Rattle.std.specs.Prelude.{◌≡◌, ⊤, true, List, [], ◌∷◌, Option, Some, None}
 use Rattle.bmc_base.specs.Places.{Place}
 use Rattle.fru_area.specs.declared.field.Field.{Field}
-use Rattle.probe_lang.specs.Presents.{with_entry}
+use Rattle.probe_lang.specs.Presents.{with_entry, without_entry}
 use Rattle.match_rows.specs.Matching.{entry_of}
 use Rattle.bmc_report.specs.declared.refusal.Refusal.{Refusal}
 use Rattle.bmc_machine.specs.Histories.{Step, standing}
@@ -16,6 +16,13 @@ pub record AddsFru (place : Place) (fields : List Field) (old new : View) : Type
   pub configs : new.configs ≡ old.configs
   pub entries : new.entries ≡ with_entry (entry_of old.configs place fields) old.entries
   pub plugged : new.plugged ≡ true
+  pub moves : Moves old new
+
+-- the FRU at a place was taken away
+pub record RemovesFru (place : Place) (old new : View) : Type 0 where
+  pub configs : new.configs ≡ old.configs
+  pub entries : new.entries ≡ without_entry place old.entries
+  pub plugged : new.plugged ≡ old.plugged
   pub moves : Moves old new
 
 -- after a history a step was accepted, and these are its changes

@@ -1,8 +1,10 @@
-ghost use Rattle.std.specs.Prelude.{◌≡◌, [], false, IfOk, OnOk, OnErr, Some};
+ghost use Rattle.std.specs.Prelude.{◌≡◌, [], false, find, IfOk, OnOk, OnErr, IsSomeAnd, Some};
 ghost use Rattle.bmc_machine.specs.Histories as histories;
 ghost use Rattle.bmc_replay.specs.States.{no_view, IsSame};
-ghost use Rattle.probe_lang.specs.Presents.{holds_place};
-ghost use Rattle.bmc_replay.specs.Steps.{AddsFru, Tries};
+ghost use Rattle.probe_lang.specs.Presents.{holds_place, is_entry_at};
+ghost use Rattle.match_rows.specs.Matching.{entry_of};
+ghost use Rattle.fru_rows.specs.Idle.{is_idle};
+ghost use Rattle.bmc_replay.specs.Steps.{AddsFru, RemovesFru, Tries};
 
 use crate::changes::{fixed_channels, stage_changes, tell_changes};
 use crate::refusing::record_refused;
@@ -162,14 +164,31 @@ impl<L: Ledger> State<L> {
     {
         let made = make(alloc, place, fru, &self.shelf, steps)?;
         let boxed = Box::new(alloc, made)?;
-        let entry: &Entry = &boxed;
-        self.rows.reserve(alloc)?;
-        if is_idle(entry) {
-            self.rows.plug(boxed);
-            self.plugged = true;
-            self.changes.clear();
-            return Ok(());
+        if !is_idle(&boxed) {
+            return self.add_busy(alloc, boxed, steps);
         }
+        self.rows.reserve(alloc)?;
+        self.rows.plug(boxed);
+        self.plugged = true;
+        self.changes.clear();
+        Ok(())
+    }
+
+    // Adds the entry of a FRU with hits or channels at a place that is free.
+    fn add_busy(
+        &mut self,
+        alloc: Global,
+        boxed: Box<Entry>,
+        steps: &mut Steps<L>,
+    ) -> Result<(), OutOfMemory>
+        requires free { holds_place self.old.entries boxed.value.place ≡ false }
+        requires known { boxed.value ≡ entry_of self.old.configs boxed.value.place boxed.value.fru }
+        requires busy { is_idle boxed.value ≡ false }
+        ensures ok { OnOk result (AddsFru boxed.value.place boxed.value.fru self.old self.new) }
+        ensures same { OnErr result (IsSame self.old self.new) }
+    {
+        self.rows.reserve(alloc)?;
+        let entry: &Entry = &boxed;
         let next = self.set.prepare_plug(alloc, entry, steps)?;
         let before = Moment::of(self.set.facts(), self.rows.busy());
         let after = Moment::with(next.facts(), self.rows.busy(), &boxed);
@@ -199,8 +218,26 @@ impl<L: Ledger> State<L> {
         if is_idle(entry) {
             self.rows.unplug(place);
             self.changes.clear();
-            return Ok(None);
+        } else {
+            self.remove_busy(alloc, place, steps)?;
         }
+        Ok(None)
+    }
+
+    // Takes away the FRU at a place, which has hits or channels.
+    fn remove_busy(
+        &mut self,
+        alloc: Global,
+        place: Place,
+        steps: &mut Steps<L>,
+    ) -> Result<(), OutOfMemory>
+        requires { IsSomeAnd (find (is_entry_at place) self.old.entries) (λ entry. is_idle entry ≡ false) }
+        ensures ok { OnOk result (RemovesFru place self.old self.new) }
+        ensures same { OnErr result (IsSame self.old self.new) }
+    {
+        let Some(entry) = self.rows.entry(place) else {
+            unreachable!()
+        };
         let next = self.set.prepare_unplug(alloc, place, steps)?;
         let before = Moment::of(self.set.facts(), self.rows.busy());
         let after = Moment::without(next.facts(), self.rows.busy(), place);
@@ -209,6 +246,6 @@ impl<L: Ledger> State<L> {
         self.set.commit(next);
         self.rows.unplug(place);
         tell_changes(&self.shelf, &mut self.keep, &gone, &mut self.changes);
-        Ok(None)
+        Ok(())
     }
 }

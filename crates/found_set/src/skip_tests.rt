@@ -69,7 +69,7 @@ impl Shows {
     fn channels(self, alloc: Global) -> Result<Channels, Fail>
         ensures { IfOk result (λ channels. All (λ (channel : Channel). channel.config < 6) channels) }
     {
-        let mut channels = Channels::new(alloc)?;
+        let mut channels = Channels::new(alloc);
         if self.0 / 36 % 4 == 3 {
             channels.push(alloc, Channel { config: 1, bus: 30 })?;
         }
@@ -91,7 +91,7 @@ fn put(
     if set.holds(place) {
         return Err(Fail::from("the place is not free"));
     }
-    let mut hits = Hits::new(alloc)?;
+    let mut hits = Hits::new(alloc);
     hits.push(alloc, shown.first())?;
     hits.push(alloc, shown.second())?;
     let entry = Entry {

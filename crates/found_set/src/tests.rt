@@ -97,13 +97,13 @@ fn plug(
     ensures rows { OnOk result (set.new.rows
         ≡ with_row (record { place = place; hits = record { config = config; pattern = 0 } ∷ []; channels = [] }) set.old.rows) }
 {
-    let mut hits = Hits::new(alloc)?;
+    let mut hits = Hits::new(alloc);
     hits.push(alloc, Hit { config, pattern: 0 })?;
     let entry = Entry {
         place,
         fru: FruRecord::decode(alloc, EMPTY)?,
         hits,
-        channels: Channels::new(alloc)?,
+        channels: Channels::new(alloc),
     };
     let next = set.prepare_plug(alloc, &entry, steps)?;
     let after = next.facts();
@@ -142,8 +142,8 @@ fn idle_entries_cost_nothing(rt: HostRuntime) -> Result<(), Fail> {
     let entry = Entry {
         place: Place::new(1, 80).unwrap(),
         fru: FruRecord::decode(alloc, EMPTY)?,
-        hits: Hits::new(alloc)?,
-        channels: Channels::new(alloc)?,
+        hits: Hits::new(alloc),
+        channels: Channels::new(alloc),
     };
     let next = set.prepare_plug(alloc, &entry, &mut steps)?;
     set.commit(next);

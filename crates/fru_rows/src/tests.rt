@@ -22,8 +22,8 @@ fn entry_on(alloc: Global, bus: u32, known: Known) -> Result<Box<Entry>, Fail> {
     let Some(place) = Place::new(bus, 80) else {
         return Err(Fail::from("the bus is out of range"));
     };
-    let mut hits = Hits::new(alloc)?;
-    let mut channels = Channels::new(alloc)?;
+    let mut hits = Hits::new(alloc);
+    let mut channels = Channels::new(alloc);
     match known {
         Known::Nothing => {}
         Known::Hit => hits.push(

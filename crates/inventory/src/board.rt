@@ -1,4 +1,4 @@
-ghost use Rattle.std.specs.Prelude.{◌≡◌, ◌∷◌, ◌++◌, [], IfOk, OnOk, OnErr};
+ghost use Rattle.std.specs.Prelude.{◌≡◌, ◌∷◌, ◌++◌, [], OnOk, OnErr};
 
 use bmc_base::{OutOfMemory, Place};
 use std::alloc::Global;
@@ -38,12 +38,13 @@ impl Model for BoardKeys {
 }
 
 impl BoardKeys {
-    /// Returns a list of no keys, with room for one.
-    pub fn new(alloc: Global) -> Result<BoardKeys, OutOfMemory>
-        ensures { IfOk result (λ keys. keys ≡ []) }
+    /// Returns a list of no keys, which takes no memory.
+    pub fn new(alloc: Global) -> BoardKeys
+        ensures { result ≡ [] }
     {
-        let keys = Vec::with_capacity(alloc, 1)?;
-        Ok(BoardKeys { keys })
+        BoardKeys {
+            keys: Vec::new(alloc),
+        }
     }
 
     /// Appends a key, or changes nothing for want of memory.

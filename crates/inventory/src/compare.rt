@@ -25,16 +25,16 @@ struct Comparison {
 
 impl Comparison {
     // Returns a comparison of nothing yet.
-    fn new(alloc: Global) -> Result<Comparison, OutOfMemory>
-        ensures gone { IfOk result (λ comparison. comparison.gone ≡ []) }
-        ensures come { IfOk result (λ comparison. comparison.come ≡ []) }
+    fn new(alloc: Global) -> Comparison
+        ensures gone { result.gone ≡ [] }
+        ensures come { result.come ≡ [] }
     {
-        Ok(Comparison {
-            gone: BoardKeys::new(alloc)?,
-            come: BoardKeys::new(alloc)?,
+        Comparison {
+            gone: BoardKeys::new(alloc),
+            come: BoardKeys::new(alloc),
             before: Vec::new(alloc),
             after: Vec::new(alloc),
-        })
+        }
     }
 
     // Returns what was found.
@@ -283,7 +283,7 @@ pub fn difference<L: Ledger>(
         (d.gone_boards ≡ keys_left (length shelf.now) (boards_at shelf.now found reach before.now) (boards_at all found_after reach_after after.now))
         × (d.new_boards ≡ keys_left (length all) (boards_at all found_after reach_after after.now) (boards_at shelf.now found reach before.now))) }
 {
-    let mut comparison = Comparison::new(alloc)?;
+    let mut comparison = Comparison::new(alloc);
     push_shelf(alloc, &mut comparison, shelf, None, before, after)?;
     push_plus(alloc, &mut comparison, shelf.len() as u32, plus, after)?;
     Ok(comparison.into_difference())
@@ -305,7 +305,7 @@ pub fn difference_by<L: Ledger>(
         (d.gone_boards ≡ keys_left (length shelf.now) (boards_at shelf.now found reach before.now) (boards_at shelf.now found_after reach_after after.now))
         × (d.new_boards ≡ keys_left (length shelf.now) (boards_at shelf.now found_after reach_after after.now) (boards_at shelf.now found reach before.now))) }
 {
-    let mut comparison = Comparison::new(alloc)?;
+    let mut comparison = Comparison::new(alloc);
     // a shelf has at most 256 configurations
     let _count = shelf.len();
     let lone = lone_change(changed, before, after);

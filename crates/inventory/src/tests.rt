@@ -88,8 +88,8 @@ fn assert_swap(rt: &impl Abort, alloc: Global, others: u32, match_one: bool) -> 
     let mut after = Vec::new(alloc);
     list(&mut before, others, match_one)?;
     list(&mut after, others | 1 << BUS, match_one)?;
-    let mut gone = BoardKeys::new(alloc)?;
-    let mut come = BoardKeys::new(alloc)?;
+    let mut gone = BoardKeys::new(alloc);
+    let mut come = BoardKeys::new(alloc);
     push_absent(alloc, &mut gone, &before, &after)?;
     push_absent(alloc, &mut come, &after, &before)?;
     let first = before.first().copied().unwrap_or(None);

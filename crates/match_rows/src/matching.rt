@@ -46,7 +46,7 @@ fn find_hits<L: Ledger>(
     ensures counted { OnOk result (steps.new ≡ with_matches steps.old (pattern_count shelf.now)) }
     ensures limit { OnErr result (IsMatchedWithin steps.old steps.new (pattern_count shelf.now)) }
 {
-    let mut hits = Hits::new(alloc)?;
+    let mut hits = Hits::new(alloc);
     for number in 0..shelf.len() {
         let config = shelf.at(number).unwrap();
         append_hits(alloc, place, fru, number as u32, config, &mut hits, steps)?;
@@ -67,7 +67,7 @@ pub fn make<L: Ledger>(
     ensures counted { OnOk result (steps.new ≡ with_matches steps.old (pattern_count shelf.now)) }
     ensures limit { OnErr result (IsMatchedWithin steps.old steps.new (pattern_count shelf.now)) }
 {
-    let channels = Channels::new(alloc)?;
+    let channels = Channels::new(alloc);
     let hits = find_hits(alloc, place, &fru, shelf, steps)?;
     Ok(Entry {
         place,

@@ -10,10 +10,10 @@ use std::cell::RefCell;
 use std::marker::Model;
 
 // A pattern whose engine is kept from one match to the next. A match writes to the engine, so the
-// engine lies in a cell.
+// engine lies in a cell. It is large, and most patterns need none, so it lies in a box.
 pub(crate) struct SharedEngine {
     text: Text,
-    engine: RefCell<Engine>,
+    engine: Box<RefCell<Engine>>,
 }
 
 impl Model for SharedEngine {
@@ -29,12 +29,14 @@ impl SharedEngine {
     pub(crate) fn build(alloc: Global, text: &str) -> Result<SharedEngine, MakeFault>
         ensures { Builds text.now result }
     {
-        let engine = RefCell::new(Engine::build(alloc, text)?);
+        let engine = boxed(alloc, Engine::build(alloc, text)?)?;
         let text = Text::copy(alloc, text)?;
         Ok(SharedEngine { text, engine })
     }
 
-    // Whether the pattern has a match in a text.
+    // Whether the pattern has a match in a text. It is not inlined, so that a plain pattern needs no
+    // room for a search.
+    #[inline(never)]
     pub(crate) fn found_in(&self, alloc: Global, hay: &str) -> Result<bool, OutOfMemory>
         ensures { IfOk result (λ found. found ≡ has_match self.now hay.now) }
     {
@@ -47,6 +49,11 @@ impl SharedEngine {
         }
         found_anew(alloc, text, hay)
     }
+}
+
+// Puts an engine into a cell of its own.
+fn boxed(alloc: Global, engine: Engine) -> Result<Box<RefCell<Engine>>, OutOfMemory> {
+    Ok(Box::new(alloc, RefCell::new(engine))?)
 }
 
 // Written out, so that a caller's proof sees one call and not the drop of each field.

@@ -31,12 +31,13 @@ impl Model for Hits {
 }
 
 impl Hits {
-    /// Returns a list of no hits, with room for one.
-    pub fn new(alloc: Global) -> Result<Hits, OutOfMemory>
-        ensures { IfOk result (λ hits. hits ≡ []) }
+    /// Returns a list of no hits, which takes no memory.
+    pub fn new(alloc: Global) -> Hits
+        ensures { result ≡ [] }
     {
-        let hits = Vec::with_capacity(alloc, 1)?;
-        Ok(Hits { hits })
+        Hits {
+            hits: Vec::new(alloc),
+        }
     }
 
     /// Appends a hit, or changes nothing for want of memory.
@@ -97,12 +98,13 @@ impl Model for Channels {
 }
 
 impl Channels {
-    /// Returns a list of no channels, with room for one.
-    pub fn new(alloc: Global) -> Result<Channels, OutOfMemory>
-        ensures { IfOk result (λ channels. channels ≡ []) }
+    /// Returns a list of no channels, which takes no memory.
+    pub fn new(alloc: Global) -> Channels
+        ensures { result ≡ [] }
     {
-        let channels = Vec::with_capacity(alloc, 1)?;
-        Ok(Channels { channels })
+        Channels {
+            channels: Vec::new(alloc),
+        }
     }
 
     /// Appends a channel, or changes nothing for want of memory.

@@ -11,10 +11,10 @@ returns g c =
     λ found reach found_after reach_after marked marked_after. (
       gone_all configs found reach found_after reach_after c.args.before.now c.args.after.now plus c.into_difference.result.gone_boards
           (c.into_difference.ensures.gone ∙ c.push_plus.ensures.gone
-          ∙ from_none _ _ _ (c.in_ok-push_shelf.ensures.gone found reach found_after reach_after marked marked_after) c.in_ok-comparison.ensures.gone),
+          ∙ from_none _ _ _ (c.in_ok-push_shelf.ensures.gone found reach found_after reach_after marked marked_after) c.new-comparison.ensures.gone),
       come_all configs found reach found_after reach_after c.args.before.now c.args.after.now plus c.push_shelf.new.comparison.come
           c.into_difference.result.new_boards
-          (from_none _ _ _ (c.in_ok-push_shelf.ensures.come found reach found_after reach_after marked marked_after) c.in_ok-comparison.ensures.come)
+          (from_none _ _ _ (c.in_ok-push_shelf.ensures.come found reach found_after reach_after marked marked_after) c.new-comparison.ensures.come)
           (c.into_difference.ensures.new ∙ c.in_ok-push_plus.ensures.come found_after reach_after marked_after
           ∙ ap (λ n. c.push_shelf.new.comparison.come ++ plus_keys found_after reach_after c.args.after.now n plus) c.len.ensures.value),
     )

@@ -26,5 +26,5 @@ returns-in_err-append_hits-clause-limit g c =
     let number = c.loop-number.number in
     let config = c.unwrap-config.result.now in
     let at : slice_get configs number ≡ Some config = sym c.at.ensures ∙ ap (option_map (λ config. config.now)) c.unwrap-config.ensures in
-    on_err_config c.from_residual-in_err-append_hits.result c.args.steps.now c.loop-number.steps c.append_hits.new.steps configs number config
+    on_err_config c.from_residual.result c.args.steps.now c.loop-number.steps c.append_hits.new.steps configs number config
     at c.loop-number.invariant.counted c.in_err-append_hits.ensures.limit
