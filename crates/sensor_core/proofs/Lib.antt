@@ -1,0 +1,3 @@
+pub mod ValuesLemmas
+pub mod AlarmsLemmas
+pub mod SensorsLemmas

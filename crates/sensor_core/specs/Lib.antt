@@ -1,0 +1,5 @@
+pub mod Limits
+pub mod Settings
+pub mod Sensors
+pub mod Updates
+pub mod Tables
