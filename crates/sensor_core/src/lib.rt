@@ -6,6 +6,8 @@ mod reading_range;
 mod sensor;
 mod setting;
 mod table;
+#[cfg(test)]
+mod tests;
 
 pub use limit::Limit;
 pub use reading_range::ReadingRange;
