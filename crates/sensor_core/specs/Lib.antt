@@ -3,3 +3,4 @@ pub mod Settings
 pub mod Sensors
 pub mod Updates
 pub mod Tables
+pub mod Lends

@@ -1,8 +1,11 @@
 ghost use Rattle.std.specs.Prelude.{◌≡◌, ◌<◌, ◌≤◌, ◌+◌, ◌↔◌, [], Some, None, IsOk, IfOk, OnOk, OnErr, option_map, option_copied, IfSome};
+ghost use Rattle.std.specs.Option.{option_copied_mut};
+ghost use Rattle.std.specs.Borrow.{sem};
 ghost use Rattle.sensor_core.specs.Settings.{IsRaw};
 ghost use Rattle.sensor_core.specs.Sensors.{Good, Lost};
 ghost use Rattle.sensor_core.specs.Updates.{good_after, lost_after, Takes};
 ghost use Rattle.sensor_core.specs.Tables.{sensor_at, IsLive, Puts};
+ghost use Rattle.sensor_core.specs.Lends.{LendsSensor};
 
 use crate::{ReadingRange, Sensor};
 use bmc_base::OutOfMemory;
@@ -21,14 +24,12 @@ pub struct SensorTable {
 
 impl Model for SensorTable {
     ghost use Rattle.std.specs.Prelude.{◌-◌};
-    ghost use Rattle.slab.specs.Slab.{slab_len, HasRoomFor};
+    ghost use Rattle.slab.specs.Slab.{slab_len};
     ghost use Rattle.sensor_core.specs.Tables.{Table};
 
     ghost Value = { Table };
 
     ghost view = { λ t. record { slots = t.slab.slots; spare = t.slab.capacity - slab_len t.slab } };
-
-    ghost invariant = { λ t. HasRoomFor t.slab 0 };
 }
 
 impl SensorTable {
@@ -48,7 +49,7 @@ impl SensorTable {
         ensures slots { self.new.slots ≡ self.old.slots }
         ensures room { OnOk result (n ≤ self.new.spare) }
         ensures more { self.old.spare ≤ self.new.spare }
-        ensures had_room { n ≤ self.old.spare → IsOk result }
+        ensures had_room { 0 < n → n ≤ self.old.spare → IsOk result }
     {
         let _ = alloc;
         self.slab.reserve(n)?;
@@ -80,6 +81,14 @@ impl SensorTable {
         ensures { option_copied result ≡ sensor_at self.now slot }
     {
         self.slab.get(slot)
+    }
+
+    /// Borrows the sensor in a slot for writing, if there is one.
+    pub fn get_mut(&mut self, slot: usize) -> Option<&mut Sensor>
+        ensures* lends { sem 𝓛 (LendsSensor self.entry slot result) }
+        ensures value { option_copied_mut result ≡ sensor_at self.old slot }
+    {
+        self.slab.get_mut(slot)
     }
 
     /// Takes a good reading of the sensor in a slot that has one, as [`Sensor::good`] does.
