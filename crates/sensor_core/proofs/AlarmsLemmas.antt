@@ -18,7 +18,7 @@ apart_by : (above : Bool) (at width value : ℤ) → pos 0 ≤ℤ width → cond
 apart_by true at width value low beyond = grind (arith, ints)
 apart_by false at width value low beyond = grind (arith, ints)
 
-apart : (limit : Limit) (value : Milli) → IsValidLimit limit → is_beyond limit value ≡ true → is_back limit value ≡ false
+pub apart : (limit : Limit) (value : Milli) → IsValidLimit limit → is_beyond limit value ≡ true → is_back limit value ≡ false
 apart limit value valid beyond = apart_by limit.above limit.value.0 limit.hysteresis.0 value.0 valid.upward beyond
 
 -- so a value that is back puts the alarm off
@@ -36,7 +36,7 @@ more_by : (test : Milli → Bool) (value : Milli) (since : List Milli) (back : B
 more_by test value since true never = beaten (test value) (list_any test since) never
 more_by test value since false never = ap (λ on. test value || on) (kept (list_any test since))
 
-on_more : (limit : Limit) (value : Milli) (values : List Milli) → IsValidLimit limit
+pub on_more : (limit : Limit) (value : Milli) (values : List Milli) → IsValidLimit limit
     → alarm_after limit (is_on limit values) value ≡ is_on limit (value ∷ values)
 on_more limit value values valid =
     more_by (is_beyond limit) value _ (is_back limit value) (apart limit value valid)

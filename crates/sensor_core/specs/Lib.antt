@@ -4,3 +4,5 @@ pub mod Sensors
 pub mod Updates
 pub mod Tables
 pub mod Lends
+pub mod Laws
+pub mod Examples

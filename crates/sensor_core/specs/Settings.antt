@@ -40,6 +40,10 @@ pub record IsValidSetting (setting : SensorSetting) : Type 0 where
 abbrev pub IsRaw : ℤ → Type 0
 IsRaw raw = unsigned_abs raw ≤ most_raw
 
--- the value of a raw number. The divisor is above zero, so the quotient is rounded down
+-- what comes of a raw number by the factor and the divisor. The divisor is above zero, so it is rounded down
+abbrev pub quotient_of : SensorSetting → ℤ → ℤ
+quotient_of setting raw = int_div_euclid (raw *ℤ setting.num) setting.den
+
+-- the value of a raw number
 abbrev pub value_of : SensorSetting → ℤ → Milli
-value_of setting raw = record { 0 = int_div_euclid (raw *ℤ setting.num) setting.den +ℤ setting.offset.0 }
+value_of setting raw = record { 0 = quotient_of setting raw +ℤ setting.offset.0 }
