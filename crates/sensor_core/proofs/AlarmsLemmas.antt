@@ -1,5 +1,6 @@
 -- Alarms, one value on.
-use Rattle.std.proofs.Common.{◌≡◌, ℕ, zero, suc, ◌+◌, ◌<◌, ◌≤◌, ℤ, pos, ◌+ℤ◌, ◌-ℤ◌, ◌≤ℤ◌, Bool, true, false, cond, not, ◌&&◌, ◌||◌, List, [], ◌∷◌, ◌++◌, map, take, drop, set, get_or, length, replicate, refl, sym, ap, add-one, ap₂, ◌∙◌, arith}
+use Rattle.std.proofs.Common.{◌≡◌, ℕ, zero, suc, ◌+◌, ◌<◌, ℤ, pos, ◌+ℤ◌, ◌-ℤ◌, ◌≤ℤ◌, Bool, true, false, cond, not, ◌&&◌, ◌||◌, List, [], ◌∷◌, ◌++◌, map, take}
+use Rattle.std.proofs.Common.{drop, set, get_or, length, replicate, refl, sym, ap, add-one, ap₂, ◌∙◌, arith}
 use Rattle.std.proofs.Math.Seq.{take-append_seam}
 use Rattle.std.proofs.lemmas.Int.{ints}
 use Rattle.std.proofs.lemmas.List.{take_all}
@@ -91,8 +92,8 @@ pub mixed_all : (limits : List Limit) (alarms now : List Bool) (value : Milli) (
 mixed_all limits alarms now value n e is =
     let after = alarms_after limits (take (length limits) alarms) value in
     let whole : now ≡ after ++ drop (length limits) alarms =
-        is ∙ ap (mixed limits alarms value) e
-        ∙ ap (λ all. alarms_after all (take (length limits) alarms) value ++ drop (length limits) alarms) (take_all (length limits) limits (omega arith)) in
+    is ∙ ap (mixed limits alarms value) e
+    ∙ ap (λ all. alarms_after all (take (length limits) alarms) value ++ drop (length limits) alarms) (take_all (length limits) limits (omega arith)) in
     ap (take (length limits)) whole
     ∙ ap (λ m. take m (after ++ drop (length limits) alarms)) (sym (length_after limits (take (length limits) alarms) value))
     ∙ take-append_seam after (drop (length limits) alarms)

@@ -1,5 +1,6 @@
 -- The laws of values and alarms.
-use Rattle.std.proofs.Common.{◌≡◌, ◌⊎◌, inl, inr, ℕ, zero, suc, ◌+◌, ◌*◌, ◌/◌, ◌%◌, ◌<◌, ◌≤◌, ℤ, pos, negsuc, ◌+ℤ◌, ◌*ℤ◌, ◌≤ℤ◌, ◌<ℤ◌, Bool, true, false, not, ◌&&◌, ◌||◌, List, [], ◌∷◌, ◌++◌, refl, sym, ap, ◌∙◌, arith}
+use Rattle.std.proofs.Common.{◌≡◌, ◌⊎◌, inl, inr, ℕ, zero, suc, ◌+◌, ◌*◌, ◌/◌, ◌%◌, ◌<◌, ◌≤◌, ℤ, pos, negsuc, ◌+ℤ◌, ◌*ℤ◌, ◌≤ℤ◌, ◌<ℤ◌, Bool, true, false, not}
+use Rattle.std.proofs.Common.{◌&&◌, ◌||◌, List, [], ◌∷◌, ◌++◌, refl, sym, ap, ◌∙◌, arith}
 use Rattle.std.proofs.lemmas.Int.{ints}
 use Rattle.std.specs.Int.{int_div_euclid}
 use Rattle.std.specs.List.{list_any}
@@ -7,7 +8,7 @@ use Rattle.bmc_base.specs.declared.milli.Milli.{Milli}
 use Rattle.sensor_core.specs.declared.limit.Limit.{Limit}
 use Rattle.sensor_core.specs.Limits.{IsValidLimit, is_beyond, is_back, is_on}
 use Rattle.sensor_core.specs.Laws.{IsFloor, ValuesAreFloors, IsRaised, AlarmsAreRaised}
-use Rattle.sensor_core.proofs.AlarmsLemmas.{apart, on_more}
+use Rattle.sensor_core.proofs.AlarmsLemmas.{on_more}
 
 -- of numbers from zero on
 below : (m n : ℕ) → 0 < n → n * (m / n) ≤ m

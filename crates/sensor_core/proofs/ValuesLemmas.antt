@@ -1,7 +1,7 @@
 -- Values of raw numbers, which fit 64 bits.
 use Rattle.std.proofs.Common.{◌≡◌, ℕ, ◌*◌, ◌^◌, ◌≤◌, ℤ, pos, negsuc, ◌+ℤ◌, ◌*ℤ◌, ◌≤ℤ◌, arith, ap, ◌∙◌, w64, to_z, of_z}
 use Rattle.std.proofs.Math.Nat.{div-le_self}
-use Rattle.std.proofs.lemmas.Int.{ints, fits_signed_mul, fits_signed_from_abs, unsigned_abs-mul, to_z-of_z}
+use Rattle.std.proofs.lemmas.Int.{ints, fits_signed_from_abs, unsigned_abs-mul, to_z-of_z}
 use Rattle.std.specs.Int.{int_div_euclid}
 use Rattle.std.specs.Int.RustNames.{unsigned_abs, FitsSigned}
 use Rattle.bmc_base.specs.declared.milli.Milli.{Milli}
@@ -34,11 +34,11 @@ pub quotient_is : (raw num den quotient : ℤ) → unsigned_abs raw ≤ 10 ^ 9 �
     → quotient ≡ int_div_euclid (wide (wide raw *ℤ wide num)) (wide den) → IsQuotient raw num den quotient
 quotient_is raw num den quotient p q low r e =
     let product : wide (wide raw *ℤ wide num) ≡ raw *ℤ num =
-        ap (λ (z : ℤ). wide (z *ℤ wide num)) (read_back raw (omega (arith, p)))
-        ∙ ap (λ (z : ℤ). wide (raw *ℤ z)) (read_back num (omega (arith, q)))
-        ∙ read_back (raw *ℤ num) (omega (arith, product_small raw num p q)) in
+    ap (λ (z : ℤ). wide (z *ℤ wide num)) (read_back raw (omega (arith, p)))
+    ∙ ap (λ (z : ℤ). wide (raw *ℤ z)) (read_back num (omega (arith, q)))
+    ∙ read_back (raw *ℤ num) (omega (arith, product_small raw num p q)) in
     let value : quotient ≡ int_div_euclid (raw *ℤ num) den =
-        e ∙ ap (λ (z : ℤ). int_div_euclid z (wide den)) product ∙ ap (λ (z : ℤ). int_div_euclid (raw *ℤ num) z) (read_back den (omega (arith, r))) in
+    e ∙ ap (λ (z : ℤ). int_div_euclid z (wide den)) product ∙ ap (λ (z : ℤ). int_div_euclid (raw *ℤ num) z) (read_back den (omega (arith, r))) in
     record { value = value; small = rw value (quotient_small (10 ^ 15) (raw *ℤ num) den low (product_small raw num p q)) }
 
 sum_small : (quotient offset : ℤ) → unsigned_abs quotient ≤ 10 ^ 15 → unsigned_abs offset ≤ 10 ^ 9 → unsigned_abs (quotient +ℤ offset) ≤ 10 ^ 16
@@ -61,5 +61,5 @@ pub value_is : (raw num den quotient offset : ℤ) → IsQuotient raw num den qu
     → ◌≡◌ {A = Milli} (record { 0 = wide (wide quotient +ℤ wide offset) }) (record { 0 = int_div_euclid (raw *ℤ num) den +ℤ offset })
 value_is raw num den quotient offset is q =
     let sum : wide (wide quotient +ℤ wide offset) ≡ quotient +ℤ offset =
-        ap wide (sum_is quotient offset is.small q) ∙ read_back (quotient +ℤ offset) (sum_small quotient offset is.small q) in
+    ap wide (sum_is quotient offset is.small q) ∙ read_back (quotient +ℤ offset) (sum_small quotient offset is.small q) in
     ap (λ (z : ℤ). record { 0 = z }) (sum ∙ ap (λ (z : ℤ). z +ℤ offset) is.value)

@@ -1,9 +1,9 @@
 -- A sensor with an alarm above 100.000 and one below 0.000, and some of its outcomes.
-use Rattle.std.specs.Prelude.{ℕ, ℤ, pos, negsuc, true, false, List, [], ◌∷◌, ◌++◌, replicate, map}
+use Rattle.std.specs.Prelude.{ℕ, ℤ, pos, true, false, List, ◌∷◌, ◌++◌, replicate, map}
 use Rattle.bmc_base.specs.declared.milli.Milli.{Milli}
 use Rattle.sensor_core.specs.declared.limit.Limit.{Limit}
 use Rattle.sensor_core.specs.declared.setting.SensorSetting.{SensorSetting}
-use Rattle.sensor_core.specs.Sensors.{Outcome, Good, Lost, Sensor, sensor_of}
+use Rattle.sensor_core.specs.Sensors.{Outcome, Lost, Sensor, sensor_of}
 
 -- goes on at 100.000 and off below 95.000
 abbrev pub hot : Limit

@@ -1,5 +1,5 @@
 -- The limits of a sensor, and the alarms that they give.
-use Rattle.std.specs.Prelude.{ℕ, ◌≤◌, ℤ, pos, ◌+ℤ◌, ◌-ℤ◌, ◌≤ℤ◌, int_lt, int_le, unsigned_abs, Bool, not, if◌then◌else◌, List, take_while}
+use Rattle.std.specs.Prelude.{ℕ, ◌≤◌, pos, ◌+ℤ◌, ◌-ℤ◌, ◌≤ℤ◌, int_lt, int_le, unsigned_abs, Bool, not, if◌then◌else◌, List, take_while}
 use Rattle.std.specs.List.{list_any}
 use Rattle.bmc_base.specs.declared.milli.Milli.{Milli}
 use Rattle.sensor_core.specs.declared.limit.Limit.{Limit}

@@ -5,12 +5,14 @@ ghost use Rattle.sensor_core.specs.Sensors.{Good, Lost, has_failed, age_at, is_b
 ghost use Rattle.sensor_core.specs.Laws.{ValuesAreFloors, AlarmsAreRaised};
 ghost use Rattle.sensor_core.specs.Examples.{hot, cold, halved, millis, losses_then, after};
 
-/// The quotient of a raw number is the largest whole number that is not above the exact one, also below zero.
+/// The quotient of a raw number is the largest whole number that is not above the exact one, also
+/// below zero.
 pub fn values_are_floors()
     ensures { ValuesAreFloors }
 {}
 
-/// An alarm is on exactly where one of the values is beyond the limit and no later one is back from it.
+/// An alarm is on exactly where one of the values is beyond the limit and no later one is back from
+/// it.
 pub fn alarms_are_raised()
     ensures { AlarmsAreRaised }
 {}

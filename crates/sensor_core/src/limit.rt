@@ -7,8 +7,8 @@ use bmc_base::Milli;
 // How severe a limit is at the most.
 const MOST_SEVERE: u8 = 1;
 
-// How many thousandths a limit and its hysteresis have at the most.
-const MOST_MILLI: u64 = 1_000_000_000;
+// How many thousandths a value, an offset or a hysteresis that is set has at the most.
+pub(crate) const MOST_MILLI: u64 = 1_000_000_000;
 
 /// A limit of a sensor, with the alarm that it gives.
 #[derive(Clone, Copy, Debug, PartialEq, Eq)]

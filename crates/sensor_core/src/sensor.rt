@@ -39,11 +39,11 @@ impl Model for Sensor {
     ghost Value = { Sensor };
 
     ghost view = { λ s. record {
-        setting = s.setting;
-        value = option_map (λ (reading : Reading). reading.value) s.last;
-        read_at = option_map (λ (reading : Reading). reading.tick) s.last;
-        lost = s.losses;
-        alarms = take s.setting.count s.alarms;
+      setting = s.setting;
+      value = option_map (λ (reading : Reading). reading.value) s.last;
+      read_at = option_map (λ (reading : Reading). reading.tick) s.last;
+      lost = s.losses;
+      alarms = take s.setting.count s.alarms;
     } };
 
     ghost invariant = { λ s. IsValidSetting s.setting × (s.losses ≤ failing_losses) };
@@ -63,8 +63,8 @@ impl Sensor {
         }
     }
 
-    /// Takes a good reading, a raw number at a tick. A failed sensor works again. `ReadingRange` comes where the
-    /// number is out of its range, -1,000,000,000 to 1,000,000,000, and then nothing changes.
+    /// Takes a good reading, a raw number at a tick. A failed sensor works again. `ReadingRange` comes
+    /// where the number is out of its range, -1,000,000,000 to 1,000,000,000, and then nothing changes.
     pub fn good(&mut self, raw: i64, tick: u64) -> Result<(), ReadingRange>
         ensures range { IsOk result ↔ IsRaw raw }
         ensures takes { OnOk result (Takes self.old self.new (Good raw tick)) }
@@ -85,7 +85,7 @@ impl Sensor {
         ensures valid { IsValidSetting self.old.setting }
     {
         let value = self.setting.value(raw);
-        update(&mut self.alarms, self.setting.limits_in_use(), value);
+        update_alarms(&mut self.alarms, self.setting.limits_in_use(), value);
         self.last = Some(Reading { value, tick });
         self.losses = 0;
     }
@@ -122,8 +122,8 @@ impl Sensor {
         self.losses == FAILING_LOSSES
     }
 
-    /// Returns how many ticks before this one the last good reading was, if there was one. It is 0 where this
-    /// tick is earlier.
+    /// Returns how many ticks before this one the last good reading was, if there was one. It is 0
+    /// where this tick is earlier.
     pub fn age(&self, tick: u64) -> Option<u64>
         ensures { result ≡ age_at self.now tick }
     {
@@ -152,8 +152,8 @@ impl Sensor {
         timeout != 0 && self.age(tick).is_some_and(|age| age > timeout)
     }
 
-    /// Whether the sensor is no good input at this tick: it had no good reading, it failed, or its last good
-    /// reading is older than its timeout. A timeout of 0 never passes.
+    /// Whether the sensor is no good input at this tick: it had no good reading, it failed, or its last
+    /// good reading is older than its timeout. A timeout of 0 never passes.
     pub fn is_bad(&self, tick: u64) -> bool
         ensures { result ≡ is_bad self.now tick }
     {
@@ -162,7 +162,7 @@ impl Sensor {
 }
 
 // Puts the alarm of each limit on or off by one more value.
-fn update(alarms: &mut [bool; 8], limits: &[Limit], value: Milli)
+fn update_alarms(alarms: &mut [bool; 8], limits: &[Limit], value: Milli)
     requires valid { All IsValidLimit limits.now }
     requires few { length limits.now ≤ most_limits }
     ensures { take (length limits.now) alarms.new ≡ alarms_after limits.now (take (length limits.now) alarms.old) value }

@@ -2,18 +2,17 @@ ghost use Rattle.std.specs.Prelude.{◌≡◌, ◌≤◌, ◌↔◌, IsTrue};
 ghost use Rattle.sensor_core.specs.Settings.{IsValidScale, IsValidSetting, IsRaw, most_limits, limits_of, value_of};
 
 use crate::Limit;
+use crate::limit::MOST_MILLI;
 use bmc_base::Milli;
 
 // How large a factor, a divisor or a timeout is at the most.
 const MOST_SCALE: u64 = 1_000_000;
 
-// How large an offset is at the most.
-const MOST_MILLI: u64 = 1_000_000_000;
-
 // How many limits a sensor has at the most.
 const MOST_LIMITS: u8 = 8;
 
-/// How the values of a sensor come of raw numbers, when they are too old, and which alarms they give.
+/// How the values of a sensor come of raw numbers, when they are too old, and which alarms they
+/// give.
 #[derive(Clone, Copy, Debug, PartialEq, Eq)]
 pub struct SensorSetting {
     /// The factor of a raw number, -1,000,000 to 1,000,000.

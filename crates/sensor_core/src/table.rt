@@ -43,8 +43,8 @@ impl SensorTable {
         })
     }
 
-    /// Makes room for `n` more sensors. Where there is room for them it takes no memory. The sensors stay, and no
-    /// room is given back, also for want of memory.
+    /// Makes room for `n` more sensors. Where there is room for them it takes no memory. The sensors
+    /// stay, and no room is given back, also for want of memory.
     pub fn reserve(&mut self, alloc: Global, n: usize) -> Result<(), OutOfMemory>
         ensures slots { self.new.slots ≡ self.old.slots }
         ensures room { OnOk result (n ≤ self.new.spare) }
@@ -66,7 +66,8 @@ impl SensorTable {
         self.slab.insert_reserved(sensor)
     }
 
-    /// Takes the sensor out of a slot that has one. The slot is free then, and there is room for one more.
+    /// Takes the sensor out of a slot that has one. The slot is free then, and there is room for one
+    /// more.
     pub fn take(&mut self, slot: usize) -> Sensor
         requires { IsLive self.old slot }
         ensures sensor { sensor_at self.old slot ≡ Some result }

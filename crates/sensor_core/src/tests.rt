@@ -33,100 +33,119 @@ fn eight_limits() -> SensorSetting {
     }
 }
 
-// A raw number or a loss, the tick, and what the sensor shows at that tick: its value, whether it failed, its
-// age, whether it is a bad input, and a bit for each alarm that is on.
-type Row = (
-    Option<i64>,
-    u64,
-    Option<i64>,
-    bool,
-    Option<u64>,
-    bool,
-    u8,
-);
+// A raw number or a loss, its tick, and what the sensor shows at that tick, with a bit for each
+// alarm that is on.
+#[derive(Clone, Copy)]
+struct Row {
+    raw: Option<i64>,
+    tick: u64,
+    value: Option<i64>,
+    is_failed: bool,
+    age: Option<u64>,
+    is_bad: bool,
+    alarms: u8,
+}
 
-// The last five columns come from a search through all rows so far, in Python.
-const ROWS: [Row; 75] = [
-    (None, 0, None, false, None, true, 0b00000000),
-    (None, 0, None, false, None, true, 0b00000000),
-    (None, 0, None, false, None, true, 0b00000000),
-    (None, 0, None, false, None, true, 0b00000000),
-    (None, 0, None, true, None, true, 0b00000000),
-    (None, 0, None, true, None, true, 0b00000000),
-    (Some(0), 0, Some(-250), false, Some(0), false, 0b01110000),
-    (Some(-1), 0, Some(-251), false, Some(0), false, 0b01110000),
-    (Some(1), 0, Some(-250), false, Some(0), false, 0b01110000),
-    (Some(2), 0, Some(-249), false, Some(0), false, 0b01110000),
-    (Some(-2), 0, Some(-251), false, Some(0), false, 0b01110000),
-    (Some(-3), 0, Some(-252), false, Some(0), false, 0b01110000),
-    (Some(200_500), 1, Some(100_000), false, Some(0), false, 0b01000111),
-    (Some(200_498), 2, Some(99_999), false, Some(0), false, 0b01000111),
-    (Some(190_500), 3, Some(95_000), false, Some(0), false, 0b01000111),
-    (Some(190_498), 4, Some(94_999), false, Some(0), false, 0b01000110),
-    (Some(200_498), 5, Some(99_999), false, Some(0), false, 0b01000110),
-    (Some(200_500), 6, Some(100_000), false, Some(0), false, 0b01000111),
-    (Some(160_500), 7, Some(80_000), false, Some(0), false, 0b01000110),
-    (Some(160_498), 8, Some(79_999), false, Some(0), false, 0b01000100),
-    (Some(160_496), 9, Some(79_998), false, Some(0), false, 0b01000100),
-    (Some(100_500), 10, Some(50_000), false, Some(0), false, 0b01100100),
-    (Some(100_498), 11, Some(49_999), false, Some(0), false, 0b01100000),
-    (Some(160_498), 12, Some(79_999), false, Some(0), false, 0b01100000),
-    (None, 12, Some(79_999), false, Some(0), false, 0b01100000),
-    (None, 12, Some(79_999), false, Some(0), false, 0b01100000),
-    (None, 12, Some(79_999), false, Some(0), false, 0b01100000),
-    (None, 12, Some(79_999), false, Some(0), false, 0b01100000),
-    (Some(160_500), 13, Some(80_000), false, Some(0), false, 0b01100110),
-    (None, 13, Some(80_000), false, Some(0), false, 0b01100110),
-    (None, 13, Some(80_000), false, Some(0), false, 0b01100110),
-    (None, 13, Some(80_000), false, Some(0), false, 0b01100110),
-    (None, 13, Some(80_000), false, Some(0), false, 0b01100110),
-    (None, 13, Some(80_000), true, Some(0), true, 0b01100110),
-    (None, 16, Some(80_000), true, Some(3), true, 0b01100110),
-    (Some(100_502), 18, Some(50_001), false, Some(0), false, 0b01100100),
-    (Some(120_502), 19, Some(60_001), false, Some(0), false, 0b01100100),
-    (Some(120_500), 20, Some(60_000), false, Some(0), false, 0b01100100),
-    (Some(170_500), 21, Some(85_000), false, Some(0), false, 0b01100110),
-    (Some(170_502), 22, Some(85_001), false, Some(0), false, 0b01000110),
-    (Some(120_498), 23, Some(59_999), false, Some(0), false, 0b01100100),
-    (Some(170_504), 24, Some(85_002), false, Some(0), false, 0b01000110),
-    (Some(500), 25, Some(0), false, Some(0), false, 0b01110000),
-    (Some(502), 26, Some(1), false, Some(0), false, 0b01100000),
-    (Some(498), 27, Some(-1), false, Some(0), false, 0b01110000),
-    (Some(502), 28, Some(1), false, Some(0), false, 0b01100000),
-    (Some(-39_500), 29, Some(-20_000), false, Some(0), false, 0b01111000),
-    (Some(-39_502), 30, Some(-20_001), false, Some(0), false, 0b01111000),
-    (Some(-39_498), 31, Some(-19_999), false, Some(0), false, 0b01111000),
-    (Some(-19_500), 32, Some(-10_000), false, Some(0), false, 0b01111000),
-    (Some(-19_498), 33, Some(-9_999), false, Some(0), false, 0b01110000),
-    (Some(-39_496), 34, Some(-19_998), false, Some(0), false, 0b01110000),
-    (Some(-39_502), 35, Some(-20_001), false, Some(0), false, 0b01111000),
-    (Some(-39_504), 36, Some(-20_002), false, Some(0), false, 0b00111000),
-    (None, 55, Some(-20_002), false, Some(19), false, 0b00111000),
-    (None, 56, Some(-20_002), false, Some(20), false, 0b00111000),
-    (None, 57, Some(-20_002), false, Some(21), true, 0b00111000),
-    (Some(-41_500), 57, Some(-21_000), false, Some(0), false, 0b00111000),
-    (Some(-1_999_502), 58, Some(-1_000_001), false, Some(0), false, 0b10111000),
-    (Some(-1_999_500), 59, Some(-1_000_000), false, Some(0), false, 0b10111000),
-    (Some(496), 60, Some(-2), false, Some(0), false, 0b11110000),
-    (Some(500), 61, Some(0), false, Some(0), false, 0b11110000),
-    (Some(502), 62, Some(1), false, Some(0), false, 0b01100000),
-    (Some(1_000_000_000), 62, Some(499_999_750), false, Some(0), false, 0b01000111),
-    (Some(-1_000_000_000), 62, Some(-500_000_250), false, Some(0), false, 0b10111000),
-    (Some(200_502), 63, Some(100_001), false, Some(0), false, 0b01000111),
-    (Some(190_496), 64, Some(94_998), false, Some(0), false, 0b01000110),
-    (Some(60_500), 65, Some(30_000), false, Some(0), false, 0b01100000),
-    (Some(-59_500), 66, Some(-30_000), false, Some(0), false, 0b00111000),
-    (None, 66, Some(-30_000), false, Some(0), false, 0b00111000),
-    (None, 66, Some(-30_000), false, Some(0), false, 0b00111000),
-    (None, 66, Some(-30_000), false, Some(0), false, 0b00111000),
-    (None, 66, Some(-30_000), false, Some(0), false, 0b00111000),
-    (None, 96, Some(-30_000), true, Some(30), true, 0b00111000),
-    (Some(180_500), 101, Some(90_000), false, Some(0), false, 0b01000110),
-];
+macro_rules! rows {
+    ($($raw:expr, $tick:expr => $value:expr, $failed:expr, $age:expr, $bad:expr, $alarms:expr;)*) => {
+        [$(Row {
+            raw: $raw,
+            tick: $tick,
+            value: $value,
+            is_failed: $failed,
+            age: $age,
+            is_bad: $bad,
+            alarms: $alarms,
+        }),*]
+    };
+}
+
+// What is shown comes from a search through all rows so far, in Python.
+const ROWS: [Row; 75] = rows! {
+    None, 0 => None, false, None, true, 0b0000_0000;
+    None, 0 => None, false, None, true, 0b0000_0000;
+    None, 0 => None, false, None, true, 0b0000_0000;
+    None, 0 => None, false, None, true, 0b0000_0000;
+    None, 0 => None, true, None, true, 0b0000_0000;
+    None, 0 => None, true, None, true, 0b0000_0000;
+    Some(0), 0 => Some(-250), false, Some(0), false, 0b0111_0000;
+    Some(-1), 0 => Some(-251), false, Some(0), false, 0b0111_0000;
+    Some(1), 0 => Some(-250), false, Some(0), false, 0b0111_0000;
+    Some(2), 0 => Some(-249), false, Some(0), false, 0b0111_0000;
+    Some(-2), 0 => Some(-251), false, Some(0), false, 0b0111_0000;
+    Some(-3), 0 => Some(-252), false, Some(0), false, 0b0111_0000;
+    Some(200_500), 1 => Some(100_000), false, Some(0), false, 0b0100_0111;
+    Some(200_498), 2 => Some(99_999), false, Some(0), false, 0b0100_0111;
+    Some(190_500), 3 => Some(95_000), false, Some(0), false, 0b0100_0111;
+    Some(190_498), 4 => Some(94_999), false, Some(0), false, 0b0100_0110;
+    Some(200_498), 5 => Some(99_999), false, Some(0), false, 0b0100_0110;
+    Some(200_500), 6 => Some(100_000), false, Some(0), false, 0b0100_0111;
+    Some(160_500), 7 => Some(80_000), false, Some(0), false, 0b0100_0110;
+    Some(160_498), 8 => Some(79_999), false, Some(0), false, 0b0100_0100;
+    Some(160_496), 9 => Some(79_998), false, Some(0), false, 0b0100_0100;
+    Some(100_500), 10 => Some(50_000), false, Some(0), false, 0b0110_0100;
+    Some(100_498), 11 => Some(49_999), false, Some(0), false, 0b0110_0000;
+    Some(160_498), 12 => Some(79_999), false, Some(0), false, 0b0110_0000;
+    None, 12 => Some(79_999), false, Some(0), false, 0b0110_0000;
+    None, 12 => Some(79_999), false, Some(0), false, 0b0110_0000;
+    None, 12 => Some(79_999), false, Some(0), false, 0b0110_0000;
+    None, 12 => Some(79_999), false, Some(0), false, 0b0110_0000;
+    Some(160_500), 13 => Some(80_000), false, Some(0), false, 0b0110_0110;
+    None, 13 => Some(80_000), false, Some(0), false, 0b0110_0110;
+    None, 13 => Some(80_000), false, Some(0), false, 0b0110_0110;
+    None, 13 => Some(80_000), false, Some(0), false, 0b0110_0110;
+    None, 13 => Some(80_000), false, Some(0), false, 0b0110_0110;
+    None, 13 => Some(80_000), true, Some(0), true, 0b0110_0110;
+    None, 16 => Some(80_000), true, Some(3), true, 0b0110_0110;
+    Some(100_502), 18 => Some(50_001), false, Some(0), false, 0b0110_0100;
+    Some(120_502), 19 => Some(60_001), false, Some(0), false, 0b0110_0100;
+    Some(120_500), 20 => Some(60_000), false, Some(0), false, 0b0110_0100;
+    Some(170_500), 21 => Some(85_000), false, Some(0), false, 0b0110_0110;
+    Some(170_502), 22 => Some(85_001), false, Some(0), false, 0b0100_0110;
+    Some(120_498), 23 => Some(59_999), false, Some(0), false, 0b0110_0100;
+    Some(170_504), 24 => Some(85_002), false, Some(0), false, 0b0100_0110;
+    Some(500), 25 => Some(0), false, Some(0), false, 0b0111_0000;
+    Some(502), 26 => Some(1), false, Some(0), false, 0b0110_0000;
+    Some(498), 27 => Some(-1), false, Some(0), false, 0b0111_0000;
+    Some(502), 28 => Some(1), false, Some(0), false, 0b0110_0000;
+    Some(-39_500), 29 => Some(-20_000), false, Some(0), false, 0b0111_1000;
+    Some(-39_502), 30 => Some(-20_001), false, Some(0), false, 0b0111_1000;
+    Some(-39_498), 31 => Some(-19_999), false, Some(0), false, 0b0111_1000;
+    Some(-19_500), 32 => Some(-10_000), false, Some(0), false, 0b0111_1000;
+    Some(-19_498), 33 => Some(-9_999), false, Some(0), false, 0b0111_0000;
+    Some(-39_496), 34 => Some(-19_998), false, Some(0), false, 0b0111_0000;
+    Some(-39_502), 35 => Some(-20_001), false, Some(0), false, 0b0111_1000;
+    Some(-39_504), 36 => Some(-20_002), false, Some(0), false, 0b0011_1000;
+    None, 55 => Some(-20_002), false, Some(19), false, 0b0011_1000;
+    None, 56 => Some(-20_002), false, Some(20), false, 0b0011_1000;
+    None, 57 => Some(-20_002), false, Some(21), true, 0b0011_1000;
+    Some(-41_500), 57 => Some(-21_000), false, Some(0), false, 0b0011_1000;
+    Some(-1_999_502), 58 => Some(-1_000_001), false, Some(0), false, 0b1011_1000;
+    Some(-1_999_500), 59 => Some(-1_000_000), false, Some(0), false, 0b1011_1000;
+    Some(496), 60 => Some(-2), false, Some(0), false, 0b1111_0000;
+    Some(500), 61 => Some(0), false, Some(0), false, 0b1111_0000;
+    Some(502), 62 => Some(1), false, Some(0), false, 0b0110_0000;
+    Some(1_000_000_000), 62 => Some(499_999_750), false, Some(0), false, 0b0100_0111;
+    Some(-1_000_000_000), 62 => Some(-500_000_250), false, Some(0), false, 0b1011_1000;
+    Some(200_502), 63 => Some(100_001), false, Some(0), false, 0b0100_0111;
+    Some(190_496), 64 => Some(94_998), false, Some(0), false, 0b0100_0110;
+    Some(60_500), 65 => Some(30_000), false, Some(0), false, 0b0110_0000;
+    Some(-59_500), 66 => Some(-30_000), false, Some(0), false, 0b0011_1000;
+    None, 66 => Some(-30_000), false, Some(0), false, 0b0011_1000;
+    None, 66 => Some(-30_000), false, Some(0), false, 0b0011_1000;
+    None, 66 => Some(-30_000), false, Some(0), false, 0b0011_1000;
+    None, 66 => Some(-30_000), false, Some(0), false, 0b0011_1000;
+    None, 96 => Some(-30_000), true, Some(30), true, 0b0011_1000;
+    Some(180_500), 101 => Some(90_000), false, Some(0), false, 0b0100_0110;
+};
 
 fn assert_alarms(rt: &impl Abort, sensor: &Sensor, bits: u8, row: usize) {
     for n in 0..8 {
-        assert_eq!(rt; sensor.alarm(n), bits >> n & 1 == 1, "alarm {n} in row {row}");
+        assert_eq!(rt;
+            sensor.alarm(n),
+            bits >> n & 1 == 1,
+            "alarm {n} in row {row}"
+        );
     }
     assert!(rt; !sensor.alarm(8) && !sensor.alarm(255));
 }
@@ -137,16 +156,17 @@ fn outcomes_in_turn(rt: HostRuntime) {
     assert!(rt; setting.is_valid());
     let mut sensor = Sensor::new(setting);
     assert_eq!(rt; sensor.alarms().len(), 8);
-    for (row, (raw, tick, value, failed, age, bad, bits)) in ROWS.iter().enumerate() {
-        match raw {
-            Some(raw) => assert_eq!(rt; sensor.good(*raw, *tick), Ok(()), "in row {row}"),
+    for (number, row) in ROWS.iter().enumerate() {
+        match row.raw {
+            Some(raw) => assert_eq!(rt; sensor.good(raw, row.tick), Ok(()), "in row {number}"),
             None => sensor.lost(),
         }
-        assert_eq!(rt; sensor.value().map(|value| value.0), *value, "in row {row}");
-        assert_eq!(rt; sensor.is_failed(), *failed, "in row {row}");
-        assert_eq!(rt; sensor.age(*tick), *age, "in row {row}");
-        assert_eq!(rt; sensor.is_bad(*tick), *bad, "in row {row}");
-        assert_alarms(&rt, &sensor, *bits, row);
+        let value = sensor.value().map(|value| value.0);
+        assert_eq!(rt; value, row.value, "in row {number}");
+        assert_eq!(rt; sensor.is_failed(), row.is_failed, "in row {number}");
+        assert_eq!(rt; sensor.age(row.tick), row.age, "in row {number}");
+        assert_eq!(rt; sensor.is_bad(row.tick), row.is_bad, "in row {number}");
+        assert_alarms(&rt, &sensor, row.alarms, number);
     }
 }
 
@@ -176,8 +196,20 @@ fn raw_numbers_have_values(rt: HostRuntime) {
         (1, 1_000_000, 0, -1_000_000, Ok(-1)),
         (1, 1_000_000, 0, -1_000_001, Ok(-2)),
         (0, 9, -1, -1_000_000_000, Ok(-1)),
-        (1_000_000, 1, 1_000_000_000, 1_000_000_000, Ok(1_000_001_000_000_000)),
-        (1_000_000, 1, -1_000_000_000, -1_000_000_000, Ok(-1_000_001_000_000_000)),
+        (
+            1_000_000,
+            1,
+            1_000_000_000,
+            1_000_000_000,
+            Ok(1_000_001_000_000_000),
+        ),
+        (
+            1_000_000,
+            1,
+            -1_000_000_000,
+            -1_000_000_000,
+            Ok(-1_000_001_000_000_000),
+        ),
         (-1_000_000, 1_000_000, 0, 999_999_999, Ok(-999_999_999)),
         (1, 1, 0, 1_000_000_001, Err(ReadingRange)),
         (1, 1, 0, -1_000_000_001, Err(ReadingRange)),
@@ -190,7 +222,11 @@ fn raw_numbers_have_values(rt: HostRuntime) {
         let mut sensor = Sensor::new(setting);
         sensor.lost();
         assert_eq!(rt; sensor.good(raw, 7), wanted.map(|_| ()), "at {raw}");
-        assert_eq!(rt; sensor.value().map(|value| value.0), wanted.ok(), "at {raw}");
+        assert_eq!(rt;
+            sensor.value().map(|value| value.0),
+            wanted.ok(),
+            "at {raw}"
+        );
         assert_eq!(rt; sensor.setting().num, num);
     }
 }

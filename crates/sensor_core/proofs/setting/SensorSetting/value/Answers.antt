@@ -1,4 +1,4 @@
-use Rattle.sensor_core.proofs.ValuesLemmas.{IsQuotient, quotient_is, sum_fits, value_is}
+use Rattle.sensor_core.proofs.ValuesLemmas.{quotient_is, sum_fits, value_is}
 use Rattle.sensor_core.proofs.setting.SensorSetting.value.Goals as goal
 
 pub overflow_add-result : goal.overflow_add-result

@@ -1,6 +1,6 @@
-use Rattle.std.proofs.Common.{◌≡◌, ◌<◌, length, arith}
+use Rattle.std.proofs.Common.{◌<◌, length, arith}
 use Rattle.sensor_core.proofs.AlarmsLemmas.{mixed_next, mixed_all}
-use Rattle.sensor_core.proofs.sensor.update.Goals as goal
+use Rattle.sensor_core.proofs.sensor.update_alarms.Goals as goal
 
 pub loop-n-preserved : goal.loop-n-preserved
 loop-n-preserved c =
