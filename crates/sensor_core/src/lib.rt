@@ -1,5 +1,5 @@
-//! Tells what a sensor shows of its readings and losses, among them its alarms, and holds sensors by
-//! slot.
+//! Tells what a sensor shows of its readings and losses, among them its alarms, and holds sensors
+//! by slot.
 #![tactic(auto)]
 
 mod law;

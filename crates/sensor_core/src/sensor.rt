@@ -63,8 +63,9 @@ impl Sensor {
         }
     }
 
-    /// Takes a good reading, a raw number at a tick. A failed sensor works again. `ReadingRange` comes
-    /// where the number is out of its range, -1,000,000,000 to 1,000,000,000, and then nothing changes.
+    /// Takes a good reading, a raw number at a tick. A failed sensor works again. `ReadingRange`
+    /// comes where the number is out of its range, -1,000,000,000 to 1,000,000,000, and then
+    /// nothing changes.
     pub fn good(&mut self, raw: i64, tick: u64) -> Result<(), ReadingRange>
         ensures range { IsOk result ↔ IsRaw raw }
         ensures takes { OnOk result (Takes self.old self.new (Good raw tick)) }
@@ -137,7 +138,8 @@ impl Sensor {
         &self.alarms[..usize::from(self.setting.count)]
     }
 
-    /// Whether the alarm of the limit at this position is on. No alarm is on behind the limits in use.
+    /// Whether the alarm of the limit at this position is on. No alarm is on behind the limits in
+    /// use.
     pub fn alarm(&self, n: u8) -> bool
         ensures { result ≡ has_alarm self.now n }
     {
@@ -152,8 +154,8 @@ impl Sensor {
         timeout != 0 && self.age(tick).is_some_and(|age| age > timeout)
     }
 
-    /// Whether the sensor is no good input at this tick: it had no good reading, it failed, or its last
-    /// good reading is older than its timeout. A timeout of 0 never passes.
+    /// Whether the sensor is no good input at this tick: it had no good reading, it failed, or its
+    /// last good reading is older than its timeout. A timeout of 0 never passes.
     pub fn is_bad(&self, tick: u64) -> bool
         ensures { result ≡ is_bad self.now tick }
     {

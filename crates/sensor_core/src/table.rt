@@ -43,8 +43,8 @@ impl SensorTable {
         })
     }
 
-    /// Makes room for `n` more sensors. Where there is room for them it takes no memory. The sensors
-    /// stay, and no room is given back, also for want of memory.
+    /// Makes room for `n` more sensors. Where there is room for them it takes no memory. The
+    /// sensors stay, and no room is given back, also for want of memory.
     pub fn reserve(&mut self, alloc: Global, n: usize) -> Result<(), OutOfMemory>
         ensures slots { self.new.slots ≡ self.old.slots }
         ensures room { OnOk result (n ≤ self.new.spare) }
@@ -56,7 +56,8 @@ impl SensorTable {
         Ok(())
     }
 
-    /// Puts a sensor into a free slot, and returns the slot. It takes no memory, since there is room.
+    /// Puts a sensor into a free slot, and returns the slot. It takes no memory, since there is
+    /// room.
     pub fn put(&mut self, sensor: Sensor) -> usize
         requires { 0 < self.old.spare }
         ensures free { sensor_at self.old result ≡ None }
@@ -66,8 +67,8 @@ impl SensorTable {
         self.slab.insert_reserved(sensor)
     }
 
-    /// Takes the sensor out of a slot that has one. The slot is free then, and there is room for one
-    /// more.
+    /// Takes the sensor out of a slot that has one. The slot is free then, and there is room for
+    /// one more.
     pub fn take(&mut self, slot: usize) -> Sensor
         requires { IsLive self.old slot }
         ensures sensor { sensor_at self.old slot ≡ Some result }

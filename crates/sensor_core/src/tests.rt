@@ -47,15 +47,15 @@ struct Row {
 }
 
 macro_rules! rows {
-    ($($raw:expr, $tick:expr => $value:expr, $failed:expr, $age:expr, $bad:expr, $alarms:expr;)*) => {
+    ($($raw:expr, $at:expr => $value:expr, $failed:expr, $age:expr, $bad:expr, $bits:expr;)*) => {
         [$(Row {
             raw: $raw,
-            tick: $tick,
+            tick: $at,
             value: $value,
             is_failed: $failed,
             age: $age,
             is_bad: $bad,
-            alarms: $alarms,
+            alarms: $bits,
         }),*]
     };
 }
