@@ -1,0 +1,4 @@
+pub mod ValuesLemmas
+pub mod AlarmsLemmas
+pub mod SensorsLemmas
+pub mod LawsLemmas
