@@ -42,8 +42,8 @@ abbrev pub unslewed : PidSetting → CtlState → Sample → ℤ
 unslewed setting old sample =
     let error = error_of sample in
     clamped setting.out_min.0 setting.out_max.0
-      (proportional setting error +ℤ integral_part setting old.integral error +ℤ derivative setting old.error error
-        +ℤ feed_forward setting sample.setpoint.0)
+    (proportional setting error +ℤ integral_part setting old.integral error +ℤ derivative setting old.error error
+    +ℤ feed_forward setting sample.setpoint.0)
 
 -- how far the output may fall and rise in one step
 abbrev pub fall : PidSetting → ℤ

@@ -1,12 +1,11 @@
 -- Settings, and what their first steps give.
-use Rattle.std.specs.Prelude.{ℕ, ℤ, pos, neg_ℤ, List, [], ◌∷◌, ◌++◌, map, replicate, Option}
+use Rattle.std.specs.Prelude.{ℕ, ℤ, pos, neg_ℤ, List, [], ◌∷◌, map, replicate, Option}
 use Rattle.bmc_base.specs.declared.milli.Milli.{Milli}
 use Rattle.ctl_face.specs.Steps.{step, blank}
 use Rattle.ctl_face.specs.declared.sample.Sample.{Sample}
 use Rattle.ctl_face.specs.declared.setting.PidClass.TheVariants.{Fan, Temp}
 use Rattle.ctl_face.specs.declared.setting.PidSetting.{PidSetting}
 use Rattle.ctl_face.specs.declared.setting.Setting.{Setting}
-use Rattle.ctl_face.specs.declared.setting.Setting.TheVariants.{Pid, Stepwise}
 use Rattle.ctl_face.specs.declared.setting.StepRow.{StepRow}
 use Rattle.ctl_face.specs.declared.setting.StepSetting.{StepSetting}
 use Rattle.ctl_face.specs.declared.state.CtlState.{CtlState}

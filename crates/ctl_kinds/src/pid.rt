@@ -53,9 +53,13 @@ impl Controller for PidBox {
     }
 
     fn step(&mut self, sample: Sample) -> Milli {
-        let setting = self.setting.as_ref().unwrap();
-        self.state = pid_step(setting, self.state, sample);
-        Milli(self.state.output.unwrap())
+        match &self.setting {
+            Some(setting) => {
+                self.state = pid_step(setting, self.state, sample);
+                Milli(self.state.output.unwrap())
+            }
+            None => unreachable!(),
+        }
     }
 
     fn clear(&mut self) {

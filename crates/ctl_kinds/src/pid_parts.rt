@@ -1,4 +1,4 @@
-ghost use Rattle.std.specs.Prelude.{◌≡◌, ℕ, ◌≤◌, ◌^◌, ℤ, pos, neg_ℤ, ◌+ℤ◌, ◌-ℤ◌, ◌≤ℤ◌, Option, if◌then◌else◌, IsSomeAnd};
+ghost use Rattle.std.specs.Prelude.{◌≡◌, ℕ, ◌≤◌, ◌^◌, ℤ, pos, neg_ℤ, ◌+ℤ◌, ◌-ℤ◌, ◌≤ℤ◌, Option, if◌then◌else◌, IsSome};
 ghost use Rattle.std.specs.Int.{int_max, int_min};
 ghost use Rattle.std.specs.Option.{ForSome};
 ghost use Rattle.ctl_face.specs.Floors.{clamped, floor_div};
@@ -175,7 +175,8 @@ pub(crate) fn pid_step(setting: &PidSetting, old: CtlState, sample: Sample) -> C
     requires output { ForSome old.output IsMilli }
     requires sample { IsValidSample sample }
     ensures state { result ≡ pid_step setting.now old sample }
-    ensures small { IsSomeAnd result.output IsMilli }
+    ensures given { IsSome result.output }
+    ensures small { ForSome result.output IsMilli }
 {
     let error = error_of(sample);
     let p = proportional(setting, error);

@@ -1,6 +1,6 @@
-ghost use Rattle.std.specs.Prelude.{◌≡◌, ◌≤◌, ◌+ℤ◌, ◌-ℤ◌, int_lt, length, Some, IsSome, take};
-ghost use Rattle.std.specs.List.{prefix_len};
-ghost use Rattle.ctl_face.specs.Ranges.{IsValidStep};
+ghost use Rattle.std.specs.Prelude.{◌≡◌, ◌≤◌, ◌+ℤ◌, ◌-ℤ◌, int_lt, length, All, Some, IsSome, is_some};
+ghost use Rattle.std.specs.Option.{ForSome};
+ghost use Rattle.ctl_face.specs.Ranges.{IsMilli, IsValidRow, IsValidStep};
 ghost use Rattle.ctl_face.specs.Seen.{unloaded};
 ghost use Rattle.ctl_face.specs.Stepwise.{is_reached, leaves_base, reached_count, row_at, stepwise_step, used_rows};
 
@@ -55,9 +55,13 @@ impl Controller for StepBox {
     }
 
     fn step(&mut self, sample: Sample) -> Milli {
-        let setting = self.setting.as_ref().unwrap();
-        self.state = stepwise_step(setting, self.state, sample);
-        Milli(self.state.output.unwrap())
+        match &self.setting {
+            Some(setting) => {
+                self.state = stepwise_step(setting, self.state, sample);
+                Milli(self.state.output.unwrap())
+            }
+            None => unreachable!(),
+        }
     }
 
     fn clear(&mut self) {
@@ -123,16 +127,23 @@ fn reached_count(rows: &[StepRow], input: Milli) -> usize
 
 // The last row of those that are reached, or the first row.
 fn row_at(rows: &[StepRow], input: Milli) -> StepRow
-    requires { 1 ≤ length rows.now }
-    ensures { row_at rows.now input.0 ≡ Some result }
+    requires some { 1 ≤ length rows.now }
+    requires valid { All IsValidRow rows.now }
+    ensures value { row_at rows.now input.0 ≡ Some result }
+    ensures valid { IsValidRow result }
 {
     rows[reached_count(rows, input).saturating_sub(1)]
 }
 
 // The state after one step.
 fn stepwise_step(setting: &StepSetting, old: CtlState, sample: Sample) -> CtlState
-    requires { IsValidStep setting.now }
-    ensures { result ≡ stepwise_step setting.now old sample }
+    requires setting { IsValidStep setting.now }
+    requires both { is_some old.base ≡ is_some old.output }
+    requires small { ForSome old.output IsMilli }
+    ensures state { result ≡ stepwise_step setting.now old sample }
+    ensures both { is_some result.base ≡ is_some result.output }
+    ensures given { IsSome result.output }
+    ensures small { ForSome result.output IsMilli }
 {
     if !leaves_base(setting, old.base, sample.input) {
         return old;

@@ -103,6 +103,14 @@ impl Micro {
         ensures small { IsWithin (2 ^ 110) result.0 }
     {
         let product = self.0 as i128 * number.0;
-        Wide(product.div_euclid(n as i128 * 1_000_000))
+        Wide(product.div_euclid(millions(n)))
     }
+}
+
+// So many millions.
+#[tactic(auto, using(std::proofs::lemmas::Int::ints))]
+fn millions(n: u8) -> i128
+    ensures { result ≡ pos (n * 1000000) }
+{
+    n as i128 * 1_000_000
 }
