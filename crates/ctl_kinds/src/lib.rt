@@ -4,6 +4,8 @@
 mod pid;
 mod pid_parts;
 mod stepwise;
+#[cfg(test)]
+mod tests;
 mod wide;
 
 pub use pid::PidBox;
