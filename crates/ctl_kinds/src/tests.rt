@@ -432,11 +432,11 @@ const BILLION: i64 = 1_000_000_000;
 const TRILLION: i64 = 1_000_000_000_000;
 
 // Stops a test whose number is out of range.
-fn check(rt: &impl Abort, low: i64, high: i64, number: i64)
-    ensures { IsBetween low high number }
+fn check(rt: &impl Abort, low: i64, high: i64, number: &i64)
+    ensures { IsBetween low high number.now }
 {
-    assert!(rt; low <= number);
-    assert!(rt; number <= high);
+    assert!(rt; low <= *number);
+    assert!(rt; *number <= high);
 }
 
 fn check_order(rt: &impl Abort, low: Milli, high: Milli)
@@ -448,11 +448,10 @@ fn check_order(rt: &impl Abort, low: Milli, high: Milli)
 fn check_percent(rt: &impl Abort, setting: &PidSetting)
     ensures { setting.now.class ≡ Fan → (pos 0 ≤ℤ setting.now.out_min.0) × (setting.now.out_max.0 ≤ℤ pos 100000) }
 {
-    let (low, high) = (setting.out_min.0, setting.out_max.0);
     match setting.class {
         PidClass::Fan => {
-            check(rt, 0, 100_000, low);
-            check(rt, 0, 100_000, high)
+            check(rt, 0, 100_000, &setting.out_min.0);
+            check(rt, 0, 100_000, &setting.out_max.0)
         }
         PidClass::Temp | PidClass::Margin => {}
     }
@@ -461,18 +460,18 @@ fn check_percent(rt: &impl Abort, setting: &PidSetting)
 fn check_pid(rt: &impl Abort, setting: &PidSetting)
     ensures { IsValidPid setting.now }
 {
-    check(rt, -BILLION, BILLION, setting.setpoint.0);
-    check(rt, -TRILLION, TRILLION, setting.p);
-    check(rt, -TRILLION, TRILLION, setting.i);
-    check(rt, -TRILLION, TRILLION, setting.d);
-    check(rt, -TRILLION, TRILLION, setting.ff_gain);
-    check(rt, -BILLION, BILLION, setting.ff_off.0);
-    check(rt, -BILLION, BILLION, setting.i_min.0);
-    check(rt, -BILLION, BILLION, setting.i_max.0);
-    check(rt, -BILLION, BILLION, setting.out_min.0);
-    check(rt, -BILLION, BILLION, setting.out_max.0);
-    check(rt, -BILLION, 0, setting.slew_neg.0);
-    check(rt, 0, BILLION, setting.slew_pos.0);
+    check(rt, -BILLION, BILLION, &setting.setpoint.0);
+    check(rt, -TRILLION, TRILLION, &setting.p);
+    check(rt, -TRILLION, TRILLION, &setting.i);
+    check(rt, -TRILLION, TRILLION, &setting.d);
+    check(rt, -TRILLION, TRILLION, &setting.ff_gain);
+    check(rt, -BILLION, BILLION, &setting.ff_off.0);
+    check(rt, -BILLION, BILLION, &setting.i_min.0);
+    check(rt, -BILLION, BILLION, &setting.i_max.0);
+    check(rt, -BILLION, BILLION, &setting.out_min.0);
+    check(rt, -BILLION, BILLION, &setting.out_max.0);
+    check(rt, -BILLION, 0, &setting.slew_neg.0);
+    check(rt, 0, BILLION, &setting.slew_pos.0);
     check_order(rt, setting.i_min, setting.i_max);
     check_order(rt, setting.out_min, setting.out_max);
     check_percent(rt, setting);
@@ -482,8 +481,8 @@ fn check_rows(rt: &impl Abort, rows: &[StepRow])
     ensures { All IsValidRow rows.now }
 {
     for row in rows {
-        check(rt, -BILLION, BILLION, row.reading.0);
-        check(rt, -BILLION, BILLION, row.output.0);
+        check(rt, -BILLION, BILLION, &row.reading.0);
+        check(rt, -BILLION, BILLION, &row.output.0);
     }
 }
 
@@ -493,15 +492,15 @@ fn check_step(rt: &impl Abort, setting: &StepSetting)
     assert!(rt; 1 <= setting.count);
     assert!(rt; setting.count <= 20);
     check_rows(rt, &setting.rows[..setting.count as usize]);
-    check(rt, 0, BILLION, setting.positive.0);
-    check(rt, 0, BILLION, setting.negative.0);
+    check(rt, 0, BILLION, &setting.positive.0);
+    check(rt, 0, BILLION, &setting.negative.0);
 }
 
 fn check_sample(rt: &impl Abort, sample: &Sample)
     ensures { IsValidSample sample.now }
 {
-    check(rt, -2000 * TRILLION, 2000 * TRILLION, sample.input.0);
-    check(rt, -BILLION, BILLION, sample.setpoint.0);
+    check(rt, -2000 * TRILLION, 2000 * TRILLION, &sample.input.0);
+    check(rt, -BILLION, BILLION, &sample.setpoint.0);
 }
 
 // Loads the setting, and compares the output and the state of each step.
