@@ -49,6 +49,10 @@ pub record IsValidPid (setting : PidSetting) : Type 0 where
   pub outputs : setting.out_min.0 ≤ℤ setting.out_max.0
   pub percent : setting.class ≡ Fan → (pos 0 ≤ℤ setting.out_min.0) × (setting.out_max.0 ≤ℤ pos 100000)
 
+-- within the limits of the setting's outputs
+abbrev pub IsOutput : PidSetting → ℤ → Type 0
+IsOutput setting z = IsBetween setting.out_min.0 setting.out_max.0 z
+
 -- the numbers of a row are in their ranges
 abbrev pub IsValidRow : StepRow → Type 0
 IsValidRow row = IsMilli row.reading.0 × IsMilli row.output.0

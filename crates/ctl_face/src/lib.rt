@@ -12,7 +12,7 @@ mod worked;
 
 pub use controller::Controller;
 pub use kind::Kind;
-pub use law::floors;
+pub use law::{floors, outputs_within_limits};
 pub use sample::Sample;
 pub use setting::{PidClass, PidSetting, Setting, StepRow, StepSetting};
 pub use state::CtlState;
