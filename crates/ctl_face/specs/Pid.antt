@@ -9,7 +9,7 @@ use Rattle.ctl_face.specs.declared.setting.PidClass.TheVariants.{Fan, Temp, Marg
 use Rattle.ctl_face.specs.declared.setting.PidSetting.{PidSetting}
 use Rattle.ctl_face.specs.declared.state.CtlState.{CtlState}
 
--- how many steps there are in a second: coefficients and slews are for a second
+-- how many steps there are in a second
 abbrev pub pace : PidClass → ℕ
 pace Fan = 10
 pace Temp = 1

@@ -1,5 +1,5 @@
 -- Settings, and what their first steps give.
-use Rattle.std.specs.Prelude.{ℕ, ℤ, pos, neg_ℤ, List, [], ◌∷◌, map, replicate, Option}
+use Rattle.std.specs.Prelude.{ℕ, ℤ, pos, neg_ℤ, List, [], ◌∷◌, map, replicate, Option, Some}
 use Rattle.bmc_base.specs.declared.milli.Milli.{Milli}
 use Rattle.ctl_face.specs.Steps.{step, blank}
 use Rattle.ctl_face.specs.declared.sample.Sample.{Sample}
@@ -90,3 +90,25 @@ bases after = map (λ (state : CtlState). state.base) after
 
 abbrev pub errors : List CtlState → List (Option ℤ)
 errors after = map (λ (state : CtlState). state.error) after
+
+-- samples of these inputs at one setpoint
+abbrev pub samples_at : ℤ → List ℤ → List Sample
+samples_at setpoint inputs = map (λ (input : ℤ). sample_of input setpoint) inputs
+
+abbrev pub temperature_samples : List Sample
+temperature_samples = samples_at (pos 30000) (pos 40001 ∷ pos 80001 ∷ pos 29999 ∷ [])
+
+abbrev pub fan_samples : List Sample
+fan_samples =
+    sample_of (pos 2000000) (pos 2500000) ∷ sample_of (pos 2400001) (pos 2500000)
+    ∷ sample_of (pos 2600007) (pos 2000000) ∷ sample_of (pos 2100000) (pos 2000000) ∷ []
+
+abbrev pub falling_samples : List Sample
+falling_samples = samples_at (pos 0) (pos 45000 ∷ pos 44000 ∷ pos 42999 ∷ pos 40999 ∷ pos 39999 ∷ pos 10000 ∷ [])
+
+abbrev pub rising_samples : List Sample
+rising_samples = samples_at (pos 0) (pos 5000 ∷ pos 29999 ∷ pos 30000 ∷ pos 49999 ∷ pos 50000 ∷ pos 60000 ∷ pos 20000 ∷ [])
+
+-- a number at each step
+abbrev pub given : List ℤ → List (Option ℤ)
+given numbers = map (λ (z : ℤ). Some z) numbers

@@ -13,9 +13,10 @@ pub fn floors()
     ensures next_above { (z : ℤ) (n : ℕ) → 0 < n → z <ℤ ((floor_div z n +ℤ pos 1) *ℤ pos n) }
 {}
 
-/// Outputs stay within the limits of the setting: a step after an output within them gives one within them.
-/// So the outputs for a fan are never below 0 or above 100 percent.
+/// Outputs stay within the limits of the setting: a step behind an output within them, or behind
+/// none, gives one within them. So the outputs for a fan are never below 0 or above 100 percent.
 pub fn outputs_within_limits()
-    ensures { (setting : PidSetting) (old : CtlState) (sample : Sample) → IsValidPid setting →
-        ForSome old.output (IsOutput setting) → IsOutput setting (pid_output setting old sample) }
+    ensures { (setting : PidSetting) (old : CtlState) (sample : Sample) →
+        IsValidPid setting → ForSome old.output (IsOutput setting) →
+        IsOutput setting (pid_output setting old sample) }
 {}

@@ -1,5 +1,5 @@
-//! What a fan controller is: its settings, what one step gives, and the trait that each kind of controller
-//! meets.
+//! What a fan controller is: its settings, what one step gives, and the trait that each kind of
+//! controller meets.
 #![tactic(auto)]
 
 mod controller;

@@ -15,13 +15,14 @@ pub enum PidClass {
     Margin,
 }
 
-/// The setting of a PID controller. Coefficients are millionths, within 1,000,000 units of 0. Other numbers
-/// are thousandths, within 1,000,000 units of 0.
+/// The setting of a PID controller. Coefficients are millionths, within 1,000,000 units of 0. Other
+/// numbers are thousandths, within 1,000,000 units of 0.
 #[derive(Clone, Copy, Debug, PartialEq, Eq)]
 pub struct PidSetting {
     /// What is controlled.
     pub class: PidClass,
-    /// The reading that is wanted. It is 0 for class fan, whose samples carry it.
+    /// The reading that is wanted, which the samples carry. It is 0 for class fan, whose samples
+    /// carry that of a zone.
     pub setpoint: Milli,
     /// The coefficient of the error.
     pub p: i64,

@@ -1,5 +1,5 @@
-/// What a controller keeps from one step to the next, in thousandths. Before the first step the integral is 0
-/// and there is nothing else.
+/// What a controller remembers from one step to the next, in thousandths. Before the first step the
+/// integral is 0 and there is nothing else.
 #[derive(Clone, Copy, Debug, PartialEq, Eq)]
 pub struct CtlState {
     /// What the errors have added up to, of a PID controller.

@@ -2,7 +2,6 @@
 use Rattle.std.proofs.Common.{◌≡◌, ℕ, ◌*◌, ◌/◌, ◌^◌, ◌≤◌, ℤ, pos, negsuc, ◌+ℤ◌, ◌-ℤ◌, ◌*ℤ◌, int_lt, arith, ap, sym, ◌∙◌, subst, w64, to_z, of_z}
 use Rattle.std.proofs.Math.Nat.{div-le_self}
 use Rattle.std.proofs.lemmas.Int.{ints, fits_signed_mul, unsigned_abs-mul, to_z-of_z}
-use Rattle.std.specs.Int.{int_div_euclid}
 use Rattle.std.specs.Int.RustNames.{unsigned_abs, FitsSigned}
 use Rattle.ctl_face.specs.Floors.{floor_div}
 use Rattle.ctl_face.specs.Ranges.{IsWithin, IsMicro}
@@ -16,13 +15,15 @@ abbrev narrow : ℤ → ℤ
 narrow z = to_z w64 (of_z w64 z)
 
 -- a number above another by more than a band, and below it
-pub above : (a b v : ℤ) → SFits w64 a → SFits w64 b → SFits w64 v → int_lt (wide (wide (narrow a) +ℤ wide (narrow b))) (wide (narrow v)) ≡ int_lt (a +ℤ b) v
+pub above : (a b v : ℤ) → SFits w64 a → SFits w64 b → SFits w64 v
+    → int_lt (wide (wide (narrow a) +ℤ wide (narrow b))) (wide (narrow v)) ≡ int_lt (a +ℤ b) v
 above a b v p q r =
     let e : wide (wide (narrow a) +ℤ wide (narrow b)) ≡ a +ℤ b = omega (arith, ints) in
     let f : wide (narrow v) ≡ v = omega (arith, ints) in
     cc
 
-pub below : (a b v : ℤ) → SFits w64 a → SFits w64 b → SFits w64 v → int_lt (wide (narrow v)) (wide (wide (narrow a) -ℤ wide (narrow b))) ≡ int_lt v (a -ℤ b)
+pub below : (a b v : ℤ) → SFits w64 a → SFits w64 b → SFits w64 v
+    → int_lt (wide (narrow v)) (wide (wide (narrow a) -ℤ wide (narrow b))) ≡ int_lt v (a -ℤ b)
 below a b v p q r =
     let e : wide (wide (narrow a) -ℤ wide (narrow b)) ≡ a -ℤ b = omega (arith, ints) in
     let f : wide (narrow v) ≡ v = omega (arith, ints) in
@@ -72,12 +73,10 @@ pub record IsShare (a b : ℤ) (n : ℕ) (r : ℤ) : Type 0 where
   pub small : IsWithin (2 ^ 110) (wide r)
 
 -- what the code computes as a share
-pub share_is : (a b d r : ℤ) (n : ℕ) → IsMicro a → IsWithin (2 ^ 68) b → SFits w128 d → d ≡ pos n → SFits w128 r
-    → r ≡ int_div_euclid (wide (wide (narrow a) *ℤ wide b)) (wide d) → IsShare a b n r
-share_is a b d r n p q divisor_fits divisor fits e =
-    let by : wide d ≡ pos n = to_z-of_z w128 d divisor_fits ∙ divisor in
-    let value : wide r ≡ floor_div (a *ℤ b) n =
-    to_z-of_z w128 r fits ∙ (e ∙ (ap (λ (z : ℤ). int_div_euclid z (wide d)) (product_is a b p q) ∙ ap (int_div_euclid (a *ℤ b)) by)) in
+pub share_is : (a b r : ℤ) (n : ℕ) → IsMicro a → IsWithin (2 ^ 68) b → SFits w128 r
+    → r ≡ floor_div (wide (wide (narrow a) *ℤ wide b)) n → IsShare a b n r
+share_is a b r n p q fits e =
+    let value : wide r ≡ floor_div (a *ℤ b) n = to_z-of_z w128 r fits ∙ (e ∙ ap (λ (z : ℤ). floor_div z n) (product_is a b p q)) in
     record {
       value = value;
       small = subst (IsWithin (2 ^ 110)) (sym value) (within_size (2 ^ 110) _ (quotient_small n (2 ^ 110) (a *ℤ b) (product_small a b p q)));

@@ -1,8 +1,10 @@
-ghost use Rattle.std.specs.Prelude.{◌≡◌, ℕ, ◌≤◌, ◌^◌, ℤ, pos, neg_ℤ, ◌+ℤ◌, ◌-ℤ◌, ◌≤ℤ◌, Option, if◌then◌else◌, IsSome};
+ghost use Rattle.std.specs.Prelude.{◌≡◌, ℕ, ◌≤◌, ◌^◌, ℤ, pos, neg_ℤ, ◌+ℤ◌, ◌-ℤ◌, ◌≤ℤ◌, Option};
+ghost use Rattle.std.specs.Prelude.{if◌then◌else◌, IsSome};
 ghost use Rattle.std.specs.Int.{int_max, int_min};
 ghost use Rattle.std.specs.Option.{ForSome};
 ghost use Rattle.ctl_face.specs.Floors.{clamped, floor_div};
-ghost use Rattle.ctl_face.specs.Pid.{derivative, error_of, feed_forward, has_slew, integral_part, pace, pid_step, proportional};
+ghost use Rattle.ctl_face.specs.Pid.{derivative, error_of, feed_forward, has_slew, integral_part};
+ghost use Rattle.ctl_face.specs.Pid.{pace, pid_step, proportional};
 ghost use Rattle.ctl_face.specs.Pid.{slewed, unslewed, with_fall, with_rise};
 ghost use Rattle.ctl_face.specs.Ranges.{IsMilli, IsValidPid, IsValidSample, IsWithin};
 
@@ -156,11 +158,13 @@ fn has_slew(setting: &PidSetting) -> bool
     setting.slew_neg.0 != 0 || setting.slew_pos.0 != 0
 }
 
-// The integral behind a step: its part, or with a slew what the output leaves beside the part of the error.
+// The integral behind a step: its part, or with a slew what the output leaves beside the part of
+// the error.
 fn integral_behind(setting: &PidSetting, output: Milli, p: Wide, i: Milli) -> Milli
     requires valid { IsValidPid setting.now }
     requires p { IsWithin (2 ^ 110) p.0 }
-    ensures { result.0 ≡ (if has_slew setting.now then clamped setting.now.i_min.0 setting.now.i_max.0 (output.0 -ℤ p.0) else i.0) }
+    ensures { result.0 ≡ (if has_slew setting.now
+        then clamped setting.now.i_min.0 setting.now.i_max.0 (output.0 -ℤ p.0) else i.0) }
 {
     if has_slew(setting) {
         p.taken_from(output).clamped(setting.i_min, setting.i_max)

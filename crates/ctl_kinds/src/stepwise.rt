@@ -1,8 +1,10 @@
-ghost use Rattle.std.specs.Prelude.{◌≡◌, ◌≤◌, ◌+ℤ◌, ◌-ℤ◌, int_lt, length, All, Some, IsSome, is_some};
+ghost use Rattle.std.specs.Prelude.{◌≡◌, ◌≤◌, ◌+ℤ◌, ◌-ℤ◌, int_lt, length, All, Some, IsSome};
+ghost use Rattle.std.specs.Prelude.{is_some};
 ghost use Rattle.std.specs.Option.{ForSome};
 ghost use Rattle.ctl_face.specs.Ranges.{IsMilli, IsValidRow, IsValidStep};
 ghost use Rattle.ctl_face.specs.Seen.{unloaded};
-ghost use Rattle.ctl_face.specs.Stepwise.{is_reached, leaves_base, reached_count, row_at, stepwise_step, used_rows};
+ghost use Rattle.ctl_face.specs.Stepwise.{is_reached, leaves_base, reached_count, row_at};
+ghost use Rattle.ctl_face.specs.Stepwise.{stepwise_step, used_rows};
 
 use bmc_base::Milli;
 use ctl_face::{Controller, CtlState, Kind, Sample, Setting, StepRow, StepSetting};

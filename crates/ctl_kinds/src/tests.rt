@@ -1,5 +1,6 @@
 ghost use Rattle.std.specs.Prelude.{◌≡◌, ◌≤ℤ◌, pos, All};
-ghost use Rattle.ctl_face.specs.Ranges.{IsBetween, IsValid, IsValidPid, IsValidRow, IsValidSample, IsValidStep};
+ghost use Rattle.ctl_face.specs.Ranges.{IsBetween, IsValid, IsValidPid, IsValidRow, IsValidSample};
+ghost use Rattle.ctl_face.specs.Ranges.{IsValidStep};
 ghost use Rattle.ctl_face.specs.declared.setting.PidClass.TheVariants.{Fan};
 
 use crate::{PidBox, StepBox};
@@ -8,8 +9,8 @@ use ctl_face::{Controller, CtlState, PidClass, PidSetting, Sample, Setting, Step
 use std::process::Abort;
 use std::test::Fail;
 
-// The states behind each step were computed from the rules of a step by a program in Python, whose whole
-// numbers have no end and whose `//` rounds down. A second program, in Rust, has the same.
+// The states behind each step were computed from the rules of a step by a program in Python, whose
+// whole numbers have no end and whose `//` rounds down, and again by one in Rust: both agree.
 
 const BLANK: CtlState = CtlState {
     integral: 0,
@@ -190,9 +191,12 @@ const PIDS: [(PidSetting, &[(Sample, CtlState)]); 11] = [
             ..PLAIN
         },
         pid_steps! {
-            2_000_000_000_000_000 1_000_000_000 => -1_000_000_000 -1_999_999_000_000_000 -1_000_000_000;
-            -2_000_000_000_000_000 1_000_000_000 => 1_000_000_000 2_000_001_000_000_000 1_000_000_000;
-            2_000_000_000_000_000 1_000_000_000 => -1_000_000_000 -1_999_999_000_000_000 -1_000_000_000;
+            2_000_000_000_000_000 1_000_000_000
+                => -1_000_000_000 -1_999_999_000_000_000 -1_000_000_000;
+            -2_000_000_000_000_000 1_000_000_000
+                => 1_000_000_000 2_000_001_000_000_000 1_000_000_000;
+            2_000_000_000_000_000 1_000_000_000
+                => -1_000_000_000 -1_999_999_000_000_000 -1_000_000_000;
             1_000_000_000 1_000_000_000 => -1_000_000_000 0 1_000_000_000;
             1_000_000_001 1_000_000_000 => -1_000_000_000 -1 1_000_000_000;
         },
@@ -446,7 +450,8 @@ fn check_order(rt: &impl Abort, low: Milli, high: Milli)
 }
 
 fn check_percent(rt: &impl Abort, setting: &PidSetting)
-    ensures { setting.now.class ≡ Fan → (pos 0 ≤ℤ setting.now.out_min.0) × (setting.now.out_max.0 ≤ℤ pos 100000) }
+    ensures { setting.now.class ≡ Fan →
+        (pos 0 ≤ℤ setting.now.out_min.0) × (setting.now.out_max.0 ≤ℤ pos 100000) }
 {
     match setting.class {
         PidClass::Fan => {

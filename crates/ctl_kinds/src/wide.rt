@@ -102,15 +102,15 @@ impl Micro {
         ensures value { result.0 ≡ floor_div (self.0 *ℤ number.0) (n * 1000000) }
         ensures small { IsWithin (2 ^ 110) result.0 }
     {
-        let product = self.0 as i128 * number.0;
-        Wide(product.div_euclid(millions(n)))
+        Wide(divided(self.0 as i128 * number.0, n))
     }
 }
 
-// So many millions.
+// The number divided by n million and rounded down.
 #[tactic(auto, using(std::proofs::lemmas::Int::ints))]
-fn millions(n: u8) -> i128
-    ensures { result ≡ pos (n * 1000000) }
+fn divided(number: i128, n: u8) -> i128
+    requires { 1 ≤ n }
+    ensures { result ≡ floor_div number (n * 1000000) }
 {
-    n as i128 * 1_000_000
+    number.div_euclid(n as i128 * 1_000_000)
 }

@@ -3,10 +3,9 @@ use Rattle.ctl_kinds.proofs.WideLemmas.{IsShare, share_is}
 use Rattle.ctl_kinds.proofs.wide.Micro.share.Goals as goal
 
 -- both clauses at once
-share : (c : goal.After-div_euclid) → IsShare c.args.self.0 c.args.number.0 (c.args.n * 1000000) c.div_euclid.result
+share : (c : goal.After-divided) → IsShare c.args.self.0 c.args.number.0 (c.args.n * 1000000) c.divided.result
 share c =
-    share_is _ _ c.millions.result c.div_euclid.result (c.args.n * 1000000) c.requires.coefficient c.requires.number
-    (record { sfits = c.millions.type_inv }) c.millions.ensures (record { sfits = c.div_euclid.type_inv }) c.div_euclid.ensures
+    share_is _ _ c.divided.result (c.args.n * 1000000) c.requires.coefficient c.requires.number (record { sfits = c.divided.type_inv }) c.divided.ensures
 
 pub returns-clause-value : goal.returns-clause-value
 returns-clause-value c = (share c).value
