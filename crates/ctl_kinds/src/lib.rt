@@ -1,6 +1,7 @@
 //! The kinds of fan controllers, each a box that is loaded with a setting: PID and stepwise.
 #![tactic(auto)]
 
+mod blank;
 mod pid;
 mod pid_parts;
 mod stepwise;

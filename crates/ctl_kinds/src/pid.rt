@@ -1,6 +1,7 @@
 ghost use Rattle.std.specs.Prelude.{◌≡◌};
 ghost use Rattle.ctl_face.specs.Seen.{unloaded};
 
+use crate::blank::BLANK;
 use crate::pid_parts::pid_step;
 use bmc_base::Milli;
 use ctl_face::{Controller, CtlState, Kind, PidSetting, Sample, Setting};
@@ -71,11 +72,3 @@ impl Controller for PidBox {
         self.state
     }
 }
-
-// The state before the first step.
-const BLANK: CtlState = CtlState {
-    integral: 0,
-    error: None,
-    base: None,
-    output: None,
-};

@@ -1,11 +1,11 @@
-ghost use Rattle.std.specs.Prelude.{◌≡◌, ℕ, ◌≤◌, ◌^◌, ℤ, pos, neg_ℤ, ◌+ℤ◌, ◌-ℤ◌, ◌≤ℤ◌, Option};
+ghost use Rattle.std.specs.Prelude.{◌≡◌, ◌≤◌, ◌^◌, pos, neg_ℤ, ◌+ℤ◌, ◌-ℤ◌, ◌≤ℤ◌};
 ghost use Rattle.std.specs.Prelude.{if◌then◌else◌, IsSome};
 ghost use Rattle.std.specs.Int.{int_max, int_min};
 ghost use Rattle.std.specs.Option.{ForSome};
 ghost use Rattle.ctl_face.specs.Floors.{clamped, floor_div};
 ghost use Rattle.ctl_face.specs.Pid.{derivative, error_of, feed_forward, has_slew, integral_part};
 ghost use Rattle.ctl_face.specs.Pid.{pace, pid_step, proportional};
-ghost use Rattle.ctl_face.specs.Pid.{slewed, unslewed, with_fall, with_rise};
+ghost use Rattle.ctl_face.specs.Pid.{slewed, with_fall, with_rise};
 ghost use Rattle.ctl_face.specs.Ranges.{IsMilli, IsValidPid, IsValidSample, IsWithin};
 
 use crate::wide::{Micro, Wide};
@@ -173,7 +173,7 @@ fn integral_behind(setting: &PidSetting, output: Milli, p: Wide, i: Milli) -> Mi
     }
 }
 
-/// The state after one step.
+// The state after one step.
 pub(crate) fn pid_step(setting: &PidSetting, old: CtlState, sample: Sample) -> CtlState
     requires setting { IsValidPid setting.now }
     requires output { ForSome old.output IsMilli }

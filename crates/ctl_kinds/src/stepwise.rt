@@ -4,8 +4,9 @@ ghost use Rattle.std.specs.Option.{ForSome};
 ghost use Rattle.ctl_face.specs.Ranges.{IsMilli, IsValidRow, IsValidStep};
 ghost use Rattle.ctl_face.specs.Seen.{unloaded};
 ghost use Rattle.ctl_face.specs.Stepwise.{is_reached, leaves_base, reached_count, row_at};
-ghost use Rattle.ctl_face.specs.Stepwise.{stepwise_step, used_rows};
+ghost use Rattle.ctl_face.specs.Stepwise.{stepwise_step};
 
+use crate::blank::BLANK;
 use bmc_base::Milli;
 use ctl_face::{Controller, CtlState, Kind, Sample, Setting, StepRow, StepSetting};
 use std::marker::Model;
@@ -75,14 +76,6 @@ impl Controller for StepBox {
         self.state
     }
 }
-
-// The state before the first step.
-const BLANK: CtlState = CtlState {
-    integral: 0,
-    error: None,
-    base: None,
-    output: None,
-};
 
 // Whether the input is above the base by more than the band.
 #[tactic(auto, using(std::proofs::lemmas::Int::ints))]

@@ -3,6 +3,7 @@ ghost use Rattle.ctl_face.specs.Ranges.{IsBetween, IsValid, IsValidPid, IsValidR
 ghost use Rattle.ctl_face.specs.Ranges.{IsValidStep};
 ghost use Rattle.ctl_face.specs.declared.setting.PidClass.TheVariants.{Fan};
 
+use crate::blank::BLANK;
 use crate::{PidBox, StepBox};
 use bmc_base::Milli;
 use ctl_face::{Controller, CtlState, PidClass, PidSetting, Sample, Setting, StepRow, StepSetting};
@@ -11,13 +12,6 @@ use std::test::Fail;
 
 // The states behind each step were computed from the rules of a step by a program in Python, whose
 // whole numbers have no end and whose `//` rounds down, and again by one in Rust: both agree.
-
-const BLANK: CtlState = CtlState {
-    integral: 0,
-    error: None,
-    base: None,
-    output: None,
-};
 
 const PLAIN: PidSetting = PidSetting {
     class: PidClass::Temp,

@@ -1,19 +1,19 @@
-ghost use Rattle.std.specs.Prelude.{◌≡◌, ℕ, ◌*◌, ◌^◌, ◌≤◌, ℤ, pos, ◌+ℤ◌, ◌-ℤ◌, ◌*ℤ◌, ◌≤ℤ◌};
+ghost use Rattle.std.specs.Prelude.{◌≡◌, ◌*◌, ◌^◌, ◌≤◌, pos, ◌+ℤ◌, ◌-ℤ◌, ◌*ℤ◌, ◌≤ℤ◌};
 ghost use Rattle.ctl_face.specs.Floors.{floor_div, clamped};
 ghost use Rattle.ctl_face.specs.Ranges.{IsWithin, IsMicro, IsMilli};
 
 use bmc_base::Milli;
 
-/// Thousandths on the way to a result: 128 bits hold each product and each sum of a step.
+// Thousandths on the way to a result: 128 bits hold each product and each sum of a step.
 #[derive(Clone, Copy)]
 pub(crate) struct Wide(pub(crate) i128);
 
-/// A coefficient in millionths.
+// A coefficient in millionths.
 #[derive(Clone, Copy)]
 pub(crate) struct Micro(pub(crate) i64);
 
 impl Wide {
-    /// The number, as it is.
+    // The number, as it is.
     #[tactic(auto, using(std::proofs::lemmas::Int::ints))]
     pub(crate) fn of(number: Milli) -> Wide
         ensures value { result.0 ≡ number.0 }
@@ -22,7 +22,7 @@ impl Wide {
         Wide(number.0 as i128)
     }
 
-    /// The sum of two numbers.
+    // The sum of two numbers.
     #[tactic(auto, using(std::proofs::lemmas::Int::ints))]
     pub(crate) fn sum(a: Milli, b: Milli) -> Wide
         ensures value { result.0 ≡ a.0 +ℤ b.0 }
@@ -31,7 +31,7 @@ impl Wide {
         Wide(a.0 as i128 + b.0 as i128)
     }
 
-    /// The first number less the second.
+    // The first number less the second.
     #[tactic(auto, using(std::proofs::lemmas::Int::ints))]
     pub(crate) fn difference(a: Milli, b: Milli) -> Wide
         ensures value { result.0 ≡ a.0 -ℤ b.0 }
@@ -40,7 +40,7 @@ impl Wide {
         Wide(a.0 as i128 - b.0 as i128)
     }
 
-    /// The sum of the four parts of an output.
+    // The sum of the four parts of an output.
     #[tactic(auto, using(std::proofs::lemmas::Int::ints))]
     pub(crate) fn total(p: Wide, i: Milli, d: Wide, f: Wide) -> Wide
         requires p { IsWithin (2 ^ 110) p.0 }
@@ -51,7 +51,7 @@ impl Wide {
         Wide(p.0 + i.0 as i128 + d.0 + f.0)
     }
 
-    /// The number with this one added to it.
+    // The number with this one added to it.
     #[tactic(auto, using(std::proofs::lemmas::Int::ints))]
     pub(crate) fn added_to(self, number: Milli) -> Wide
         requires { IsWithin (2 ^ 110) self.0 }
@@ -60,7 +60,7 @@ impl Wide {
         Wide(number.0 as i128 + self.0)
     }
 
-    /// The number with this one taken away.
+    // The number with this one taken away.
     #[tactic(auto, using(std::proofs::lemmas::Int::ints))]
     pub(crate) fn taken_from(self, number: Milli) -> Wide
         requires { IsWithin (2 ^ 110) self.0 }
@@ -69,7 +69,7 @@ impl Wide {
         Wide(number.0 as i128 - self.0)
     }
 
-    /// As many times this number.
+    // As many times this number.
     #[tactic(auto, using(std::proofs::lemmas::Int::ints))]
     pub(crate) fn times(self, n: u8) -> Wide
         requires n { n ≤ 10 }
@@ -80,7 +80,7 @@ impl Wide {
         Wide(self.0 * n as i128)
     }
 
-    /// The number of the range that is nearest.
+    // The number of the range that is nearest.
     #[tactic(auto, using(std::proofs::lemmas::Int::ints))]
     pub(crate) fn clamped(self, low: Milli, high: Milli) -> Milli
         requires low { IsMilli low.0 }
@@ -94,7 +94,7 @@ impl Wide {
 }
 
 impl Micro {
-    /// The coefficient times a number, divided by n and rounded down.
+    // The coefficient times a number, divided by n and rounded down.
     pub(crate) fn share(self, number: Wide, n: u8) -> Wide
         requires coefficient { IsMicro self.0 }
         requires number { IsWithin (2 ^ 68) number.0 }
