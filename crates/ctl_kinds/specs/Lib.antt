@@ -1,0 +1,2 @@
+pub mod Pid
+pub mod Stepwise

@@ -1,0 +1,74 @@
+ghost use Rattle.std.specs.Prelude.{◌≡◌};
+ghost use Rattle.ctl_face.specs.Seen.{unloaded};
+
+use crate::blank::BLANK;
+use crate::pid_parts::pid_step;
+use bmc_base::Milli;
+use ctl_face::{Controller, CtlState, Kind, PidSetting, Sample, Setting};
+use std::marker::Model;
+
+/// A box for the setting of a PID controller.
+#[derive(Debug, Drop)]
+pub struct PidBox {
+    setting: Option<PidSetting>,
+    state: CtlState,
+}
+
+impl Model for PidBox {
+    ghost use Rattle.ctl_face.specs.Seen.{Seen};
+    ghost use Rattle.ctl_kinds.specs.Pid.{pid_seen, IsSoundPid};
+
+    ghost Value = { Seen };
+
+    ghost view = { pid_seen };
+
+    ghost invariant = { IsSoundPid };
+}
+
+impl PidBox {
+    /// Returns a box that is not loaded. Takes no memory.
+    pub fn new() -> PidBox
+        ensures { result ≡ unloaded Kind.Pid }
+    {
+        PidBox {
+            setting: None,
+            state: BLANK,
+        }
+    }
+}
+
+impl Controller for PidBox {
+    ghost seen = { λ b. b };
+
+    fn kind(&self) -> Kind {
+        let _state = self.state;
+        Kind::Pid
+    }
+
+    fn load(&mut self, setting: &Setting) {
+        match setting {
+            Setting::Pid(setting) => self.setting = Some(*setting),
+            Setting::Stepwise(_) => unreachable!(),
+        }
+        self.state = BLANK;
+    }
+
+    fn step(&mut self, sample: Sample) -> Milli {
+        match &self.setting {
+            Some(setting) => {
+                self.state = pid_step(setting, self.state, sample);
+                Milli(self.state.output.unwrap())
+            }
+            None => unreachable!(),
+        }
+    }
+
+    fn clear(&mut self) {
+        self.setting = None;
+        self.state = BLANK;
+    }
+
+    fn state(&self) -> CtlState {
+        self.state
+    }
+}
