@@ -1,0 +1,155 @@
+ghost use Rattle.std.specs.Prelude.{◌≡◌, ◌≤◌, ◌<◌, ◌+◌, [], false, if◌then◌else◌, length, drop, slice_index, MatchOption};
+ghost use Rattle.std.specs.List.{list_all, list_any, position_or_len};
+ghost use Rattle.tmpl.specs.Words.{starts_word, first_word};
+ghost use Rattle.tmpl.specs.Templates.{begins_substitution, is_right, is_plain, asks_index, pieces_of, is_fixed, uses_index, is_dollar};
+ghost use Rattle.tmpl.specs.Stretches.{BeginsWith, stretch_pieces};
+
+use crate::operation::{any_divides_by_zero, operations_len};
+use crate::word::{Word, is_word_byte, starts_word};
+
+// A part of a template.
+#[derive(Clone, Copy)]
+pub(crate) enum Stretch<'a> {
+    // Text up to the next substitution, or to the end, or to a `$` that begins none.
+    Plain(&'a str),
+    // A substitution: its word, where it is known, and the text behind that, which begins with the operations.
+    Substitution(Option<Word>, &'a [u8]),
+}
+
+impl Stretch<'_> {
+    // Whether its word is known and it divides nothing by 0.
+    fn is_right(&self) -> bool
+        ensures { result ≡ list_all is_right (stretch_pieces self.now) }
+    {
+        match self {
+            Stretch::Plain(_) => true,
+            Stretch::Substitution(None, _) => false,
+            Stretch::Substitution(Some(_), behind) => !any_divides_by_zero(behind),
+        }
+    }
+
+    // Whether it is plain text.
+    fn is_plain(&self) -> bool
+        ensures { result ≡ list_all is_plain (stretch_pieces self.now) }
+    {
+        match self {
+            Stretch::Plain(_) => true,
+            Stretch::Substitution(_, _) => false,
+        }
+    }
+
+    // Whether it asks for the index.
+    fn asks_index(&self) -> bool
+        ensures { result ≡ list_any asks_index (stretch_pieces self.now) }
+    {
+        match self {
+            Stretch::Substitution(Some(Word::Index), _) => true,
+            Stretch::Plain(_) | Stretch::Substitution(_, _) => false,
+        }
+    }
+}
+
+// The first stretch of a text, and the text behind it; none where the text is empty.
+pub(crate) fn next_stretch(text: &str) -> Option<(Stretch<'_>, &str)>
+    ensures { MatchOption result (text.now ≡ []) (λ found. BeginsWith text.now found.0 found.1.now) }
+{
+    match next_substitution(text) {
+        Some(found) => Some(found),
+        None => next_plain(text),
+    }
+}
+
+// The substitution at the front of a text, and the text behind it.
+fn next_substitution(text: &str) -> Option<(Stretch<'_>, &str)>
+    ensures { MatchOption result (begins_substitution text.now ≡ false) (λ found. BeginsWith text.now found.0 found.1.now) }
+{
+    let marked = text.strip_prefix('$')?;
+    let length = word_len(marked.as_bytes());
+    if length == 0 {
+        return None;
+    }
+    let (word, behind) = marked.split_at(length);
+    let (_, rest) = behind.split_at(operations_len(behind.as_bytes()));
+    Some((
+        Stretch::Substitution(Word::read(word), behind.as_bytes()),
+        rest,
+    ))
+}
+
+// How many bytes the word at the front of a text has; 0 where no word begins there.
+fn word_len(text: &[u8]) -> usize
+    ensures { result ≡ (if starts_word (slice_index text.now 0) then length (first_word text.now) else 0) }
+{
+    match text {
+        [first, ..] if starts_word(*first) => {
+            text.iter().take_while(|byte| is_word_byte(**byte)).count()
+        }
+        _ => 0,
+    }
+}
+
+// The plain text at the front of a text that begins with no substitution, and the text behind it.
+fn next_plain(text: &str) -> Option<(Stretch<'_>, &str)>
+    requires { begins_substitution text.now ≡ false }
+    ensures { MatchOption result (text.now ≡ []) (λ found. BeginsWith text.now found.0 found.1.now) }
+{
+    if text.is_empty() {
+        return None;
+    }
+    let (plain, rest) = text.split_at(plain_len(text.as_bytes()));
+    Some((Stretch::Plain(plain), rest))
+}
+
+// How far plain text goes: over the first byte, and up to the next `$`.
+fn plain_len(text: &[u8]) -> usize
+    requires { 0 < length text.now }
+    ensures exact { result ≡ 1 + position_or_len is_dollar (drop 1 text.now) }
+    ensures within { result ≤ length text.now }
+{
+    match text[1..].iter().position(|byte| *byte == b'$') {
+        Some(at) => 1 + at,
+        None => text.len(),
+    }
+}
+
+// Whether each piece of a text is right.
+pub(crate) fn are_right(text: &str) -> bool
+    ensures { result ≡ list_all is_right (pieces_of text.now) }
+{
+    let mut rest = text;
+    while let Some((stretch, later)) = next_stretch(rest) {
+        if !stretch.is_right() {
+            return false;
+        }
+        rest = later;
+    }
+    true
+}
+
+// Whether a text has no substitution.
+pub(crate) fn is_fixed(text: &str) -> bool
+    ensures { result ≡ is_fixed text.now }
+{
+    let mut rest = text;
+    while let Some((stretch, later)) = next_stretch(rest) {
+        if !stretch.is_plain() {
+            return false;
+        }
+        rest = later;
+    }
+    true
+}
+
+// Whether a text asks for the index.
+pub(crate) fn uses_index(text: &str) -> bool
+    ensures { result ≡ uses_index text.now }
+{
+    let mut rest = text;
+    while let Some((stretch, later)) = next_stretch(rest) {
+        if stretch.asks_index() {
+            return true;
+        }
+        rest = later;
+    }
+    false
+}
