@@ -1,5 +1,5 @@
 -- A chain, one link on.
-use Rattle.std.proofs.Common.{◌≡◌, ℕ, zero, suc, ◌<◌, ◌≤◌, List, [], ◌∷◌, length, drop, Option, Some, None, refl, ap, sym, ◌∙◌, arith}
+use Rattle.std.proofs.Common.{◌≡◌, ℕ, zero, suc, ◌-◌, ◌<◌, ◌≤◌, List, [], ◌∷◌, length, drop, Option, Some, None, refl, ap, sym, ◌∙◌, arith}
 use Rattle.tmpl.specs.Chains.{chain, chain_behind, linked}
 
 -- what stands before a chain is passed over
@@ -14,7 +14,9 @@ pub chain_found : {A : Type 0} (find_at : List ℕ → Option (A × ℕ)) (text 
 unfolding chain_behind
 chain_found find_at [] x n found some within = absurd (omega arith)
 chain_found find_at (byte ∷ text) x zero found some within = absurd (omega arith)
-chain_found find_at (byte ∷ text) x (suc n) found some within = rw found (ap (λ links. (x, suc n) ∷ links) (chain_on find_at n text))
+chain_found find_at (byte ∷ text) x (suc n) found some within = 
+    let one : suc n - 1 ≡ n = omega arith in
+    rw (found, one) (ap (λ links. (x, suc n) ∷ links) (chain_on find_at n text))
 
 pub chain_end : {A : Type 0} (find_at : List ℕ → Option (A × ℕ)) (text : List ℕ) → find_at text ≡ None → chain find_at text ≡ []
 unfolding chain_behind

@@ -78,7 +78,7 @@ module _ (place : Option Place) (fields : Option (List Field)) (index : ℕ) whe
       ∙ ap (option_and_then as_name) (by (text_of pieces) is)
     where
       fits : (b : Bool) (both : List ℕ) → cond b (Some both) None ≡ Some new → both ≡ new
-      fits true both e = grind (e)
+      fits true both e = cc
       fits false both e = absurd (cc)
 
       by : (first : Option (List ℕ)) → joined out first ≡ Some new
@@ -106,14 +106,15 @@ module _ (place : Option Place) (fields : Option (List Field)) (index : ℕ) whe
   -- a text without substitutions is rendered as itself
   fixed_text : (text : List ℕ) → list_all is_plain (pieces_of text) ≡ true → text_of (pieces_of text) ≡ Some text
   fixed_text [] fixed = rw no_pieces refl
-  fixed_text (byte ∷ text) fixed = by (begins_substitution (byte ∷ text)) refl
+  fixed_text (byte ∷ text) fixed = by (begins_substitution (byte ∷ text)) refl (fixed_text text)
     where
-      by : (begins : Bool) → begins_substitution (byte ∷ text) ≡ begins → text_of (pieces_of (byte ∷ text)) ≡ Some (byte ∷ text)
-      by true e = absurd (false≢true (sym (not_plain byte text e) ∙ fixed))
-      by false e =
+      by : (begins : Bool) → begins_substitution (byte ∷ text) ≡ begins → (list_all is_plain (pieces_of text) ≡ true → text_of (pieces_of text) ≡ Some text)
+          → text_of (pieces_of (byte ∷ text)) ≡ Some (byte ∷ text)
+      by true e more = absurd (false≢true (sym (not_plain byte text e) ∙ fixed))
+      by false e more =
           let next = plain_first byte text e in
           let later : list_all is_plain (pieces_of text) ≡ true = rw next at fixed in
-          ap text_of next ∙ ap (followed (byte ∷ [])) (fixed_text text later)
+          ap text_of next ∙ ap (followed (byte ∷ [])) (more later)
 
   pub fixed_is : (text : List ℕ) → is_fixed text ≡ true → rendered place fields index text ≡ as_name text
   unfolding rendered is_fixed

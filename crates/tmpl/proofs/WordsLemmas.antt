@@ -46,19 +46,19 @@ among_behind x (other ∷ xs) ys here = inr (among_behind x xs ys here)
 find_only : {X : Type 0} (test : X → Bool) (x : X) (xs : List X) → test x ≡ true → ((y : X) → test y ≡ true → y ≡ x) → Among x xs → find test xs ≡ Some x
 find_only test x [] passes one here = absurd here
 find_only test x (y ∷ ys) passes one (inl e) = rw (ap test e ∙ passes) (ap Some e)
-find_only test x (y ∷ ys) passes one (inr later) = by (test y) refl
+find_only test x (y ∷ ys) passes one (inr later) = by (test y) refl (find_only test x ys passes one later)
   where
-    by : (b : Bool) → test y ≡ b → cond b (Some y) (find test ys) ≡ Some x
-    by true e = ap Some (one y e)
-    by false e = find_only test x ys passes one later
+    by : (b : Bool) → test y ≡ b → find test ys ≡ Some x → cond b (Some y) (find test ys) ≡ Some x
+    by true e found = ap Some (one y e)
+    by false e found = found
 
 find_none : {X : Type 0} (test : X → Bool) (xs : List X) → ((y : X) → test y ≡ true → ⊥) → find test xs ≡ None
 find_none test [] fails = refl
-find_none test (y ∷ ys) fails = by (test y) refl
+find_none test (y ∷ ys) fails = by (test y) refl (find_none test ys fails)
   where
-    by : (b : Bool) → test y ≡ b → cond b (Some y) (find test ys) ≡ None
-    by true e = absurd (fails y e)
-    by false e = find_none test ys fails
+    by : (b : Bool) → test y ≡ b → find test ys ≡ None → cond b (Some y) (find test ys) ≡ None
+    by true e none = absurd (fails y e)
+    by false e none = none
 
 -- ---- names
 
@@ -83,10 +83,20 @@ custom_is area number high =
 abbrev names_in : List ℕ → List FieldName
 names_in text = fixed_names ++ custom_in text Chassis ∷ custom_in text Board ∷ custom_in text Product ∷ []
 
+-- behind the names without a number
+customs_in : List ℕ → List FieldName
+customs_in text = custom_in text Chassis ∷ custom_in text Board ∷ custom_in text Product ∷ []
+
+custom_behind : (area : Area) (number : ℕ) → number ≤ last_custom → Among (Custom area number) (customs_in (custom_prefix area ++ decimal number))
+unfolding customs_in
+custom_behind Chassis number high = inl (custom_is Chassis number high)
+custom_behind Board number high = inr (inl (custom_is Board number high))
+custom_behind Product number high = inr (inr (inl (custom_is Product number high)))
+
 custom_among : (area : Area) (number : ℕ) → number ≤ last_custom → Among (Custom area number) (names_in (custom_prefix area ++ decimal number))
-custom_among Chassis number high = among_behind _ fixed_names _ (inl (custom_is Chassis number high))
-custom_among Board number high = among_behind _ fixed_names _ (inr (inl (custom_is Board number high)))
-custom_among Product number high = among_behind _ fixed_names _ (inr (inr (inl (custom_is Product number high))))
+unfolding customs_in
+custom_among area number high =
+    among_behind (Custom area number) fixed_names (customs_in (custom_prefix area ++ decimal number)) (custom_behind area number high)
 
 name_among : (name : FieldName) → IsName name → Among name (names_in (name_text name))
 unfolding name_text

@@ -1,5 +1,5 @@
-ghost use Rattle.std.specs.Prelude.{◌≡◌, ◌≤◌, ◌+◌, None, Some, length, IfSome, MatchOption, drop, not, IsUtf8};
-ghost use Rattle.std.specs.List.{list_any, is_empty};
+ghost use Rattle.std.specs.Prelude.{◌≡◌, ◌≤◌, ◌+◌, None, Some, length, IfSome, MatchOption, drop, nat_lt, IsUtf8};
+ghost use Rattle.std.specs.List.{list_any};
 ghost use Rattle.tmpl.specs.Operations.{operator_of, operand, operation_at, operations_of, operations_len, divides_by_zero};
 ghost use Rattle.tmpl.specs.Operations.{computed, applied_all};
 ghost use Rattle.tmpl.specs.Stretches.{FindsOperation};
@@ -90,7 +90,7 @@ fn next_operation(text: &[u8]) -> Option<(Operation, &[u8])>
 
 // Whether an operation stands at the front of a text.
 pub(crate) fn has_operation(text: &[u8]) -> bool
-    ensures { result ≡ not (is_empty (operations_of text.now)) }
+    ensures { result ≡ nat_lt 0 (length (operations_of text.now)) }
 {
     next_operation(text).is_some()
 }

@@ -1,9 +1,9 @@
-ghost use Rattle.std.specs.Prelude.{◌≡◌, ◌≤◌, Some, None, MatchOption, option_and_then, decimal};
+ghost use Rattle.std.specs.Prelude.{◌≡◌, ◌≤◌, Some, None, MatchOption, option_and_then, option_map, decimal};
 ghost use Rattle.std.specs.Result.{result_ok};
 ghost use Rattle.bmc_base.specs.Names.{name_of};
 ghost use Rattle.tmpl.specs.Operations.{operations_of, digits, up_to};
 ghost use Rattle.tmpl.specs.Templates.{pieces_of};
-ghost use Rattle.tmpl.specs.Rendering.{pieces_text, substituted, rendered, given, number_digits};
+ghost use Rattle.tmpl.specs.Rendering.{pieces_text, value_at, substituted, rendered, given, number_digits};
 ghost use Rattle.tmpl.specs.Stretches.{joined, fields_of, stretch_pieces};
 
 use crate::digits::read_digits;
@@ -33,7 +33,10 @@ fn push_value(
     word: Word,
     behind: &[u8],
     spot: &Spot<'_>,
-) -> Option<()> {
+) -> Option<()>
+    ensures { let text = option_map decimal (value_at spot.now.place (fields_of spot.now.fru) spot.now.index word (operations_of behind.now)) in
+        MatchOption result (joined out.old.bytes text ≡ None) (λ _. joined out.old.bytes text ≡ Some out.new.bytes) }
+{
     let value = compute_all(word.number(spot)?, behind)?;
     push_text(out, itoa::Buffer::new().format(value))
 }

@@ -1,7 +1,7 @@
-ghost use Rattle.std.specs.Prelude.{◌≡◌, ◌≤◌, ◌<◌, ◌+◌, [], false, if◌then◌else◌, length, drop, slice_index, MatchOption};
+ghost use Rattle.std.specs.Prelude.{◌≡◌, ◌≤◌, ◌<◌, ◌+◌, [], false, length, drop, slice_index, MatchOption, IfSome, position};
 ghost use Rattle.std.specs.List.{list_all, list_any, position_or_len};
-ghost use Rattle.tmpl.specs.Words.{starts_word, first_word};
-ghost use Rattle.tmpl.specs.Templates.{begins_substitution, is_right, is_plain, asks_index, pieces_of, is_fixed, uses_index, is_dollar};
+ghost use Rattle.tmpl.specs.Words.{starts_word};
+ghost use Rattle.tmpl.specs.Templates.{first_word, begins_substitution, is_right, is_plain, is_index, asks_index, pieces_of, is_fixed, uses_index, is_dollar};
 ghost use Rattle.tmpl.specs.Stretches.{BeginsWith, stretch_pieces};
 
 use crate::operation::{any_divides_by_zero, operations_len};
@@ -43,10 +43,17 @@ impl Stretch<'_> {
         ensures { result ≡ list_any asks_index (stretch_pieces self.now) }
     {
         match self {
-            Stretch::Substitution(Some(Word::Index), _) => true,
-            Stretch::Plain(_) | Stretch::Substitution(_, _) => false,
+            Stretch::Plain(_) => false,
+            Stretch::Substitution(word, _) => is_index(*word),
         }
     }
+}
+
+// Whether a word is `index`.
+fn is_index(word: Option<Word>) -> bool
+    ensures { result ≡ is_index word }
+{
+    matches!(word, Some(Word::Index))
 }
 
 // The first stretch of a text, and the text behind it; none where the text is empty.
@@ -64,11 +71,10 @@ fn next_substitution(text: &str) -> Option<(Stretch<'_>, &str)>
     ensures { MatchOption result (begins_substitution text.now ≡ false) (λ found. BeginsWith text.now found.0 found.1.now) }
 {
     let marked = text.strip_prefix('$')?;
-    let length = word_len(marked.as_bytes());
-    if length == 0 {
+    if !begins_word(marked.as_bytes()) {
         return None;
     }
-    let (word, behind) = marked.split_at(length);
+    let (word, behind) = marked.split_at(word_len(marked.as_bytes()));
     let (_, rest) = behind.split_at(operations_len(behind.as_bytes()));
     Some((
         Stretch::Substitution(Word::read(word), behind.as_bytes()),
@@ -76,16 +82,21 @@ fn next_substitution(text: &str) -> Option<(Stretch<'_>, &str)>
     ))
 }
 
-// How many bytes the word at the front of a text has; 0 where no word begins there.
-fn word_len(text: &[u8]) -> usize
-    ensures { result ≡ (if starts_word (slice_index text.now 0) then length (first_word text.now) else 0) }
+// Whether a text begins with a word.
+fn begins_word(text: &[u8]) -> bool
+    ensures { result ≡ starts_word (slice_index text.now 0) }
 {
-    match text {
-        [first, ..] if starts_word(*first) => {
-            text.iter().take_while(|byte| is_word_byte(**byte)).count()
-        }
-        _ => 0,
+    match text.first() {
+        Some(first) => starts_word(*first),
+        None => false,
     }
+}
+
+// How many bytes of words the front of a text has.
+fn word_len(text: &[u8]) -> usize
+    ensures { result ≡ length (first_word text.now) }
+{
+    text.iter().take_while(|byte| is_word_byte(**byte)).count()
 }
 
 // The plain text at the front of a text that begins with no substitution, and the text behind it.
@@ -106,10 +117,18 @@ fn plain_len(text: &[u8]) -> usize
     ensures exact { result ≡ 1 + position_or_len is_dollar (drop 1 text.now) }
     ensures within { result ≤ length text.now }
 {
-    match text[1..].iter().position(|byte| *byte == b'$') {
+    match dollar_at(&text[1..]) {
         Some(at) => 1 + at,
         None => text.len(),
     }
+}
+
+// Where the first `$` stands.
+fn dollar_at(text: &[u8]) -> Option<usize>
+    ensures exact { result ≡ position is_dollar text.now }
+    ensures within { IfSome result (λ at. at < length text.now) }
+{
+    text.iter().position(|byte| *byte == b'$')
 }
 
 // Whether each piece of a text is right.
