@@ -8,7 +8,8 @@ use Rattle.std.specs.List.{list_all, list_any, sum_by, prefix_len}
 use Rattle.std.proofs.Math.Nat.{pow-le-pow_right}
 use Rattle.std.proofs.lemmas.Bool.Decides.{nat_tests}
 use Rattle.std.proofs.lemmas.Bool.{false≢true}
-use Rattle.std.proofs.lemmas.List.{get_or-drop, get_or-take, take-take, length-take, drop-drop}
+use Rattle.std.proofs.lemmas.List.{get_or-drop, get_or-take, take-take, length-take, drop-drop, get_or_past}
+use Rattle.std.proofs.Math.Seq.{take-length}
 use Rattle.std.proofs.lemmas.List.Sums.{sum_by-cons, prefix_len-le-length}
 use Rattle.std.proofs.lemmas.Str.{IsUtf8-drop, IsCharBoundary-after_ascii}
 use Rattle.std.proofs.lemmas.List.Folds.{list_all_at, length-prefix_len}
@@ -90,7 +91,7 @@ operation_parts text operation n found =
     by (slice_index text 0 == 32) (slice_index text 2 == 32) (operator_of (slice_index text 1)) (digits operand_digits (operand (drop 3 text))) refl found
   where
     by : (a b : Bool) (operator : Option Operator) (number : Option ℕ) → digits operand_digits (operand (drop 3 text)) ≡ number
-        → cond (a && b) (option_and_then
+        → cond (a && b) (option_and_then {U = Operation × ℕ}
         (λ operator. option_map (λ number. (record { operator = operator; number = number }, 3 + length (operand (drop 3 text)))) number) operator) None
         ≡ Some (operation, n)
         → (digits operand_digits (operand (drop 3 text)) ≡ Some operation.number) × (n ≡ 3 + length (operand (drop 3 text)))
@@ -137,7 +138,10 @@ no_space text other = by (get_or text 0 0 == 32) (get_or text 2 0 == 32) refl re
     by true false e f = refl
     by false b e f = refl
 
-same_none : {X : Type 0} (b : Bool) → cond b None (None {T = X}) ≡ None
+abbrev nothing : Option (Operation × ℕ)
+nothing = None
+
+same_none : (b : Bool) → cond b nothing nothing ≡ None
 same_none true = refl
 same_none false = refl
 
@@ -210,3 +214,34 @@ drop_step text rest later so_far within shorter next =
     let size : (length text - length rest) + (length rest - length later) ≡ length text - length later = omega arith in
     next ∙ ap (drop (length rest - length later)) so_far ∙ drop-drop (length rest - length later) (length text - length rest) text
     ∙ ap (λ (n : ℕ). drop n text) size
+
+-- a slice from a place to the end
+pub tail_is : (n : ℕ) (text : List ℕ) → take (length text - n) (drop n text) ≡ drop n text
+tail_is n text = ap (λ (k : ℕ). take k (drop n text)) (sym (length-drop_is n text)) ∙ take-length (drop n text)
+  where
+    length-drop_is : (n : ℕ) (text : List ℕ) → length (drop n text) ≡ length text - n
+    length-drop_is n text = omega (arith, length-drop n text)
+
+pub within_text : (text : List ℕ) (i : ℕ) → get_or text i 0 ≡ 32 → i < length text
+within_text text i is = by (nat_lt i (length text)) refl
+  where
+    by : (b : Bool) → nat_lt i (length text) ≡ b → i < length text
+    by true below = grind (arith, nat_tests, below)
+    by false below =
+        let past : length text ≤ i = grind (arith, nat_tests, below) in
+        absurd (omega (arith, is, get_or_past text i 0 past))
+
+pub finds_operation : (text behind digits_are rest : List ℕ) (operator : Operator) (number k : ℕ) → get_or text 0 0 ≡ 32 → get_or text 2 0 ≡ 32
+    → Some operator ≡ operator_of (get_or text 1 0) → behind ≡ drop 3 text → 3 ≤ length text → k ≡ length (operand behind) → k ≤ length behind
+    → digits_are ≡ take k behind → rest ≡ drop k behind → Some number ≡ digits operand_digits digits_are
+    → FindsOperation text (record { operator = operator; number = number }) rest
+finds_operation text behind digits_are rest operator number k first third sign is long size within cut rest_is read =
+    let here : k ≡ length (operand (drop 3 text)) = size ∙ ap (λ (xs : List ℕ). length (operand xs)) is in
+    let they : digits_are ≡ operand (drop 3 text) = cut ∙ operand_cut behind k size ∙ ap operand is in
+    let all : 3 + length (operand (drop 3 text)) ≡ 3 + k = omega (arith, here) in
+    let count : length behind ≡ length text - 3 = omega (arith, ap length is, length-drop 3 text) in
+    (3 + length (operand (drop 3 text)),
+     operation_is text operator number first third (sym sign) (ap (digits operand_digits) (sym they) ∙ sym read),
+     omega arith,
+     omega (arith, here, count),
+     rest_is ∙ ap (drop k) is ∙ drop-drop k 3 text ∙ ap (λ (n : ℕ). drop n text) (sym all))

@@ -1,10 +1,11 @@
 -- Pieces, one stretch on.
 use Rattle.std.proofs.Common.{◌≡◌, ℕ, zero, suc, ◌+◌, ◌-◌, ◌<◌, ◌≤◌, Bool, true, false, List, [], ◌∷◌, ◌++◌, length, drop, take, get_or, map, Option, Some, None}
 use Rattle.std.proofs.Common.{refl, ap, sym, ◌∙◌, arith, cond, length-drop}
-use Rattle.std.specs.Prelude.{◌&&◌, nat_lt, slice_index, not, position, unwrap_or, IsUtf8, IsCharBoundary}
+use Rattle.std.specs.Prelude.{◌&&◌, ◌==◌, nat_lt, nat_le, if◌then◌else◌, Ok, Err, slice_index, not, position, unwrap_or, IsUtf8, IsCharBoundary}
 use Rattle.std.specs.List.{list_all, list_any, position_or_len, prefix_len}
+use Rattle.std.proofs.lemmas.Bool.{le-leb}
 use Rattle.std.proofs.lemmas.Bool.Decides.{nat_tests}
-use Rattle.std.proofs.lemmas.List.{drop-drop, get_or-drop}
+use Rattle.std.proofs.lemmas.List.{drop-drop, get_or-drop, length-map, length-take}
 use Rattle.std.proofs.lemmas.List.Folds.{length-prefix_len}
 use Rattle.std.proofs.lemmas.List.Sums.{prefix_len-le-length, prefix_len_passes, prefix_len_stops}
 use Rattle.std.proofs.lemmas.Str.{IsCharBoundary-before_ascii, IsCharBoundary-after_ascii, IsCharBoundary-end}
@@ -12,8 +13,9 @@ use Rattle.tmpl.specs.Chains.{chain, chain_behind}
 use Rattle.tmpl.specs.Operations.{operations_of, operations_len, divides_by_zero}
 use Rattle.tmpl.specs.Words.{starts_word, is_word_byte, word_of}
 use Rattle.tmpl.specs.declared.operation.Operation.{Operation}
+use Rattle.tmpl.specs.declared.template.TmplFault.TheVariants.{TemplateSyntax}
 use Rattle.tmpl.specs.declared.word.Word.{Word}
-use Rattle.tmpl.specs.Templates.{Piece, Plain, Substitution, begins_substitution, first_word, is_dollar, is_plain, is_right, asks_index, piece_at, pieces_of}
+use Rattle.tmpl.specs.Templates.{Piece, Plain, Substitution, begins_substitution, first_word, is_dollar, is_plain, is_right, is_template, template_of, longest_template, is_single, is_one_substitution, asks_index, piece_at, pieces_of}
 use Rattle.tmpl.proofs.ChainsLemmas.{chain_found}
 
 abbrev piece_of : Piece × ℕ → Piece
@@ -134,8 +136,9 @@ plain_cut text n is within = by (nat_lt n (length text)) refl
 
 pub plain_stretch : (text plain rest : List ℕ) (n : ℕ) → 0 < length text → begins_substitution text ≡ false
     → n ≡ 1 + position_or_len is_dollar (drop 1 text) → plain ≡ take n text → rest ≡ drop n text → length rest < length text
-    → (pieces_of text ≡ map Plain plain ++ pieces_of rest) × (length rest < length text)
-plain_stretch text plain rest n some none is plain_is_taken rest_is shorter = (rw (plain_is_taken, rest_is, is) (plain_is text some none), shorter)
+    → (pieces_of text ≡ map Plain plain ++ pieces_of rest) × (0 < length (map Plain plain)) × (length rest < length text)
+plain_stretch text plain rest n some none is plain_is_taken rest_is shorter = 
+    (rw (plain_is_taken, rest_is, is) (plain_is text some none), omega (arith, length-map (λ (byte : ℕ). Plain byte) plain, ap length plain_is_taken, length-take n text, ap length rest_is, length-drop n text), shorter)
 
 -- ---- substitutions
 
@@ -173,10 +176,59 @@ pub substitution_at : (text marked word behind rest : List ℕ) (read : Option W
     → starts_word (slice_index marked 0) ≡ true → length_is ≡ length (first_word marked) → word ≡ take length_is marked → behind ≡ drop length_is marked
     → length behind + length_is ≡ length marked → size ≡ operations_len behind → size ≤ length behind → rest ≡ drop size behind
     → length rest + size ≡ length behind → read ≡ word_of word
-    → (pieces_of text ≡ Substitution read (operations_of behind) ∷ pieces_of rest) × (length rest < length text)
+    → (pieces_of text ≡ Substitution read (operations_of behind) ∷ pieces_of rest) × (0 < length (Substitution read (operations_of behind) ∷ [])) × (length rest < length text)
 substitution_at text marked word behind rest read length_is size is starts length_eq word_is behind_is whole size_is within rest_is left read_is =
     let first : take length_is marked ≡ first_word marked =
     ap (λ (n : ℕ). take n marked) (length_eq ∙ length-prefix_len is_word_byte marked) in
     let known : read ≡ word_of (first_word marked) = read_is ∙ ap word_of (word_is ∙ first) in
     let split = substitution_is text marked behind rest size is starts (rw length_eq at behind_is) (omega (arith, whole, length_eq)) size_is within rest_is in
-    (rw known split, omega (arith, left, whole, ap length is))
+    (rw known split, omega arith, omega (arith, left, whole, ap length is))
+
+-- ---- the end, and one stretch alone
+
+pub end_pieces : (text : List ℕ) → text ≡ [] → pieces_of text ≡ []
+end_pieces text end = ap pieces_of end ∙ no_pieces
+
+pub single_end : (text : List ℕ) → text ≡ [] → is_single text ≡ false
+unfolding is_single
+single_end text end = ap is_one_substitution (end_pieces text end)
+
+pub single_plain : (text run rest : List ℕ) → pieces_of text ≡ map Plain run ++ pieces_of rest → 0 < length (map Plain run) → is_single text ≡ false
+unfolding is_single
+single_plain text [] rest split some = absurd (omega arith)
+single_plain text (byte ∷ run) rest split some = ap is_one_substitution split
+
+pub single_substitution : (text rest : List ℕ) (word : Option Word) (operations : List Operation) → pieces_of text ≡ Substitution word operations ∷ pieces_of rest
+    → is_single text ≡ (length rest == 0)
+unfolding is_single pieces_of chain_behind piece_at
+single_substitution text [] word operations split = ap is_one_substitution split
+single_substitution text (byte ∷ rest) word operations split = ap is_one_substitution split ∙ grind arith
+
+-- ---- what is a template
+
+pub empty_not : (text : List ℕ) → length text ≡ 0 → template_of text ≡ Err TemplateSyntax
+unfolding is_template
+empty_not text empty = rw empty refl
+
+pub wrong_not : (text : List ℕ) → list_all is_right (pieces_of text) ≡ false → template_of text ≡ Err TemplateSyntax
+unfolding is_template
+wrong_not text wrong = by (nat_le 1 (length text)) (nat_le (length text) longest_template) (list_all is_right (pieces_of text)) wrong
+  where
+    by : (a b d : Bool) → d ≡ false → (if a && b && d then Ok text else Err TemplateSyntax) ≡ Err TemplateSyntax
+    by true true true e = absurd (cc)
+    by true true false e = refl
+    by true false d e = refl
+    by false b d e = refl
+
+pub long_not : (text : List ℕ) → longest_template < length text → template_of text ≡ Err TemplateSyntax
+unfolding is_template
+long_not text long = by (nat_le 1 (length text)) (nat_le (length text) longest_template) (list_all is_right (pieces_of text)) (grind (arith, nat_tests))
+  where
+    by : (a b d : Bool) → b ≡ false → (if a && b && d then Ok text else Err TemplateSyntax) ≡ Err TemplateSyntax
+    by true true d e = absurd (cc)
+    by true false d e = refl
+    by false b d e = refl
+
+pub right_is : (text : List ℕ) → 0 < length text → length text ≤ longest_template → list_all is_right (pieces_of text) ≡ true → is_template text ≡ true
+unfolding is_template
+right_is text some few right = rw (le-leb 1 (length text) (omega arith), le-leb (length text) longest_template few, right) refl

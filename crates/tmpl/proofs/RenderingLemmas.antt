@@ -10,9 +10,9 @@ use Rattle.std.proofs.lemmas.Bool.Decides.{nat_tests}
 use Rattle.bmc_base.specs.Names.{name_of}
 use Rattle.bmc_base.specs.Places.{Place}
 use Rattle.fru_area.specs.declared.field.Field.{Field}
-use Rattle.tmpl.specs.Operations.{digits}
+use Rattle.tmpl.specs.Operations.{digits, up_to}
 use Rattle.tmpl.specs.Templates.{Piece, Plain, Substitution, begins_substitution, is_plain, is_fixed, pieces_of}
-use Rattle.tmpl.specs.Rendering.{followed, pieces_text, piece_text, rendered, number_digits}
+use Rattle.tmpl.specs.Rendering.{followed, pieces_text, piece_text, rendered, rendered_number, number_digits}
 use Rattle.tmpl.specs.Stretches.{joined}
 use Rattle.tmpl.proofs.PiecesLemmas.{no_pieces, not_plain, plain_first}
 
@@ -124,3 +124,16 @@ module _ (place : Option Place) (fields : Option (List Field)) (index : ℕ) whe
 pub number_of_name : (text : List ℕ) → option_and_then (digits number_digits) (as_name text) ≡ digits number_digits text
 unfolding digits
 number_of_name text = grind (arith, nat_tests)
+
+-- a number is read of the text, and not of the name
+pub number_is : (place : Option Place) (fields : Option (List Field)) (index : ℕ) (text out : List ℕ) (max : ℕ)
+    → rendered place fields index text ≡ as_name out
+    → option_and_then (up_to max) (digits number_digits out) ≡ rendered_number place fields index text max
+unfolding rendered_number
+number_is place fields index text out max is =
+    ap (option_and_then (up_to max)) (sym (ap (option_and_then (digits number_digits)) is ∙ number_of_name out))
+
+pub number_none : (place : Option Place) (fields : Option (List Field)) (index : ℕ) (text : List ℕ) (max : ℕ)
+    → rendered place fields index text ≡ None → None ≡ rendered_number place fields index text max
+unfolding rendered_number
+number_none place fields index text max none = sym (ap (λ (all : Option (List ℕ)). option_and_then (up_to max) (option_and_then (digits number_digits) all)) none)

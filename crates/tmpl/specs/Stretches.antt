@@ -16,7 +16,8 @@ stretch_pieces (stretches.Substitution word behind) = Substitution word (operati
 
 -- a text begins with a stretch
 abbrev pub BeginsWith : List ℕ → Stretch → List ℕ → Type 0
-BeginsWith text stretch rest = (pieces_of text ≡ stretch_pieces stretch ++ pieces_of rest) × (length rest < length text)
+BeginsWith text stretch rest =
+    (pieces_of text ≡ stretch_pieces stretch ++ pieces_of rest) × (0 < length (stretch_pieces stretch)) × (length rest < length text)
 
 -- an operation is found at the front of a text, with this text behind it
 abbrev pub FindsOperation : List ℕ → Operation → List ℕ → Type 0

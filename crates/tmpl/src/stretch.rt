@@ -1,7 +1,7 @@
 ghost use Rattle.std.specs.Prelude.{◌≡◌, ◌≤◌, ◌<◌, ◌+◌, [], false, length, drop, slice_index, MatchOption, IfSome, position};
 ghost use Rattle.std.specs.List.{list_all, list_any, position_or_len};
 ghost use Rattle.tmpl.specs.Words.{starts_word};
-ghost use Rattle.tmpl.specs.Templates.{first_word, begins_substitution, is_right, is_plain, is_index, asks_index, pieces_of, is_fixed, uses_index, is_dollar};
+ghost use Rattle.tmpl.specs.Templates.{first_word, begins_substitution, is_right, is_plain, is_index, asks_index, pieces_of, is_fixed, is_single, uses_index, is_dollar};
 ghost use Rattle.tmpl.specs.Stretches.{BeginsWith, stretch_pieces};
 
 use crate::operation::{any_divides_by_zero, operations_len};
@@ -23,8 +23,10 @@ impl Stretch<'_> {
     {
         match self {
             Stretch::Plain(_) => true,
-            Stretch::Substitution(None, _) => false,
-            Stretch::Substitution(Some(_), behind) => !any_divides_by_zero(behind),
+            Stretch::Substitution(word, behind) => match word {
+                Some(_) => !any_divides_by_zero(behind),
+                None => false,
+            },
         }
     }
 
@@ -146,6 +148,7 @@ pub(crate) fn are_right(text: &str) -> bool
 }
 
 // Whether a text has no substitution.
+#[tactic(auto, unfolding(crate::specs::Templates::is_fixed))]
 pub(crate) fn is_fixed(text: &str) -> bool
     ensures { result ≡ is_fixed text.now }
 {
@@ -159,7 +162,19 @@ pub(crate) fn is_fixed(text: &str) -> bool
     true
 }
 
+// Whether a text is one substitution and nothing else.
+pub(crate) fn is_single(text: &str) -> bool
+    ensures { result ≡ is_single text.now }
+{
+    match next_stretch(text) {
+        Some((Stretch::Substitution(_, _), rest)) => rest.is_empty(),
+        Some((Stretch::Plain(_), _)) => false,
+        None => false,
+    }
+}
+
 // Whether a text asks for the index.
+#[tactic(auto, unfolding(crate::specs::Templates::uses_index))]
 pub(crate) fn uses_index(text: &str) -> bool
     ensures { result ≡ uses_index text.now }
 {

@@ -4,7 +4,7 @@ ghost use Rattle.tmpl.specs.Rendering.{rendered, rendered_number, given};
 ghost use Rattle.tmpl.specs.Stretches.{fields_of};
 
 use crate::render::{named, number_in, render_text};
-use crate::stretch::{Stretch, are_right, is_fixed, next_stretch, uses_index};
+use crate::stretch::{are_right, is_fixed, is_single, uses_index};
 use crate::Spot;
 use arrayvec::ArrayString;
 use bmc_base::Name;
@@ -63,7 +63,10 @@ impl Template {
         ensures { result ≡ template_of text.now }
     {
         let _ = alloc;
-        if text.is_empty() || !are_right(text) {
+        if text.is_empty() {
+            return Err(TmplFault::TemplateSyntax);
+        }
+        if !are_right(text) {
             return Err(TmplFault::TemplateSyntax);
         }
         let mut held = ArrayString::new();
@@ -116,10 +119,7 @@ impl Template {
     pub fn is_single(&self) -> bool
         ensures { result ≡ is_single self.now }
     {
-        match next_stretch(self.text.as_str()) {
-            Some((Stretch::Substitution(_, _), rest)) => rest.is_empty(),
-            _ => false,
-        }
+        is_single(self.text.as_str())
     }
 
     /// Whether the word of one of its substitutions is `index`.

@@ -8,8 +8,8 @@ use Rattle.tmpl.proofs.stretch.Stretch.is_right.Goals as goal
 pub returns-in-Plain : goal.returns-in-Plain
 returns-in-Plain c = rw c.in-Plain.is (sym (plain_right c.in-Plain.field-0.now))
 
-pub returns-in-Substitution-Some-default : goal.returns-in-Substitution-Some-default
-returns-in-Substitution-Some-default c =
-    rw (c.in-Substitution-Some-default.is, c.in-Substitution-Some-default.field-0-is)
-    (ap not c.any_divides_by_zero.ensures ∙ none_divides (operations_of c.in-Substitution-Some-default.behind.now)
-    ∙ right_alone c.in-Substitution-Some-default.field-0-0 (operations_of c.in-Substitution-Some-default.behind.now))
+pub returns-in-Some : goal.returns-in-Some
+returns-in-Some c =
+    let operations = operations_of c.in-Substitution.behind.now in
+    rw (c.in-Substitution.is, c.in-Some.is)
+    (ap not c.any_divides_by_zero.ensures ∙ none_divides operations ∙ right_alone c.in-Some.field-0 operations)
