@@ -138,7 +138,7 @@ pub plain_stretch : (text plain rest : List ℕ) (n : ℕ) → 0 < length text �
     → n ≡ 1 + position_or_len is_dollar (drop 1 text) → plain ≡ take n text → rest ≡ drop n text → length rest < length text
     → (pieces_of text ≡ map Plain plain ++ pieces_of rest) × (0 < length (map Plain plain)) × (length rest < length text)
 plain_stretch text plain rest n some none is plain_is_taken rest_is shorter = 
-    (rw (plain_is_taken, rest_is, is) (plain_is text some none), omega (arith, length-map (λ (byte : ℕ). Plain byte) plain, ap length plain_is_taken, length-take n text, ap length rest_is, length-drop n text), shorter)
+    (rw (plain_is_taken, rest_is, is) (plain_is text some none), omega (arith, length-map plain (λ (byte : ℕ). Plain byte), ap length plain_is_taken, length-take n text, ap length rest_is, length-drop n text), shorter)
 
 -- ---- substitutions
 
@@ -232,3 +232,6 @@ long_not text long = by (nat_le 1 (length text)) (nat_le (length text) longest_t
 pub right_is : (text : List ℕ) → 0 < length text → length text ≤ longest_template → list_all is_right (pieces_of text) ≡ true → is_template text ≡ true
 unfolding is_template
 right_is text some few right = rw (le-leb 1 (length text) (omega arith), le-leb (length text) longest_template few, right) refl
+
+pub right_read : (text held : List ℕ) → is_template text ≡ true → held ≡ text → template_of text ≡ Ok held
+right_read text held right is = rw right (ap Ok (sym is))
