@@ -4,3 +4,4 @@ pub mod Words
 pub mod Templates
 pub mod Rendering
 pub mod Stretches
+pub mod Worked
