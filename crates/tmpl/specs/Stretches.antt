@@ -1,6 +1,7 @@
 -- Templates, one stretch at a time.
 use Rattle.std.specs.Prelude.{ℕ, ◌≡◌, ◌<◌, ◌≤◌, nat_le, if◌then◌else◌, List, [], ◌∷◌, ◌++◌, length, drop, map, Option, Some, None, option_map, option_and_then}
 use Rattle.std.specs.Borrow.{Bor}
+use Rattle.std.specs.Option.{MatchOption}
 use Rattle.bmc_base.specs.Names.{longest_name}
 use Rattle.fru_area.specs.declared.field.Field.{Field}
 use Rattle.tmpl.specs.Operations.{operation_at, operations_of}
@@ -26,6 +27,10 @@ FindsOperation text operation rest = (n : ℕ) × (operation_at text ≡ Some (o
 -- a text with another behind it, where both have room in a name
 abbrev pub joined : List ℕ → Option (List ℕ) → Option (List ℕ)
 joined front text = option_and_then (λ text. if nat_le (length (front ++ text)) longest_name then Some (front ++ text) else None) text
+
+-- a text was put behind another, or was none, or had no room there
+abbrev pub Joins : List ℕ → List ℕ → Option (List ℕ) → Option (Unit {0}) → Type 0
+Joins old new text result = MatchOption result (joined old text ≡ None) (λ done. joined old text ≡ Some new)
 
 -- the fields of a record
 abbrev pub fields_of : Option (Bor (List Field)) → Option (List Field)

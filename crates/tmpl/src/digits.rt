@@ -1,8 +1,8 @@
 ghost use Rattle.std.specs.Prelude.{◌≡◌, ◌≤◌, ◌<◌, ◌^◌, length, IfSome};
-ghost use Rattle.tmpl.specs.Operations.{is_digit, digits};
-ghost use Rattle.std.specs.List.{prefix_len};
+ghost use Rattle.tmpl.specs.Operations.{digits};
 
-// Reads 1 to `most` decimal digits, leading zeros among them, or none where the text is anything else.
+// Reads 1 to `most` decimal digits, leading zeros among them; none where the text is anything
+// else.
 #[tactic(auto, unfolding(crate::specs::Operations::digits))]
 pub(crate) fn read_digits(text: &[u8], most: usize) -> Option<u64>
     requires { most ≤ 10 }

@@ -77,7 +77,8 @@ fn operand_len(text: &[u8]) -> usize
 
 // The operation at the front of a text, and the text behind it.
 fn next_operation(text: &[u8]) -> Option<(Operation, &[u8])>
-    ensures { MatchOption result (operation_at text.now ≡ None) (λ found. FindsOperation text.now found.0 found.1.now) }
+    ensures { MatchOption result (operation_at text.now ≡ None)
+        (λ found. FindsOperation text.now found.0 found.1.now) }
 {
     let [b' ', sign, b' ', behind @ ..] = text else {
         return None;
@@ -122,7 +123,8 @@ pub(crate) fn any_divides_by_zero(text: &[u8]) -> bool
     false
 }
 
-// The value behind the operations at the front of a text, from left to right; none where it leaves 32 bits.
+// The value behind the operations at the front of a text, from left to right; none where it leaves
+// 32 bits.
 pub(crate) fn compute_all(value: u32, text: &[u8]) -> Option<u32>
     ensures { result ≡ applied_all (Some value) (operations_of text.now) }
 {

@@ -1,10 +1,9 @@
-ghost use Rattle.std.specs.Prelude.{◌≡◌, ◌≤◌, Some, None, MatchOption, option_and_then, option_map, decimal};
+ghost use Rattle.std.specs.Prelude.{◌≡◌, Some, None, MatchOption, option_and_then, option_map, decimal};
 ghost use Rattle.std.specs.Result.{result_ok};
 ghost use Rattle.bmc_base.specs.Names.{name_of};
 ghost use Rattle.tmpl.specs.Operations.{operations_of, digits, up_to};
-ghost use Rattle.tmpl.specs.Templates.{pieces_of};
 ghost use Rattle.tmpl.specs.Rendering.{pieces_text, value_at, substituted, rendered, given, number_digits};
-ghost use Rattle.tmpl.specs.Stretches.{joined, fields_of, stretch_pieces};
+ghost use Rattle.tmpl.specs.Stretches.{Joins, fields_of, stretch_pieces};
 
 use crate::digits::read_digits;
 use crate::operation::{compute_all, has_operation};
@@ -22,7 +21,7 @@ const NUMBER_DIGITS: usize = 10;
 
 // Appends a text. None where there is no room.
 fn push_text(out: &mut ArrayString<LONGEST_NAME>, text: &str) -> Option<()>
-    ensures { MatchOption result (joined out.old.bytes (Some text.now) ≡ None) (λ _. joined out.old.bytes (Some text.now) ≡ Some out.new.bytes) }
+    ensures { Joins out.old.bytes out.new.bytes (Some text.now) result }
 {
     out.try_push_str(text).ok()
 }
@@ -34,8 +33,9 @@ fn push_value(
     behind: &[u8],
     spot: &Spot<'_>,
 ) -> Option<()>
-    ensures { let text = option_map decimal (value_at spot.now.place (fields_of spot.now.fru) spot.now.index word (operations_of behind.now)) in
-        MatchOption result (joined out.old.bytes text ≡ None) (λ _. joined out.old.bytes text ≡ Some out.new.bytes) }
+    ensures { Joins out.old.bytes out.new.bytes
+        (option_map decimal (value_at spot.now.place (fields_of spot.now.fru) spot.now.index
+        word (operations_of behind.now))) result }
 {
     let value = compute_all(word.number(spot)?, behind)?;
     push_text(out, itoa::Buffer::new().format(value))
@@ -48,8 +48,9 @@ fn push_substitution(
     behind: &[u8],
     spot: &Spot<'_>,
 ) -> Option<()>
-    ensures { let text = substituted spot.now.place (fields_of spot.now.fru) spot.now.index word (operations_of behind.now) in
-        MatchOption result (joined out.old.bytes text ≡ None) (λ _. joined out.old.bytes text ≡ Some out.new.bytes) }
+    ensures { Joins out.old.bytes out.new.bytes
+        (substituted spot.now.place (fields_of spot.now.fru) spot.now.index word
+        (operations_of behind.now)) result }
 {
     match word {
         Word::Field(name) if !has_operation(behind) => {
@@ -65,8 +66,9 @@ fn push_stretch(
     stretch: &Stretch<'_>,
     spot: &Spot<'_>,
 ) -> Option<()>
-    ensures { let text = pieces_text spot.now.place (fields_of spot.now.fru) spot.now.index (stretch_pieces stretch.now) in
-        MatchOption result (joined out.old.bytes text ≡ None) (λ _. joined out.old.bytes text ≡ Some out.new.bytes) }
+    ensures { Joins out.old.bytes out.new.bytes
+        (pieces_text spot.now.place (fields_of spot.now.fru) spot.now.index
+        (stretch_pieces stretch.now)) result }
 {
     match stretch {
         Stretch::Plain(text) => push_text(out, text),
@@ -76,8 +78,8 @@ fn push_stretch(
 
 // Renders a text. None where a part of it stands for nothing, or it is too long for a name.
 pub(crate) fn render_text(text: &str, spot: &Spot<'_>) -> Option<ArrayString<LONGEST_NAME>>
-    ensures { let rendered = rendered spot.now.place (fields_of spot.now.fru) spot.now.index text.now in
-        MatchOption result (rendered ≡ None) (λ out. rendered ≡ result_ok (name_of out.bytes)) }
+    ensures { let text = rendered spot.now.place (fields_of spot.now.fru) spot.now.index text.now in
+        MatchOption result (text ≡ None) (λ out. text ≡ result_ok (name_of out.bytes)) }
 {
     let mut out = ArrayString::new();
     let mut rest = text;

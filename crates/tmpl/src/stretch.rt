@@ -12,7 +12,8 @@ use crate::word::{Word, is_word_byte, starts_word};
 pub(crate) enum Stretch<'a> {
     // Text up to the next substitution, or to the end, or to a `$` that begins none.
     Plain(&'a str),
-    // A substitution: its word, where it is known, and the text behind that, which begins with the operations.
+    // A substitution: its word, where it is known, and the text behind that, which begins with the
+    // operations.
     Substitution(Option<Word>, &'a [u8]),
 }
 
@@ -60,7 +61,8 @@ fn is_index(word: Option<Word>) -> bool
 
 // The first stretch of a text, and the text behind it; none where the text is empty.
 pub(crate) fn next_stretch(text: &str) -> Option<(Stretch<'_>, &str)>
-    ensures { MatchOption result (text.now ≡ []) (λ found. BeginsWith text.now found.0 found.1.now) }
+    ensures { MatchOption result (text.now ≡ [])
+        (λ found. BeginsWith text.now found.0 found.1.now) }
 {
     match next_substitution(text) {
         Some(found) => Some(found),
@@ -70,7 +72,8 @@ pub(crate) fn next_stretch(text: &str) -> Option<(Stretch<'_>, &str)>
 
 // The substitution at the front of a text, and the text behind it.
 fn next_substitution(text: &str) -> Option<(Stretch<'_>, &str)>
-    ensures { MatchOption result (begins_substitution text.now ≡ false) (λ found. BeginsWith text.now found.0 found.1.now) }
+    ensures { MatchOption result (begins_substitution text.now ≡ false)
+        (λ found. BeginsWith text.now found.0 found.1.now) }
 {
     let marked = text.strip_prefix('$')?;
     if !begins_word(marked.as_bytes()) {
@@ -104,7 +107,8 @@ fn word_len(text: &[u8]) -> usize
 // The plain text at the front of a text that begins with no substitution, and the text behind it.
 fn next_plain(text: &str) -> Option<(Stretch<'_>, &str)>
     requires { begins_substitution text.now ≡ false }
-    ensures { MatchOption result (text.now ≡ []) (λ found. BeginsWith text.now found.0 found.1.now) }
+    ensures { MatchOption result (text.now ≡ [])
+        (λ found. BeginsWith text.now found.0 found.1.now) }
 {
     if text.is_empty() {
         return None;

@@ -18,7 +18,7 @@ const LONGEST_TEMPLATE: usize = 128;
 /// Why a text is no template.
 #[derive(Clone, Copy, Debug, PartialEq, Eq, Error)]
 pub enum TmplFault {
-    /// It is empty or has more than 128 bytes, or a word in it is unknown, or something is divided by 0.
+    /// It is empty or has more than 128 bytes, a word in it is unknown, or something is divided by 0.
     #[error("the text is no template")]
     TemplateSyntax,
     /// There was no memory. A template lies in the value itself, so this does not come.
@@ -35,7 +35,7 @@ pub enum Rendered {
     Skip,
 }
 
-/// A template of a name or a number: plain text with substitutions. It lies in the value itself, as text.
+/// A template of a name or a number: plain text with substitutions. It lies in the value itself.
 #[derive(Drop)]
 pub struct Template {
     text: ArrayString<LONGEST_TEMPLATE>,
@@ -50,15 +50,17 @@ impl Model for Template {
 
     ghost view = { λ t. t.text.bytes };
 
-    ghost invariant = { λ t. (is_template t.text.bytes ≡ true) × (t.fixed ≡ is_fixed t.text.bytes) };
+    ghost invariant = { λ t. (is_template t.text.bytes ≡ true)
+        × (t.fixed ≡ is_fixed t.text.bytes) };
 }
 
 impl Template {
-    /// Reads a template: a text of 1 to 128 bytes. A `$` in front of a letter or `_` begins a substitution;
-    /// its word is the longest run of letters, digits and `_`, and has to be `bus`, `address`, `index`, `BUS`,
-    /// `ADDRESS` or the name of a field. Operations may follow it, each a space, one of `+ - * / %`, a space
-    /// and 1 to 5 digits; `/` and `%` do not have the number 0. All else is plain text. `TemplateSyntax` comes
-    /// exactly where a text is no template. It takes no memory.
+    /// Reads a template: a text of 1 to 128 bytes. A `$` in front of a letter or `_` begins a
+    /// substitution. Its word is the longest run of letters, digits and `_`, and has to be `bus`,
+    /// `address`, `index`, `BUS`, `ADDRESS` or the name of a field. Operations may follow, each a
+    /// space, one of `+ - * / %`, a space and 1 to 5 digits; `/` and `%` do not have the number 0.
+    /// All else is plain text. `TemplateSyntax` comes exactly where a text is no template. It takes
+    /// no memory.
     pub fn parse(alloc: Global, text: &str) -> Result<Template, TmplFault>
         ensures { result ≡ template_of text.now }
     {
@@ -79,13 +81,14 @@ impl Template {
         }
     }
 
-    /// Renders the template: each substitution becomes what it stands for, a field its text and all else its
-    /// decimal. Operations are done from left to right, where a field has to be 1 to 9 digits. `Skip` comes
-    /// exactly where a place, a record or a field is asked for that is not there, such a field is no number, a
-    /// value leaves 0 to 4,294,967,295 at an operation, or the whole text is no name of 1 to 64 bytes. It
-    /// takes no memory.
+    /// Renders the template as a name: a field becomes its text, and any other word its decimal.
+    /// Where operations follow, they are done from left to right, and a field has to be a number of
+    /// 1 to 9 digits. `Skip` comes exactly where a place, a record or a field is not there, a field
+    /// is no such number, a value leaves 0 to 4,294,967,295 at an operation, or the whole is no name
+    /// of 1 to 64 bytes. It takes no memory.
     pub fn render(&self, spot: &Spot<'_>) -> Rendered
-        ensures { result ≡ given (rendered spot.now.place (fields_of spot.now.fru) spot.now.index self.now) }
+        ensures { result ≡ given
+            (rendered spot.now.place (fields_of spot.now.fru) spot.now.index self.now) }
     {
         if self.fixed {
             return named(self.text.as_str());
@@ -96,10 +99,11 @@ impl Template {
         }
     }
 
-    /// Renders the template as a number of 1 to 10 digits that is at most `max`; none where it is rendered
-    /// as anything else. It takes no memory.
+    /// Renders the template as a number of 1 to 10 digits that is at most `max`; none where it is
+    /// rendered as anything else. It takes no memory.
     pub fn render_number(&self, spot: &Spot<'_>, max: u32) -> Option<u32>
-        ensures { result ≡ rendered_number spot.now.place (fields_of spot.now.fru) spot.now.index self.now max }
+        ensures { result ≡ rendered_number spot.now.place (fields_of spot.now.fru) spot.now.index
+            self.now max }
     {
         if self.fixed {
             return number_in(self.text.as_str(), max);

@@ -5,8 +5,8 @@ use std::alloc::Global;
 use std::process::Abort;
 use std::test::Fail;
 
-// A chassis and a board. Their custom fields are X1, and 1234567890, 4294967295, 9876543210, é5, 60 times A
-// and 63 times B.
+// A chassis and a board. Their custom fields are X1, and 1234567890, 4294967295, 9876543210, é5, 60
+// times A and 63 times B.
 const RECORD: &[u8; 224] = b"\x01\x00\x01\x03\x00\x00\x00\xFB\
     \x01\x02\x17\xC2P1\xC242\xC2X1\xC1\x00\x00o\
     \x01\x19\x00\x00\x00\x00\xC3ACM\xC5RSR\x201\xC3007\xC9123456789\xC0\
@@ -16,6 +16,7 @@ const RECORD: &[u8; 224] = b"\x01\x00\x01\x03\x00\x00\x00\xFB\
     \xC1\x00\x00\x00\x00\x00\x00\xDE";
 
 // What comes of a template.
+#[derive(Clone, Copy)]
 enum Wanted {
     Name(&'static str),
     Skip,
@@ -229,8 +230,8 @@ const KINDS: [(&str, bool, bool, bool); 16] = [
     ("$BOARD_PART_NUMBER$", false, false, false),
 ];
 
-// Texts by their lengths: the letter, how often it stands there, what stands behind it, and how many bytes
-// the name has that it comes to.
+// Texts by their lengths: the letter, how often it stands there, what stands behind it, and how many
+// bytes the name has that it comes to.
 const LENGTHS: [(&str, usize, &str, Option<usize>); 14] = [
     ("x", 64, "", Some(64)),
     ("x", 65, "", None),
@@ -271,6 +272,12 @@ fn assert_rendered(
     }
 }
 
+fn assert_rows(rt: &impl Abort, alloc: Global, spot: &Spot<'_>, rows: &[(&str, Wanted)]) {
+    for (text, wanted) in rows {
+        assert_rendered(rt, alloc, spot, text, wanted);
+    }
+}
+
 #[test]
 fn names(rt: HostRuntime) -> Result<(), Fail> {
     let alloc = rt.alloc();
@@ -280,25 +287,19 @@ fn names(rt: HostRuntime) -> Result<(), Fail> {
         fru: None,
         index: 3,
     };
-    for (text, wanted) in &AT_A_PLACE {
-        assert_rendered(&rt, alloc, &at_a_place, text, wanted);
-    }
+    assert_rows(&rt, alloc, &at_a_place, &AT_A_PLACE);
     let with_a_record = Spot {
         place: Place::new(255, 127),
         fru: Some(&record),
         index: u32::MAX,
     };
-    for (text, wanted) in &WITH_A_RECORD {
-        assert_rendered(&rt, alloc, &with_a_record, text, wanted);
-    }
+    assert_rows(&rt, alloc, &with_a_record, &WITH_A_RECORD);
     let nowhere = Spot {
         place: None,
         fru: None,
         index: 0,
     };
-    for (text, wanted) in &NOWHERE {
-        assert_rendered(&rt, alloc, &nowhere, text, wanted);
-    }
+    assert_rows(&rt, alloc, &nowhere, &NOWHERE);
     Ok(())
 }
 
@@ -347,6 +348,12 @@ fn lengths(rt: HostRuntime) -> Result<(), Fail> {
         };
         assert_eq!(rt; given, *wanted, "{text}");
     }
+    Ok(())
+}
+
+#[test]
+fn lengths_of_no_template(rt: HostRuntime) -> Result<(), Fail> {
+    let alloc = rt.alloc();
     for (count, behind) in &[(0, ""), (129, ""), (125, "$bus")] {
         let mut text = "x".repeat(alloc, *count)?;
         text.push_str(behind)?;

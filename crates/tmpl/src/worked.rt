@@ -7,8 +7,8 @@ ghost use Rattle.tmpl.specs.Worked.{bare, full, full_number};
 ghost use Rattle.tmpl.specs.declared.operation.Operator.TheVariants.{Add};
 ghost use Rattle.tmpl.specs.declared.word.Word.TheVariants.{Bus, Index, Field};
 
-/// Templates and other texts, computed from the definitions: the word is the longest run, a number has at
-/// most five digits, and nothing is divided by 0.
+/// Templates and other texts, computed from the definitions: the word is the longest run, a number
+/// has at most five digits, and nothing is divided by 0.
 pub fn worked_templates()
     ensures plain { is_template (codes "CPU 1") ≡ true }
     ensures empty { is_template [] ≡ false }
@@ -20,12 +20,14 @@ pub fn worked_templates()
     ensures longer_word { is_template (codes "$bus_1") ≡ false }
     ensures by_zero { is_template (codes "$bus / 0") ≡ false }
     ensures by_zeros { is_template (codes "$bus + 1 % 000") ≡ false }
-    ensures no_operation { pieces_of (codes "$bus +1") ≡ Substitution (Some Bus) [] ∷ Plain 32 ∷ Plain 43 ∷ Plain 49 ∷ [] }
+    ensures no_operation { pieces_of (codes "$bus +1") ≡
+        Substitution (Some Bus) [] ∷ Plain 32 ∷ Plain 43 ∷ Plain 49 ∷ [] }
     ensures five_digits { pieces_of (codes "$index + 123456") ≡
         Substitution (Some Index) (record { operator = Add; number = 12345 } ∷ []) ∷ Plain 54 ∷ [] }
 {}
 
-/// Words, computed from the definitions: custom fields have numbers from 1 to 2,040 without leading zeros.
+/// Words, computed from the definitions: custom fields have numbers from 1 to 2,040 without leading
+/// zeros.
 pub fn worked_words()
     ensures upper_case { word_of (codes "BUS") ≡ Some Bus }
     ensures first { word_of (codes "BOARD_INFO_AM1") ≡ Some (Field (Custom Board 1)) }

@@ -10,7 +10,7 @@ use Rattle.tmpl.specs.Rendering.{rendered, rendered_number}
 use Rattle.tmpl.proofs.worked.worked_numbers.Goals as goal
 
 pub returns : goal.returns
-unfolding glyphs name_text text_named chain_behind digits operation_at field_of word_of piece_at pieces_of is_template is_fixed is_single uses_index rendered rendered_number
+unfolding chain_behind digits operation_at word_of field_of name_text text_named glyphs piece_at pieces_of rendered rendered_number
 returns c = record {
   fixed = refl;
   above = refl;
