@@ -14,7 +14,7 @@ pub chain_found : {A : Type 0} (find_at : List ℕ → Option (A × ℕ)) (text 
 unfolding chain_behind
 chain_found find_at [] x n found some within = absurd (omega arith)
 chain_found find_at (byte ∷ text) x zero found some within = absurd (omega arith)
-chain_found find_at (byte ∷ text) x (suc n) found some within = 
+chain_found find_at (byte ∷ text) x (suc n) found some within =
     let one : suc n - 1 ≡ n = omega arith in
     rw (found, one) (ap (λ links. (x, suc n) ∷ links) (chain_on find_at n text))
 

@@ -39,8 +39,10 @@ len_found text rest operation (n, found, some, within, behind) =
     ap sum_len (chain_found operation_at text operation n found some within)
     ∙ sum_by-cons (λ (link : Operation × ℕ). link.1) (operation, n) (chain operation_at (drop n text)) in
     let size : length rest + n ≡ length text = omega (arith, ap length behind, length-drop n text) in
-    let later : sum_len (chain operation_at (drop n text)) ≡ sum_len (chain operation_at rest) = ap (λ (xs : List ℕ). sum_len (chain operation_at xs)) (sym behind) in
-    sum_on (sum_len (chain operation_at text)) n (sum_len (chain operation_at (drop n text))) (sum_len (chain operation_at rest)) (length rest) (length text) next later size
+    let later : sum_len (chain operation_at (drop n text)) ≡ sum_len (chain operation_at rest) =
+    ap (λ (xs : List ℕ). sum_len (chain operation_at xs)) (sym behind) in
+    sum_on (sum_len (chain operation_at text)) n (sum_len (chain operation_at (drop n text))) (sum_len (chain operation_at rest))
+    (length rest) (length text) next later size
 
 pub shorter_found : (text rest : List ℕ) (operation : Operation) → FindsOperation text operation rest → length rest < length text
 shorter_found text rest operation (n, found, some, within, behind) = omega (arith, ap length behind, length-drop n text)
@@ -95,8 +97,10 @@ operation_parts text operation n found =
         (λ operator. option_map (λ number. (record { operator = operator; number = number }, 3 + length (operand (drop 3 text)))) number) operator) None
         ≡ Some (operation, n)
         → (digits operand_digits (operand (drop 3 text)) ≡ Some operation.number) × (n ≡ 3 + length (operand (drop 3 text)))
-    by true true (Some operator) (Some number) read e =
-        (read ∙ ap (option_map (λ (link : Operation × ℕ). link.0.number)) e, sym (ap (λ (o : Option (Operation × ℕ)). unwrap_or (option_map (λ link. link.1) o) 0) e))
+    by true true (Some operator) (Some number) read e = (
+      read ∙ ap (option_map (λ (link : Operation × ℕ). link.0.number)) e,
+      sym (ap (λ (o : Option (Operation × ℕ)). unwrap_or (option_map (λ link. link.1) o) 0) e),
+    )
     by true true (Some operator) None read e = absurd (cc)
     by true true None number read e = absurd (cc)
     by true false operator number read e = absurd (cc)
@@ -118,7 +122,8 @@ cut_found text rest operation (n, found, some, within, behind) utf8 =
     let xs = operand (drop 3 text) in
     let ds = digits_parts operand_digits operation.number xs parts.0 in
     let last : get_or xs (length xs - 1) 0 < 128 = digits_end xs ds.0 ds.1 in
-    let there : get_or xs (length xs - 1) 0 ≡ get_or text (n - 1) 0 = operand_at text (length xs - 1) (n - 1) (omega (arith, ds.0)) (omega (arith, parts.1, ds.0)) in
+    let there : get_or xs (length xs - 1) 0 ≡ get_or text (n - 1) 0 =
+    operand_at text (length xs - 1) (n - 1) (omega (arith, ds.0)) (omega (arith, parts.1, ds.0)) in
     let at : n ≡ (n - 1) + 1 = omega arith in
     rw (behind, at) (IsUtf8-drop text (n - 1 + 1) utf8 (IsCharBoundary-after_ascii text (n - 1) utf8 (omega arith) (omega (arith, last, there))))
 
@@ -195,7 +200,8 @@ has_found text (Some found) is =
     sym (ap (λ (ops : List Operation). nat_lt 0 (length ops)) (operations_found text found.1.now found.0 is)
     ∙ lt-ltb 0 (length (found.0 ∷ operations_of found.1.now)) (omega arith))
 
-pub none_divides : (operations : List Operation) → not (list_any divides_by_zero operations) ≡ list_all (λ operation. not (divides_by_zero operation)) operations
+pub none_divides : (operations : List Operation)
+    → not (list_any divides_by_zero operations) ≡ list_all (λ operation. not (divides_by_zero operation)) operations
 none_divides [] = refl
 none_divides (operation ∷ operations) = by (divides_by_zero operation) (none_divides operations)
   where
@@ -239,9 +245,10 @@ finds_operation text behind digits_are rest operator number k first third sign i
     let here : k ≡ length (operand (drop 3 text)) = size ∙ ap (λ (xs : List ℕ). length (operand xs)) is in
     let they : digits_are ≡ operand (drop 3 text) = cut ∙ operand_cut behind k size ∙ ap operand is in
     let all : 3 + length (operand (drop 3 text)) ≡ 3 + k = omega (arith, here) in
-    let count : length behind ≡ length text - 3 = omega (arith, ap length is, length-drop 3 text) in
-    (3 + length (operand (drop 3 text)),
-     operation_is text operator number first third (sym sign) (ap (digits operand_digits) (sym they) ∙ sym read),
-     omega arith,
-     omega (arith, here, count),
-     rest_is ∙ ap (drop k) is ∙ drop-drop k 3 text ∙ ap (λ (n : ℕ). drop n text) (sym all))
+    let count : length behind ≡ length text - 3 = omega (arith, ap length is, length-drop 3 text) in (
+      3 + length (operand (drop 3 text)),
+      operation_is text operator number first third (sym sign) (ap (digits operand_digits) (sym they) ∙ sym read),
+      omega arith,
+      omega (arith, here, count),
+      rest_is ∙ ap (drop k) is ∙ drop-drop k 3 text ∙ ap (λ (n : ℕ). drop n text) (sym all),
+    )

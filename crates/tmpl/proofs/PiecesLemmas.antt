@@ -1,5 +1,6 @@
 -- Pieces, one stretch on.
-use Rattle.std.proofs.Common.{◌≡◌, ℕ, zero, suc, ◌+◌, ◌-◌, ◌<◌, ◌≤◌, Bool, true, false, List, [], ◌∷◌, ◌++◌, length, drop, take, get_or, map, Option, Some, None}
+use Rattle.std.proofs.Common.{◌≡◌, ℕ, zero, suc, ◌+◌, ◌-◌, ◌<◌, ◌≤◌, Bool, true, false, List, [], ◌∷◌, ◌++◌, length, drop, take, get_or, map}
+use Rattle.std.proofs.Common.{Option, Some, None}
 use Rattle.std.proofs.Common.{refl, ap, sym, ◌∙◌, arith, cond, length-drop}
 use Rattle.std.specs.Prelude.{◌&&◌, ◌==◌, nat_lt, nat_le, if◌then◌else◌, Ok, Err, slice_index, not, position, unwrap_or, IsUtf8, IsCharBoundary}
 use Rattle.std.specs.List.{list_all, list_any, position_or_len, prefix_len}
@@ -15,7 +16,8 @@ use Rattle.tmpl.specs.Words.{starts_word, is_word_byte, word_of}
 use Rattle.tmpl.specs.declared.operation.Operation.{Operation}
 use Rattle.tmpl.specs.declared.template.TmplFault.TheVariants.{TemplateSyntax}
 use Rattle.tmpl.specs.declared.word.Word.{Word}
-use Rattle.tmpl.specs.Templates.{Piece, Plain, Substitution, begins_substitution, first_word, is_dollar, is_plain, is_right, is_template, template_of, longest_template, is_single, is_one_substitution, asks_index, piece_at, pieces_of}
+use Rattle.tmpl.specs.Templates.{Piece, Plain, Substitution, begins_substitution, first_word, is_dollar, piece_at, pieces_of}
+use Rattle.tmpl.specs.Templates.{is_plain, is_right, is_template, template_of, longest_template, is_single, is_one_substitution, asks_index}
 use Rattle.tmpl.proofs.ChainsLemmas.{chain_found}
 
 abbrev piece_of : Piece × ℕ → Piece
@@ -47,7 +49,8 @@ plain_run (byte ∷ text) = by (is_dollar byte) refl (plain_run text)
 
 -- plain text, over its first byte and up to the next dollar
 pub plain_is : (text : List ℕ) → 0 < length text → begins_substitution text ≡ false
-    → pieces_of text ≡ map Plain (take (1 + position_or_len is_dollar (drop 1 text)) text) ++ pieces_of (drop (1 + position_or_len is_dollar (drop 1 text)) text)
+    → pieces_of text ≡ map Plain (take (1 + position_or_len is_dollar (drop 1 text)) text)
+    ++ pieces_of (drop (1 + position_or_len is_dollar (drop 1 text)) text)
 plain_is [] some none = absurd (omega arith)
 plain_is (byte ∷ text) some none =
     let size : 1 + position_or_len is_dollar text ≡ suc (position_or_len is_dollar text) = omega arith in
@@ -137,8 +140,12 @@ plain_cut text n is within = by (nat_lt n (length text)) refl
 pub plain_stretch : (text plain rest : List ℕ) (n : ℕ) → 0 < length text → begins_substitution text ≡ false
     → n ≡ 1 + position_or_len is_dollar (drop 1 text) → plain ≡ take n text → rest ≡ drop n text → length rest < length text
     → (pieces_of text ≡ map Plain plain ++ pieces_of rest) × (0 < length (map Plain plain)) × (length rest < length text)
-plain_stretch text plain rest n some none is plain_is_taken rest_is shorter = 
-    (rw (plain_is_taken, rest_is, is) (plain_is text some none), omega (arith, length-map plain (λ (byte : ℕ). Plain byte), ap length plain_is_taken, length-take n text, ap length rest_is, length-drop n text), shorter)
+plain_stretch text plain rest n some none is plain_is_taken rest_is shorter =
+    let run = length-map plain (λ (byte : ℕ). Plain byte) in (
+      rw (plain_is_taken, rest_is, is) (plain_is text some none),
+      omega (arith, run, ap length plain_is_taken, length-take n text, ap length rest_is, length-drop n text),
+      shorter,
+    )
 
 -- ---- substitutions
 
@@ -176,7 +183,8 @@ pub substitution_at : (text marked word behind rest : List ℕ) (read : Option W
     → starts_word (slice_index marked 0) ≡ true → length_is ≡ length (first_word marked) → word ≡ take length_is marked → behind ≡ drop length_is marked
     → length behind + length_is ≡ length marked → size ≡ operations_len behind → size ≤ length behind → rest ≡ drop size behind
     → length rest + size ≡ length behind → read ≡ word_of word
-    → (pieces_of text ≡ Substitution read (operations_of behind) ∷ pieces_of rest) × (0 < length (Substitution read (operations_of behind) ∷ [])) × (length rest < length text)
+    → (pieces_of text ≡ Substitution read (operations_of behind) ∷ pieces_of rest)
+    × (0 < length (Substitution read (operations_of behind) ∷ [])) × (length rest < length text)
 substitution_at text marked word behind rest read length_is size is starts length_eq word_is behind_is whole size_is within rest_is left read_is =
     let first : take length_is marked ≡ first_word marked =
     ap (λ (n : ℕ). take n marked) (length_eq ∙ length-prefix_len is_word_byte marked) in
@@ -198,7 +206,8 @@ unfolding is_single
 single_plain text [] rest split some = absurd (omega arith)
 single_plain text (byte ∷ run) rest split some = ap is_one_substitution split
 
-pub single_substitution : (text rest : List ℕ) (word : Option Word) (operations : List Operation) → pieces_of text ≡ Substitution word operations ∷ pieces_of rest
+pub single_substitution : (text rest : List ℕ) (word : Option Word) (operations : List Operation)
+    → pieces_of text ≡ Substitution word operations ∷ pieces_of rest
     → is_single text ≡ (length rest == 0)
 unfolding is_single pieces_of chain_behind piece_at
 single_substitution text [] word operations split = ap is_one_substitution split

@@ -136,4 +136,5 @@ number_is place fields index text out max is =
 pub number_none : (place : Option Place) (fields : Option (List Field)) (index : ℕ) (text : List ℕ) (max : ℕ)
     → rendered place fields index text ≡ None → None ≡ rendered_number place fields index text max
 unfolding rendered_number
-number_none place fields index text max none = sym (ap (λ (all : Option (List ℕ)). option_and_then (up_to max) (option_and_then (digits number_digits) all)) none)
+number_none place fields index text max none =
+    sym (ap (λ (all : Option (List ℕ)). option_and_then (up_to max) (option_and_then (digits number_digits) all)) none)

@@ -1,5 +1,6 @@
 -- Operations on numbers, as they stand behind a word: a space, a sign, a space, and 1 to 5 digits.
-use Rattle.std.specs.Prelude.{ℕ, ◌+◌, ◌*◌, ◌-◌, ◌/◌, ◌%◌, ◌^◌, Bool, ◌==◌, ◌&&◌, nat_lt, nat_le, true, false, if◌then◌else◌, List, length, take, drop, fold, map, slice_index}
+use Rattle.std.specs.Prelude.{ℕ, ◌+◌, ◌*◌, ◌-◌, ◌/◌, ◌%◌, ◌^◌, Bool, ◌==◌, ◌&&◌, nat_lt, nat_le, true, false, if◌then◌else◌, List, length}
+use Rattle.std.specs.Prelude.{take, drop, fold, map, slice_index}
 use Rattle.std.specs.Prelude.{Option, Some, None, option_map, option_and_then}
 use Rattle.std.specs.List.{list_all, take_while, sum_by}
 use Rattle.tmpl.specs.Chains.{chain}

@@ -14,7 +14,4 @@ mod worked;
 
 pub use spot::Spot;
 pub use template::{Rendered, Template, TmplFault};
-pub use worked::{
-    worked_kinds, worked_names, worked_numbers, worked_templates, worked_words,
-};
-
+pub use worked::{worked_kinds, worked_names, worked_numbers, worked_templates, worked_words};

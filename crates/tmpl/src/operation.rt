@@ -1,6 +1,8 @@
-ghost use Rattle.std.specs.Prelude.{◌≡◌, ◌≤◌, ◌+◌, None, Some, length, IfSome, MatchOption, drop, nat_lt, IsUtf8};
+ghost use Rattle.std.specs.Prelude.{◌≡◌, ◌≤◌, None, Some, length, drop, nat_lt};
+ghost use Rattle.std.specs.Prelude.{MatchOption, IsUtf8};
 ghost use Rattle.std.specs.List.{list_any};
-ghost use Rattle.tmpl.specs.Operations.{operator_of, operand, operation_at, operations_of, operations_len, divides_by_zero};
+ghost use Rattle.tmpl.specs.Operations.{operator_of, operand, operation_at};
+ghost use Rattle.tmpl.specs.Operations.{operations_of, operations_len, divides_by_zero};
 ghost use Rattle.tmpl.specs.Operations.{computed, applied_all};
 ghost use Rattle.tmpl.specs.Stretches.{FindsOperation};
 
@@ -72,7 +74,10 @@ fn operand_len(text: &[u8]) -> usize
     ensures exact { result ≡ length (operand text.now) }
     ensures within { result ≤ length text.now }
 {
-    text.iter().take(OPERAND_DIGITS).take_while(|byte| byte.is_ascii_digit()).count()
+    text.iter()
+        .take(OPERAND_DIGITS)
+        .take_while(|byte| byte.is_ascii_digit())
+        .count()
 }
 
 // The operation at the front of a text, and the text behind it.

@@ -1,7 +1,10 @@
-ghost use Rattle.std.specs.Prelude.{◌≡◌, ◌≤◌, ◌<◌, ◌+◌, [], false, length, drop, slice_index, MatchOption, IfSome, position};
+ghost use Rattle.std.specs.Prelude.{◌≡◌, ◌≤◌, ◌<◌, ◌+◌, [], false, length};
+ghost use Rattle.std.specs.Prelude.{drop, slice_index, MatchOption, IfSome, position};
 ghost use Rattle.std.specs.List.{list_all, list_any, position_or_len};
 ghost use Rattle.tmpl.specs.Words.{starts_word};
-ghost use Rattle.tmpl.specs.Templates.{first_word, begins_substitution, is_right, is_plain, is_index, asks_index, pieces_of, is_fixed, is_single, uses_index, is_dollar};
+ghost use Rattle.tmpl.specs.Templates.{pieces_of, is_fixed, is_single, uses_index, is_dollar};
+ghost use Rattle.tmpl.specs.Templates.{first_word, begins_substitution};
+ghost use Rattle.tmpl.specs.Templates.{is_right, is_plain, is_index, asks_index};
 ghost use Rattle.tmpl.specs.Stretches.{BeginsWith, stretch_pieces};
 
 use crate::operation::{any_divides_by_zero, operations_len};

@@ -3,9 +3,9 @@ ghost use Rattle.tmpl.specs.Templates.{template_of, is_fixed, is_single, uses_in
 ghost use Rattle.tmpl.specs.Rendering.{rendered, rendered_number, given};
 ghost use Rattle.tmpl.specs.Stretches.{fields_of};
 
+use crate::Spot;
 use crate::render::{named, number_in, render_text};
 use crate::stretch::{are_right, is_fixed, is_single, uses_index};
-use crate::Spot;
 use arrayvec::ArrayString;
 use bmc_base::Name;
 use std::alloc::Global;
@@ -18,7 +18,7 @@ const LONGEST_TEMPLATE: usize = 128;
 /// Why a text is no template.
 #[derive(Clone, Copy, Debug, PartialEq, Eq, Error)]
 pub enum TmplFault {
-    /// It is empty or has more than 128 bytes, a word in it is unknown, or something is divided by 0.
+    /// It is empty or longer than 128 bytes, a word in it is unknown, or something is divided by 0.
     #[error("the text is no template")]
     TemplateSyntax,
     /// There was no memory. A template lies in the value itself, so this does not come.
@@ -84,8 +84,8 @@ impl Template {
     /// Renders the template as a name: a field becomes its text, and any other word its decimal.
     /// Where operations follow, they are done from left to right, and a field has to be a number of
     /// 1 to 9 digits. `Skip` comes exactly where a place, a record or a field is not there, a field
-    /// is no such number, a value leaves 0 to 4,294,967,295 at an operation, or the whole is no name
-    /// of 1 to 64 bytes. It takes no memory.
+    /// is no such number, a value leaves 0 to 4,294,967,295 at an operation, or the whole is no
+    /// name of 1 to 64 bytes. It takes no memory.
     pub fn render(&self, spot: &Spot<'_>) -> Rendered
         ensures { result ≡ given
             (rendered spot.now.place (fields_of spot.now.fru) spot.now.index self.now) }

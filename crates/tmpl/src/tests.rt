@@ -130,10 +130,7 @@ const WITH_A_RECORD: [(&str, Wanted); 30] = [
     ("$index - 99999", Name("4294867296")),
     ("$index / 99999 % 100", Name("50")),
     // fields as they stand
-    (
-        "$BOARD_MANUFACTURER $BOARD_PRODUCT_NAME",
-        Name("ACM RSR 1"),
-    ),
+    ("$BOARD_MANUFACTURER $BOARD_PRODUCT_NAME", Name("ACM RSR 1")),
     ("$CHASSIS_INFO_AM1-$CHASSIS_PART_NUMBER", Name("X1-P1")),
     ("$BOARD_SERIAL_NUMBER", Name("007")),
     ("$BOARD_INFO_AM1", Name("1234567890")),
@@ -230,7 +227,7 @@ const KINDS: [(&str, bool, bool, bool); 16] = [
     ("$BOARD_PART_NUMBER$", false, false, false),
 ];
 
-// Texts by their lengths: the letter, how often it stands there, what stands behind it, and how many
+// Texts by length: the letter, how often it stands there, what stands behind it, and how many
 // bytes the name has that it comes to.
 const LENGTHS: [(&str, usize, &str, Option<usize>); 14] = [
     ("x", 64, "", Some(64)),
@@ -249,13 +246,7 @@ const LENGTHS: [(&str, usize, &str, Option<usize>); 14] = [
     ("$$", 32, "$", None),
 ];
 
-fn assert_rendered(
-    rt: &impl Abort,
-    alloc: Global,
-    spot: &Spot<'_>,
-    text: &str,
-    wanted: &Wanted,
-) {
+fn assert_rendered(rt: &impl Abort, alloc: Global, spot: &Spot<'_>, text: &str, wanted: &Wanted) {
     match (Template::parse(alloc, text), wanted) {
         (Ok(template), Wanted::Name(wanted)) => match template.render(spot) {
             Rendered::Given(name) => assert_eq!(rt; name.as_str(), *wanted, "{text}"),

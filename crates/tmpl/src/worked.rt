@@ -1,7 +1,8 @@
 ghost use Rattle.std.specs.Prelude.{◌≡◌, [], ◌∷◌, codes, replicate, true, false, Some, None};
 ghost use Rattle.fru_area.specs.declared.fault.Area.TheVariants.{Board};
 ghost use Rattle.fru_area.specs.declared.name.FieldName.TheVariants.{Custom};
-ghost use Rattle.tmpl.specs.Templates.{Plain, Substitution, pieces_of, is_template, is_fixed, is_single, uses_index};
+ghost use Rattle.tmpl.specs.Templates.{Plain, Substitution, pieces_of};
+ghost use Rattle.tmpl.specs.Templates.{is_template, is_fixed, is_single, uses_index};
 ghost use Rattle.tmpl.specs.Words.{word_of};
 ghost use Rattle.tmpl.specs.Worked.{bare, full, full_number};
 ghost use Rattle.tmpl.specs.declared.operation.Operator.TheVariants.{Add};

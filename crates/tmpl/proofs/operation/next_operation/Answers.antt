@@ -4,14 +4,16 @@ use Rattle.std.proofs.lemmas.Bool.Decides.{nat_tests}
 use Rattle.tmpl.specs.Operations.{operand, digits}
 use Rattle.tmpl.proofs.OperationsLemmas.{finds_operation, no_space, no_sign, no_number, operand_cut, tail_is, within_text}
 use Rattle.tmpl.proofs.operation.next_operation.Goals as goal
-use Rattle.tmpl.proofs.operation.next_operation.Goals.{in_default-via-then-text-lt3, in_default-via-else-text-lt3+in-32+in_default-1, in_default-via-else-text-lt3+in_default-1}
+use Rattle.tmpl.proofs.operation.next_operation.Goals.{in_default-via-then-text-lt3, in_default-via-else-text-lt3+in-32+in_default-1}
+use Rattle.tmpl.proofs.operation.next_operation.Goals.{in_default-via-else-text-lt3+in_default-1}
 
 pub returns-in_default : goal.returns-in_default
 returns-in_default c =
-    elim c.in_default.branch
-    [ in_default-via-then-text-lt3 w ↦ no_space c.args.text.now (λ first third. let within = within_text c.args.text.now 2 third in grind (arith, nat_tests))
-    | in_default-via-else-text-lt3+in-32+in_default-1 w ↦ no_space c.args.text.now (λ first third. grind (arith, nat_tests))
-    | in_default-via-else-text-lt3+in_default-1 w ↦ no_space c.args.text.now (λ first third. grind (arith, nat_tests)) ]
+    elim c.in_default.branch [
+      | in_default-via-then-text-lt3 w ↦ no_space c.args.text.now (λ first third. let within = within_text c.args.text.now 2 third in grind (arith, nat_tests))
+      | in_default-via-else-text-lt3+in-32+in_default-1 w ↦ no_space c.args.text.now (λ first third. grind (arith, nat_tests))
+      | in_default-via-else-text-lt3+in_default-1 w ↦ no_space c.args.text.now (λ first third. grind (arith, nat_tests))
+    ]
 
 pub returns-in_err-operator : goal.returns-in_err-operator
 returns-in_err-operator c = rw c.from_residual.ensures (no_sign c.args.text.now (sym c.in_err-operator.ensures))

@@ -12,7 +12,9 @@ loop-later-preserved c =
     let shorter = shorter_found rest later c.in-Some.field-0-0 c.in-Some.ensures in
     record {
       len = len_step text rest later c.loop-later.invariant.len (len_found rest later c.in-Some.field-0-0 c.in-Some.ensures);
-      behind = drop_step text rest later c.loop-later.invariant.behind c.loop-later.invariant.within shorter (behind_found rest later c.in-Some.field-0-0 c.in-Some.ensures);
+      behind =
+          drop_step text rest later c.loop-later.invariant.behind c.loop-later.invariant.within shorter
+          (behind_found rest later c.in-Some.field-0-0 c.in-Some.ensures);
       within = omega (arith, shorter, c.loop-later.invariant.within);
       cut = λ utf8. cut_found rest later c.in-Some.field-0-0 c.in-Some.ensures (c.loop-later.invariant.cut utf8);
     }

@@ -18,7 +18,7 @@ loop-stretch-init c =
     let spot = c.args.spot.now in
     record {
       told = ap (λ (out : List ℕ). rendered_behind spot.place (fields_of spot.fru) spot.index out c.args.text.now) c.new-out.ensures
-      ∙ rendered_start spot.place (fields_of spot.fru) spot.index c.args.text.now;
+          ∙ rendered_start spot.place (fields_of spot.fru) spot.index c.args.text.now;
       utf8 = c.utf8.text;
     }
 
@@ -28,8 +28,8 @@ loop-stretch-preserved c =
     let begins = c.in-Some.ensures in
     record {
       told = sym (rendered_on spot.place (fields_of spot.fru) spot.index c.loop-stretch.out.bytes c.push_stretch.new.out.bytes c.loop-stretch.rest.now
-      c.in-Some.later.now (stretch_pieces c.in-Some.stretch) begins.0 c.in_ok-push_stretch.ensures)
-      ∙ c.loop-stretch.invariant.told;
+          c.in-Some.later.now (stretch_pieces c.in-Some.stretch) begins.0 c.in_ok-push_stretch.ensures)
+          ∙ c.loop-stretch.invariant.told;
       utf8 = search rules;
     }
 

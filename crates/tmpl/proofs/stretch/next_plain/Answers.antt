@@ -7,7 +7,8 @@ use Rattle.tmpl.proofs.stretch.next_plain.Goals as goal
 
 pub split_at-requires : goal.split_at-requires
 split_at-requires c =
-    plain_cut c.args.text.now c.plain_len.result (rw c.as_bytes.ensures.value at c.plain_len.ensures.exact) (rw c.as_bytes.ensures.value at c.plain_len.ensures.within)
+    plain_cut c.args.text.now c.plain_len.result (rw c.as_bytes.ensures.value at c.plain_len.ensures.exact)
+    (rw c.as_bytes.ensures.value at c.plain_len.ensures.within)
 
 pub returns : goal.returns
 returns c =

@@ -25,7 +25,8 @@ split_at-requires c =
     let marked = c.in_ok-marked.marked.now in
     let word : starts_word (slice_index marked 0) ≡ true =
     ap (λ (xs : List ℕ). starts_word (slice_index xs 0)) (sym c.as_bytes.ensures.value) ∙ sym c.if-not-begins_word.ensures in
-    let size : c.word_len.result ≡ length (first_word marked) = c.word_len.ensures ∙ ap (λ (xs : List ℕ). length (first_word xs)) c.as_bytes-2.ensures.value in
+    let size : c.word_len.result ≡ length (first_word marked) =
+    c.word_len.ensures ∙ ap (λ (xs : List ℕ). length (first_word xs)) c.as_bytes-2.ensures.value in
     rw size (word_cut marked (rw c.as_bytes.ensures.value at c.as_bytes.ensures.utf8) word)
 
 pub split_at-requires-2 : goal.split_at-requires-2
@@ -40,7 +41,8 @@ returns c =
     let is = strip_prefix_char 36 c.args.text.now (Some marked) c.in_ok-marked.ensures.cases (omega arith) in
     let word : starts_word (slice_index marked.now 0) ≡ true =
     ap (λ (xs : List ℕ). starts_word (slice_index xs 0)) (sym c.as_bytes.ensures.value) ∙ sym c.if-not-begins_word.ensures in
-    let size : c.word_len.result ≡ length (first_word marked.now) = c.word_len.ensures ∙ ap (λ (xs : List ℕ). length (first_word xs)) c.as_bytes-2.ensures.value in
+    let size : c.word_len.result ≡ length (first_word marked.now) =
+    c.word_len.ensures ∙ ap (λ (xs : List ℕ). length (first_word xs)) c.as_bytes-2.ensures.value in
     let behind = c.split_at.result.1.now in
     let ops : c.operations_len.result ≡ operations_len behind = c.operations_len.ensures.exact ∙ ap operations_len c.as_bytes-3.ensures.value in
     let within = rw c.as_bytes-3.ensures.value at c.operations_len.ensures.within in

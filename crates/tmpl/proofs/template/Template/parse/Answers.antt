@@ -25,17 +25,21 @@ returns-then-not-are_right c = sym (wrong_not c.args.text.now (sym c.if-not-are_
 
 pub invariant_of-result : goal.invariant_of-result
 invariant_of-result c =
-    let bytes : c.try_push_str.new.self.bytes ≡ c.args.text.now = c.in-Ok.ensures.ok ∙ ap (λ (held : List ℕ). held ++ c.args.text.now) c.new-held.ensures in
+    let bytes : c.try_push_str.new.self.bytes ≡ c.args.text.now =
+    c.in-Ok.ensures.ok ∙ ap (λ (held : List ℕ). held ++ c.args.text.now) c.new-held.ensures in
     let few = c.in-Ok.ensures.variant.0 refl in
     let right = right_is c.args.text.now (grind (arith, c.if-is_empty.ensures)) (omega (arith, few)) (sym c.if-not-are_right.ensures) in
     (ap is_template bytes ∙ right, c.is_fixed.ensures ∙ ap is_fixed (sym bytes))
 
 pub returns-in-Ok : goal.returns-in-Ok
 returns-in-Ok c =
-    let bytes : c.try_push_str.new.self.bytes ≡ c.args.text.now = c.in-Ok.ensures.ok ∙ ap (λ (held : List ℕ). held ++ c.args.text.now) c.new-held.ensures in
+    let bytes : c.try_push_str.new.self.bytes ≡ c.args.text.now =
+    c.in-Ok.ensures.ok ∙ ap (λ (held : List ℕ). held ++ c.args.text.now) c.new-held.ensures in
     let few = c.in-Ok.ensures.variant.0 refl in
     let right = right_is c.args.text.now (grind (arith, c.if-is_empty.ensures)) (omega (arith, few)) (sym c.if-not-are_right.ensures) in
     sym (right_read c.args.text.now c.try_push_str.new.self.bytes right bytes)
 
 pub returns-in-Err : goal.returns-in-Err
-returns-in-Err c = sym (long_not c.args.text.now (too_long (length c.new-held.result.bytes) (length c.args.text.now) (ap length c.new-held.ensures) c.in-Err.ensures.variant.1))
+returns-in-Err c =
+    sym (long_not c.args.text.now
+    (too_long (length c.new-held.result.bytes) (length c.args.text.now) (ap length c.new-held.ensures) c.in-Err.ensures.variant.1))
