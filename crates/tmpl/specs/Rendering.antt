@@ -1,5 +1,6 @@
 -- What a template is rendered as, for a place, the fields of a record, and an index.
 use Rattle.std.specs.Prelude.{ℕ, List, [], ◌∷◌, ◌++◌, decimal, Option, Some, None, option_map, option_and_then}
+use Rattle.std.specs.Borrow.{Bor}
 use Rattle.std.specs.Result.{result_ok}
 use Rattle.bmc_base.specs.Names.{name_of}
 use Rattle.bmc_base.specs.Places.{Place}
@@ -66,6 +67,10 @@ module _ (place : Option Place) (fields : Option (List Field)) (index : ℕ) whe
   -- the number that it is rendered as: 1 to 10 digits, and at most the maximum
   unfoldable pub rendered_number : List ℕ → ℕ → Option ℕ
   rendered_number text max = option_and_then (up_to max) (option_and_then (digits number_digits) (rendered text))
+
+-- the fields of a record
+abbrev pub fields_of : Option (Bor (List Field)) → Option (List Field)
+fields_of record_at = option_map (λ fields. fields.now) record_at
 
 -- what is answered
 abbrev pub given : Option (List ℕ) → Rendered

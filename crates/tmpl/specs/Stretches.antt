@@ -31,7 +31,3 @@ joined front text = option_and_then (λ text. if nat_le (length (front ++ text))
 -- a text was put behind another, or was none, or had no room there
 abbrev pub Joins : List ℕ → List ℕ → Option (List ℕ) → Option (Unit {0}) → Type 0
 Joins old new text result = MatchOption result (joined old text ≡ None) (λ done. joined old text ≡ Some new)
-
--- the fields of a record
-abbrev pub fields_of : Option (Bor (List Field)) → Option (List Field)
-fields_of record_at = option_map (λ fields. fields.now) record_at

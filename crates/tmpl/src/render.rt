@@ -3,9 +3,9 @@ ghost use Rattle.std.specs.Prelude.{option_and_then, option_map, decimal};
 ghost use Rattle.std.specs.Result.{result_ok};
 ghost use Rattle.bmc_base.specs.Names.{name_of};
 ghost use Rattle.tmpl.specs.Operations.{operations_of, digits, up_to};
-ghost use Rattle.tmpl.specs.Rendering.{pieces_text, value_at, substituted};
+ghost use Rattle.tmpl.specs.Rendering.{fields_of, pieces_text, value_at, substituted};
 ghost use Rattle.tmpl.specs.Rendering.{rendered, given, number_digits};
-ghost use Rattle.tmpl.specs.Stretches.{Joins, fields_of, stretch_pieces};
+ghost use Rattle.tmpl.specs.Stretches.{Joins, stretch_pieces};
 
 use crate::digits::read_digits;
 use crate::operation::{compute_all, has_operation};

@@ -1,7 +1,6 @@
 ghost use Rattle.std.specs.Prelude.{◌≡◌};
 ghost use Rattle.tmpl.specs.Templates.{template_of, is_fixed, is_single, uses_index};
-ghost use Rattle.tmpl.specs.Rendering.{rendered, rendered_number, given};
-ghost use Rattle.tmpl.specs.Stretches.{fields_of};
+ghost use Rattle.tmpl.specs.Rendering.{fields_of, rendered, rendered_number, given};
 
 use crate::Spot;
 use crate::render::{named, number_in, render_text};

@@ -25,8 +25,8 @@ enum Wanted {
 
 use Wanted::{Fault, Name, Skip};
 
-// At address 80 of bus 1, without a record, under index 3.
-const AT_A_PLACE: [(&str, Wanted); 83] = [
+// Words and plain text, at address 80 of bus 1 under index 3.
+const WORDS: [(&str, Wanted); 27] = [
     // plain text, of which a `$` may be part
     ("CPU 1", Name("CPU 1")),
     ("$", Name("$")),
@@ -56,6 +56,10 @@ const AT_A_PLACE: [(&str, Wanted); 83] = [
     ("$A", Fault),
     ("$Z", Fault),
     ("CPU $bus $foo", Fault),
+];
+
+// Operations there.
+const OPERATIONS: [(&str, Wanted); 26] = [
     // operations
     ("A $address / 7 * 2", Name("A 22")),
     ("S $address - 80 * 2", Name("S 0")),
@@ -69,23 +73,6 @@ const AT_A_PLACE: [(&str, Wanted); 83] = [
     ("$index + 00007", Name("10")),
     ("$index / 01", Name("3")),
     ("$index + 1$bus - 1", Name("40")),
-    // what is no operation
-    ("$index%", Name("3%")),
-    ("$bus +1", Name("1 +1")),
-    ("$index+ 1", Name("3+ 1")),
-    ("$index +  1", Name("3 +  1")),
-    ("$index  + 1", Name("3  + 1")),
-    ("$index +\t1", Name("3 +\t1")),
-    ("$index + x", Name("3 + x")),
-    ("$index + ", Name("3 + ")),
-    ("$index +", Name("3 +")),
-    ("$index ", Name("3 ")),
-    ("$index ^ 2", Name("3 ^ 2")),
-    ("$index , 2", Name("3 , 2")),
-    ("$index . 2", Name("3 . 2")),
-    ("$index + 1 + x", Name("4 + x")),
-    ("$index + 1+ 1", Name("4+ 1")),
-    ("$index + $bus", Name("3 + 1")),
     // the first five digits
     ("$index + 123456", Name("123486")),
     ("$index + 000007", Name("37")),
@@ -103,6 +90,27 @@ const AT_A_PLACE: [(&str, Wanted); 83] = [
     ("$address * 53687 * 1000 + 7296", Skip),
     ("$address * 53687 * 1001", Skip),
     ("$address * 53687 * 1001 / 1001", Skip),
+];
+
+// What is no operation there, and fields without a record.
+const NEITHER: [(&str, Wanted); 30] = [
+    // what is no operation
+    ("$index%", Name("3%")),
+    ("$bus +1", Name("1 +1")),
+    ("$index+ 1", Name("3+ 1")),
+    ("$index +  1", Name("3 +  1")),
+    ("$index  + 1", Name("3  + 1")),
+    ("$index +\t1", Name("3 +\t1")),
+    ("$index + x", Name("3 + x")),
+    ("$index + ", Name("3 + ")),
+    ("$index +", Name("3 +")),
+    ("$index ", Name("3 ")),
+    ("$index ^ 2", Name("3 ^ 2")),
+    ("$index , 2", Name("3 , 2")),
+    ("$index . 2", Name("3 . 2")),
+    ("$index + 1 + x", Name("4 + x")),
+    ("$index + 1+ 1", Name("4+ 1")),
+    ("$index + $bus", Name("3 + 1")),
     // no record
     ("$BOARD_PART_NUMBER", Skip),
     ("$PRODUCT_ASSET_TAG + 1", Skip),
@@ -269,28 +277,58 @@ fn assert_rows(rt: &impl Abort, alloc: Global, spot: &Spot<'_>, rows: &[(&str, W
     }
 }
 
-#[test]
-fn names(rt: HostRuntime) -> Result<(), Fail> {
-    let alloc = rt.alloc();
-    let record = FruRecord::decode(alloc, RECORD)?;
-    let at_a_place = Spot {
+// Address 80 of bus 1 without a record, under index 3.
+fn at_a_place<'a>() -> Spot<'a> {
+    Spot {
         place: Place::new(1, 80),
         fru: None,
         index: 3,
-    };
-    assert_rows(&rt, alloc, &at_a_place, &AT_A_PLACE);
-    let with_a_record = Spot {
+    }
+}
+
+// Address 127 of bus 255 with a record, under the highest index.
+fn with_record<'a>(record: &'a FruRecord) -> Spot<'a> {
+    Spot {
         place: Place::new(255, 127),
-        fru: Some(&record),
+        fru: Some(record),
         index: u32::MAX,
-    };
-    assert_rows(&rt, alloc, &with_a_record, &WITH_A_RECORD);
-    let nowhere = Spot {
+    }
+}
+
+#[test]
+fn words(rt: HostRuntime) -> Result<(), Fail> {
+    assert_rows(&rt, rt.alloc(), &at_a_place(), &WORDS);
+    Ok(())
+}
+
+#[test]
+fn operations(rt: HostRuntime) -> Result<(), Fail> {
+    assert_rows(&rt, rt.alloc(), &at_a_place(), &OPERATIONS);
+    Ok(())
+}
+
+#[test]
+fn neither(rt: HostRuntime) -> Result<(), Fail> {
+    assert_rows(&rt, rt.alloc(), &at_a_place(), &NEITHER);
+    Ok(())
+}
+
+#[test]
+fn fields(rt: HostRuntime) -> Result<(), Fail> {
+    let alloc = rt.alloc();
+    let record = FruRecord::decode(alloc, RECORD)?;
+    assert_rows(&rt, alloc, &with_record(&record), &WITH_A_RECORD);
+    Ok(())
+}
+
+#[test]
+fn nowhere(rt: HostRuntime) -> Result<(), Fail> {
+    let spot = Spot {
         place: None,
         fru: None,
         index: 0,
     };
-    assert_rows(&rt, alloc, &nowhere, &NOWHERE);
+    assert_rows(&rt, rt.alloc(), &spot, &NOWHERE);
     Ok(())
 }
 
@@ -298,11 +336,7 @@ fn names(rt: HostRuntime) -> Result<(), Fail> {
 fn numbers(rt: HostRuntime) -> Result<(), Fail> {
     let alloc = rt.alloc();
     let record = FruRecord::decode(alloc, RECORD)?;
-    let spot = Spot {
-        place: Place::new(255, 127),
-        fru: Some(&record),
-        index: u32::MAX,
-    };
+    let spot = with_record(&record);
     for (text, max, wanted) in &NUMBERS {
         let template = Template::parse(alloc, text)?;
         assert_eq!(rt; template.render_number(&spot, *max), *wanted, "{text}");
@@ -325,11 +359,7 @@ fn kinds(rt: HostRuntime) -> Result<(), Fail> {
 #[test]
 fn lengths(rt: HostRuntime) -> Result<(), Fail> {
     let alloc = rt.alloc();
-    let spot = Spot {
-        place: Place::new(1, 80),
-        fru: None,
-        index: 3,
-    };
+    let spot = at_a_place();
     for (letter, count, behind, wanted) in &LENGTHS {
         let mut text = letter.repeat(alloc, *count)?;
         text.push_str(behind)?;

@@ -1,7 +1,6 @@
 ghost use Rattle.std.specs.Prelude.{◌≡◌};
 ghost use Rattle.tmpl.specs.Words.{word_of, is_word_byte, starts_word, field_of};
-ghost use Rattle.tmpl.specs.Rendering.{number_at};
-ghost use Rattle.tmpl.specs.Stretches.{fields_of};
+ghost use Rattle.tmpl.specs.Rendering.{fields_of, number_at};
 
 use crate::Spot;
 use crate::digits::read_digits;

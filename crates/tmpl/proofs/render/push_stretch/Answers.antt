@@ -1,4 +1,4 @@
-use Rattle.tmpl.specs.Stretches.{fields_of}
+use Rattle.tmpl.specs.Rendering.{fields_of}
 use Rattle.tmpl.proofs.RenderingLemmas.{plain_text}
 use Rattle.tmpl.proofs.render.push_stretch.Goals as goal
 

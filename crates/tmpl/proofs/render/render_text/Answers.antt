@@ -1,6 +1,7 @@
 -- A stretch more, and the end.
 use Rattle.std.proofs.Common.{List, ℕ, sym, ap, ◌∙◌, rules}
-use Rattle.tmpl.specs.Stretches.{fields_of, stretch_pieces}
+use Rattle.tmpl.specs.Rendering.{fields_of}
+use Rattle.tmpl.specs.Stretches.{stretch_pieces}
 use Rattle.tmpl.proofs.RenderingLemmas.{rendered_behind, rendered_start, rendered_on, rendered_not, rendered_end}
 use Rattle.tmpl.proofs.render.render_text.Goals as goal
 

@@ -2,8 +2,7 @@
 use Rattle.std.proofs.Common.{◌≡◌, length}
 use denote.Shadow.{shadow}
 use denote.Text.{Utf8}
-use Rattle.tmpl.specs.Rendering.{rendered}
-use Rattle.tmpl.specs.Stretches.{fields_of}
+use Rattle.tmpl.specs.Rendering.{fields_of, rendered}
 use Rattle.tmpl.proofs.RenderingLemmas.{rendered_behind}
 use Rattle.tmpl.proofs.render.render_text.Given as goal
 

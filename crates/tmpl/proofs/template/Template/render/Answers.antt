@@ -2,8 +2,7 @@
 use Rattle.std.proofs.Common.{◌≡◌, true, ℕ, List, sym, ap, ◌∙◌}
 use Rattle.std.specs.Result.{result_ok}
 use Rattle.bmc_base.specs.Names.{name_of}
-use Rattle.tmpl.specs.Rendering.{given}
-use Rattle.tmpl.specs.Stretches.{fields_of}
+use Rattle.tmpl.specs.Rendering.{fields_of, given}
 use Rattle.tmpl.specs.Templates.{is_fixed}
 use Rattle.tmpl.proofs.RenderingLemmas.{fixed_is}
 use Rattle.tmpl.proofs.template.Template.render.Goals as goal

@@ -2,9 +2,8 @@
 use Rattle.std.proofs.Common.{◌≡◌, true, ℕ, List, Some, sym, ap, ◌∙◌}
 use Rattle.std.specs.Result.{result_ok}
 use Rattle.bmc_base.specs.Names.{name_of}
-use Rattle.tmpl.specs.Stretches.{fields_of}
 use Rattle.tmpl.specs.Templates.{is_fixed}
-use Rattle.tmpl.specs.Rendering.{rendered}
+use Rattle.tmpl.specs.Rendering.{fields_of, rendered}
 use Rattle.tmpl.proofs.RenderingLemmas.{fixed_is, number_is, number_none}
 use Rattle.tmpl.proofs.template.Template.render_number.Goals as goal
 
