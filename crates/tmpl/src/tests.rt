@@ -15,171 +15,138 @@ const RECORD: &[u8; 224] = b"\x01\x00\x01\x03\x00\x00\x00\xFB\
     \xFFBBBBBBBBBBBBBBBBBBBBBBBBBBBBBBBBBBBBBBBBBBBBBBBBBBBBBBBBBBBBBBB\
     \xC1\x00\x00\x00\x00\x00\x00\xDE";
 
-// What comes of a template.
-#[derive(Clone, Copy)]
-enum Wanted {
-    Name(&'static str),
-    Skip,
-    Fault,
-}
-
-use Wanted::{Fault, Name, Skip};
+// A template in each line, and behind the arrow the name that it is rendered as, or what comes of it.
 
 // Words and plain text, at address 80 of bus 1 under index 3.
-const WORDS: [(&str, Wanted); 27] = [
-    // plain text, of which a `$` may be part
-    ("CPU 1", Name("CPU 1")),
-    ("$", Name("$")),
-    ("$$", Name("$$")),
-    ("a$", Name("a$")),
-    ("$5", Name("$5")),
-    ("$9bus", Name("$9bus")),
-    ("$ bus", Name("$ bus")),
-    ("${bus}", Name("${bus}")),
-    ("$@$[$`${", Name("$@$[$`${")),
-    ("$é", Name("$é")),
-    // words
-    ("$bus$address$index", Name("1803")),
-    ("$BUS.$ADDRESS", Name("1.80")),
-    ("$$bus", Name("$1")),
-    ("$bus$", Name("1$")),
-    ("é$busé", Name("é1é")),
-    ("$foo", Fault),
-    ("$Bus", Fault),
-    ("$INDEX", Fault),
-    ("$bus_1", Fault),
-    ("$busy", Fault),
-    ("$bus1", Fault),
-    ("$_", Fault),
-    ("$a", Fault),
-    ("$z", Fault),
-    ("$A", Fault),
-    ("$Z", Fault),
-    ("CPU $bus $foo", Fault),
-];
+const WORDS: &str = "CPU 1 => CPU 1
+$ => $
+$$ => $$
+a$ => a$
+$5 => $5
+$9bus => $9bus
+$ bus => $ bus
+${bus} => ${bus}
+$@$[$`${ => $@$[$`${
+$é => $é
+$bus$address$index => 1803
+$BUS.$ADDRESS => 1.80
+$$bus => $1
+$bus$ => 1$
+é$busé => é1é
+$foo => (fault)
+$Bus => (fault)
+$INDEX => (fault)
+$bus_1 => (fault)
+$busy => (fault)
+$bus1 => (fault)
+$_ => (fault)
+$a => (fault)
+$z => (fault)
+$A => (fault)
+$Z => (fault)
+CPU $bus $foo => (fault)";
 
 // Operations there.
-const OPERATIONS: [(&str, Wanted); 26] = [
-    // operations
-    ("A $address / 7 * 2", Name("A 22")),
-    ("S $address - 80 * 2", Name("S 0")),
-    ("$index + 1", Name("4")),
-    ("$index - 3", Name("0")),
-    ("$index * 99999", Name("299997")),
-    ("$index / 2", Name("1")),
-    ("$index % 2", Name("1")),
-    ("$index + 5 - 2 * 9 / 4 % 7", Name("6")),
-    ("$index + 1 * 2", Name("8")),
-    ("$index + 00007", Name("10")),
-    ("$index / 01", Name("3")),
-    ("$index + 1$bus - 1", Name("40")),
-    // the first five digits
-    ("$index + 123456", Name("123486")),
-    ("$index + 000007", Name("37")),
-    // division by 0
-    ("$bus / 0", Fault),
-    ("$bus % 0", Fault),
-    ("$bus / 00000", Fault),
-    ("$bus + 1 % 00 + 1", Fault),
-    ("$bus / 000001", Fault),
-    ("$bus * 0", Name("0")),
-    // the range after each operation
-    ("$bus - 2 + 5", Skip),
-    ("$address - 81", Skip),
-    ("$address * 53687 * 1000 + 7295", Name("4294967295")),
-    ("$address * 53687 * 1000 + 7296", Skip),
-    ("$address * 53687 * 1001", Skip),
-    ("$address * 53687 * 1001 / 1001", Skip),
-];
+const OPERATIONS: &str = "A $address / 7 * 2 => A 22
+S $address - 80 * 2 => S 0
+$index + 1 => 4
+$index - 3 => 0
+$index * 99999 => 299997
+$index / 2 => 1
+$index % 2 => 1
+$index + 5 - 2 * 9 / 4 % 7 => 6
+$index + 1 * 2 => 8
+$index + 00007 => 10
+$index / 01 => 3
+$index + 1$bus - 1 => 40
+$index + 123456 => 123486
+$index + 000007 => 37
+$bus / 0 => (fault)
+$bus % 0 => (fault)
+$bus / 00000 => (fault)
+$bus + 1 % 00 + 1 => (fault)
+$bus / 000001 => (fault)
+$bus * 0 => 0
+$bus - 2 + 5 => (skip)
+$address - 81 => (skip)
+$address * 53687 * 1000 + 7295 => 4294967295
+$address * 53687 * 1000 + 7296 => (skip)
+$address * 53687 * 1001 => (skip)
+$address * 53687 * 1001 / 1001 => (skip)";
 
 // What is no operation there, and fields without a record.
-const NEITHER: [(&str, Wanted); 30] = [
-    // what is no operation
-    ("$index%", Name("3%")),
-    ("$bus +1", Name("1 +1")),
-    ("$index+ 1", Name("3+ 1")),
-    ("$index +  1", Name("3 +  1")),
-    ("$index  + 1", Name("3  + 1")),
-    ("$index +\t1", Name("3 +\t1")),
-    ("$index + x", Name("3 + x")),
-    ("$index + ", Name("3 + ")),
-    ("$index +", Name("3 +")),
-    ("$index ", Name("3 ")),
-    ("$index ^ 2", Name("3 ^ 2")),
-    ("$index , 2", Name("3 , 2")),
-    ("$index . 2", Name("3 . 2")),
-    ("$index + 1 + x", Name("4 + x")),
-    ("$index + 1+ 1", Name("4+ 1")),
-    ("$index + $bus", Name("3 + 1")),
-    // no record
-    ("$BOARD_PART_NUMBER", Skip),
-    ("$PRODUCT_ASSET_TAG + 1", Skip),
-    ("CPU $CHASSIS_TYPE", Skip),
-    // names of custom fields
-    ("$BOARD_INFO_AM1", Skip),
-    ("$CHASSIS_INFO_AM999", Skip),
-    ("$PRODUCT_INFO_AM2040", Skip),
-    ("$PRODUCT_INFO_AM2041", Fault),
-    ("$BOARD_INFO_AM65537", Fault),
-    ("$BOARD_INFO_AM0", Fault),
-    ("$BOARD_INFO_AM01", Fault),
-    ("$BOARD_INFO_AM", Fault),
-    ("$BOARD_INFO_AM+1", Fault),
-    ("$board_serial_number", Fault),
-    ("$BOARD_SERIAL_NUMBER_", Fault),
-];
+const NEITHER: &str = "$index% => 3%
+$bus +1 => 1 +1
+$index+ 1 => 3+ 1
+$index +  1 => 3 +  1
+$index  + 1 => 3  + 1
+$index +\t1 => 3 +\t1
+$index + x => 3 + x
+$index +  => 3 + 
+$index + => 3 +
+$index  => 3 
+$index ^ 2 => 3 ^ 2
+$index , 2 => 3 , 2
+$index . 2 => 3 . 2
+$index + 1 + x => 4 + x
+$index + 1+ 1 => 4+ 1
+$index + $bus => 3 + 1
+$BOARD_PART_NUMBER => (skip)
+$PRODUCT_ASSET_TAG + 1 => (skip)
+CPU $CHASSIS_TYPE => (skip)
+$BOARD_INFO_AM1 => (skip)
+$CHASSIS_INFO_AM999 => (skip)
+$PRODUCT_INFO_AM2040 => (skip)
+$PRODUCT_INFO_AM2041 => (fault)
+$BOARD_INFO_AM65537 => (fault)
+$BOARD_INFO_AM0 => (fault)
+$BOARD_INFO_AM01 => (fault)
+$BOARD_INFO_AM => (fault)
+$BOARD_INFO_AM+1 => (fault)
+$board_serial_number => (fault)
+$BOARD_SERIAL_NUMBER_ => (fault)";
 
 // At address 127 of bus 255, with the record, under the highest index.
-const WITH_A_RECORD: [(&str, Wanted); 30] = [
-    ("$bus/$address/$index", Name("255/127/4294967295")),
-    ("$index + 0", Name("4294967295")),
-    ("$index + 1", Skip),
-    ("$index * 2", Skip),
-    ("$index - 99999", Name("4294867296")),
-    ("$index / 99999 % 100", Name("50")),
-    // fields as they stand
-    ("$BOARD_MANUFACTURER $BOARD_PRODUCT_NAME", Name("ACM RSR 1")),
-    ("$CHASSIS_INFO_AM1-$CHASSIS_PART_NUMBER", Name("X1-P1")),
-    ("$BOARD_SERIAL_NUMBER", Name("007")),
-    ("$BOARD_INFO_AM1", Name("1234567890")),
-    ("$BOARD_INFO_AM4", Name("é5")),
-    ("A$BOARD_FRU_VERSION_ID.", Name("A.")),
-    ("$BOARD_FRU_VERSION_ID", Skip),
-    ("$BOARD_MANUFACTURE_DATE", Skip),
-    ("$PRODUCT_VERSION", Skip),
-    ("$BOARD_INFO_AM7", Skip),
-    ("$CHASSIS_INFO_AM2", Skip),
-    // fields as numbers of 1 to 9 digits
-    ("$BOARD_SERIAL_NUMBER + 0", Name("7")),
-    ("$CHASSIS_TYPE + 1", Name("24")),
-    ("$CHASSIS_SERIAL_NUMBER * 100 % 9", Name("6")),
-    ("$BOARD_PART_NUMBER * 34", Name("4197530826")),
-    ("$BOARD_PART_NUMBER * 35", Skip),
-    ("$BOARD_INFO_AM1 - 1", Skip),
-    ("$BOARD_INFO_AM4 + 1", Skip),
-    ("$BOARD_FRU_VERSION_ID + 1", Skip),
-    ("$BOARD_PRODUCT_NAME + 1", Skip),
-    ("$BOARD_PART_NUMBER +1", Name("123456789 +1")),
-    // 64 bytes
-    (
-        "$BOARD_INFO_AM6.",
-        Name("BBBBBBBBBBBBBBBBBBBBBBBBBBBBBBBBBBBBBBBBBBBBBBBBBBBBBBBBBBBBBBB."),
-    ),
-    ("$BOARD_INFO_AM6..", Skip),
-    ("$BOARD_INFO_AM5$BOARD_INFO_AM4$BOARD_INFO_AM4", Skip),
-];
+const WITH_A_RECORD: &str = "$bus/$address/$index => 255/127/4294967295
+$index + 0 => 4294967295
+$index + 1 => (skip)
+$index * 2 => (skip)
+$index - 99999 => 4294867296
+$index / 99999 % 100 => 50
+$BOARD_MANUFACTURER $BOARD_PRODUCT_NAME => ACM RSR 1
+$CHASSIS_INFO_AM1-$CHASSIS_PART_NUMBER => X1-P1
+$BOARD_SERIAL_NUMBER => 007
+$BOARD_INFO_AM1 => 1234567890
+$BOARD_INFO_AM4 => é5
+A$BOARD_FRU_VERSION_ID. => A.
+$BOARD_FRU_VERSION_ID => (skip)
+$BOARD_MANUFACTURE_DATE => (skip)
+$PRODUCT_VERSION => (skip)
+$BOARD_INFO_AM7 => (skip)
+$CHASSIS_INFO_AM2 => (skip)
+$BOARD_SERIAL_NUMBER + 0 => 7
+$CHASSIS_TYPE + 1 => 24
+$CHASSIS_SERIAL_NUMBER * 100 % 9 => 6
+$BOARD_PART_NUMBER * 34 => 4197530826
+$BOARD_PART_NUMBER * 35 => (skip)
+$BOARD_INFO_AM1 - 1 => (skip)
+$BOARD_INFO_AM4 + 1 => (skip)
+$BOARD_FRU_VERSION_ID + 1 => (skip)
+$BOARD_PRODUCT_NAME + 1 => (skip)
+$BOARD_PART_NUMBER +1 => 123456789 +1
+$BOARD_INFO_AM6. => BBBBBBBBBBBBBBBBBBBBBBBBBBBBBBBBBBBBBBBBBBBBBBBBBBBBBBBBBBBBBBB.
+$BOARD_INFO_AM6.. => (skip)
+$BOARD_INFO_AM5$BOARD_INFO_AM4$BOARD_INFO_AM4 => (skip)";
 
 // Without a place and without a record, under index 0.
-const NOWHERE: [(&str, Wanted); 8] = [
-    ("$index", Name("0")),
-    ("$index - 1", Skip),
-    ("$index % 7", Name("0")),
-    ("$bus", Skip),
-    ("$ADDRESS", Skip),
-    ("$address * 0", Skip),
-    ("$BOARD_PART_NUMBER * 0", Skip),
-    ("CPU", Name("CPU")),
-];
+const NOWHERE: &str = "$index => 0
+$index - 1 => (skip)
+$index % 7 => 0
+$bus => (skip)
+$ADDRESS => (skip)
+$address * 0 => (skip)
+$BOARD_PART_NUMBER * 0 => (skip)
+CPU => CPU";
 
 // Templates of numbers, and the number that each is up to a maximum, with the record.
 const NUMBERS: [(&str, u32, Option<u32>); 30] = [
@@ -254,81 +221,50 @@ const LENGTHS: [(&str, usize, &str, Option<usize>); 14] = [
     ("$$", 32, "$", None),
 ];
 
-fn assert_rendered(rt: &impl Abort, alloc: Global, spot: &Spot<'_>, text: &str, wanted: &Wanted) {
-    match (Template::parse(alloc, text), wanted) {
-        (Ok(template), Wanted::Name(wanted)) => match template.render(spot) {
-            Rendered::Given(name) => assert_eq!(rt; name.as_str(), *wanted, "{text}"),
-            Rendered::Skip => assert!(rt; false, "{text} is skipped"),
+fn assert_line(rt: &impl Abort, alloc: Global, spot: &Spot<'_>, line: &str) {
+    let (text, wanted) = line.split_once(" => ").unwrap_or((line, ""));
+    match Template::parse(alloc, text) {
+        Ok(template) => match template.render(spot) {
+            Rendered::Given(name) => assert_eq!(rt; name.as_str(), wanted, "{text}"),
+            Rendered::Skip => assert_eq!(rt; "(skip)", wanted, "{text}"),
         },
-        (Ok(template), Wanted::Skip) => {
-            assert!(rt; matches!(template.render(spot), Rendered::Skip), "{text}");
-        }
-        (Ok(_), Wanted::Fault) => assert!(rt; false, "{text} is a template"),
-        (Err(fault), Wanted::Fault) => {
+        Err(fault) => {
             assert_eq!(rt; fault, TmplFault::TemplateSyntax, "{text}");
+            assert_eq!(rt; "(fault)", wanted, "{text}");
         }
-        (Err(fault), _) => assert!(rt; false, "{text}: {fault}"),
     }
 }
 
-fn assert_rows(rt: &impl Abort, alloc: Global, spot: &Spot<'_>, rows: &[(&str, Wanted)]) {
-    for (text, wanted) in rows {
-        assert_rendered(rt, alloc, spot, text, wanted);
+fn assert_lines(rt: &impl Abort, alloc: Global, spot: &Spot<'_>, lines: &str) {
+    for line in lines.lines() {
+        assert_line(rt, alloc, spot, line);
     }
 }
 
-// Address 80 of bus 1 without a record, under index 3.
-fn at_a_place<'a>() -> Spot<'a> {
-    Spot {
+#[test]
+fn names(rt: HostRuntime) -> Result<(), Fail> {
+    let alloc = rt.alloc();
+    let record = FruRecord::decode(alloc, RECORD)?;
+    let at_a_place = Spot {
         place: Place::new(1, 80),
         fru: None,
         index: 3,
-    }
-}
-
-// Address 127 of bus 255 with a record, under the highest index.
-fn with_record<'a>(record: &'a FruRecord) -> Spot<'a> {
-    Spot {
+    };
+    assert_lines(&rt, alloc, &at_a_place, WORDS);
+    assert_lines(&rt, alloc, &at_a_place, OPERATIONS);
+    assert_lines(&rt, alloc, &at_a_place, NEITHER);
+    let with_a_record = Spot {
         place: Place::new(255, 127),
-        fru: Some(record),
+        fru: Some(&record),
         index: u32::MAX,
-    }
-}
-
-#[test]
-fn words(rt: HostRuntime) -> Result<(), Fail> {
-    assert_rows(&rt, rt.alloc(), &at_a_place(), &WORDS);
-    Ok(())
-}
-
-#[test]
-fn operations(rt: HostRuntime) -> Result<(), Fail> {
-    assert_rows(&rt, rt.alloc(), &at_a_place(), &OPERATIONS);
-    Ok(())
-}
-
-#[test]
-fn neither(rt: HostRuntime) -> Result<(), Fail> {
-    assert_rows(&rt, rt.alloc(), &at_a_place(), &NEITHER);
-    Ok(())
-}
-
-#[test]
-fn fields(rt: HostRuntime) -> Result<(), Fail> {
-    let alloc = rt.alloc();
-    let record = FruRecord::decode(alloc, RECORD)?;
-    assert_rows(&rt, alloc, &with_record(&record), &WITH_A_RECORD);
-    Ok(())
-}
-
-#[test]
-fn nowhere(rt: HostRuntime) -> Result<(), Fail> {
-    let spot = Spot {
+    };
+    assert_lines(&rt, alloc, &with_a_record, WITH_A_RECORD);
+    let nowhere = Spot {
         place: None,
         fru: None,
         index: 0,
     };
-    assert_rows(&rt, rt.alloc(), &spot, &NOWHERE);
+    assert_lines(&rt, alloc, &nowhere, NOWHERE);
     Ok(())
 }
 
@@ -336,7 +272,11 @@ fn nowhere(rt: HostRuntime) -> Result<(), Fail> {
 fn numbers(rt: HostRuntime) -> Result<(), Fail> {
     let alloc = rt.alloc();
     let record = FruRecord::decode(alloc, RECORD)?;
-    let spot = with_record(&record);
+    let spot = Spot {
+        place: Place::new(255, 127),
+        fru: Some(&record),
+        index: u32::MAX,
+    };
     for (text, max, wanted) in &NUMBERS {
         let template = Template::parse(alloc, text)?;
         assert_eq!(rt; template.render_number(&spot, *max), *wanted, "{text}");
@@ -359,7 +299,11 @@ fn kinds(rt: HostRuntime) -> Result<(), Fail> {
 #[test]
 fn lengths(rt: HostRuntime) -> Result<(), Fail> {
     let alloc = rt.alloc();
-    let spot = at_a_place();
+    let spot = Spot {
+        place: Place::new(1, 80),
+        fru: None,
+        index: 3,
+    };
     for (letter, count, behind, wanted) in &LENGTHS {
         let mut text = letter.repeat(alloc, *count)?;
         text.push_str(behind)?;
@@ -368,18 +312,6 @@ fn lengths(rt: HostRuntime) -> Result<(), Fail> {
             Rendered::Skip => None,
         };
         assert_eq!(rt; given, *wanted, "{text}");
-    }
-    Ok(())
-}
-
-#[test]
-fn lengths_of_no_template(rt: HostRuntime) -> Result<(), Fail> {
-    let alloc = rt.alloc();
-    for (count, behind) in &[(0, ""), (129, ""), (125, "$bus")] {
-        let mut text = "x".repeat(alloc, *count)?;
-        text.push_str(behind)?;
-        let given = Template::parse(alloc, text.as_str()).err();
-        assert_eq!(rt; given, Some(TmplFault::TemplateSyntax), "{text}");
     }
     Ok(())
 }
