@@ -1,0 +1,5 @@
+pub mod ChainsLemmas
+pub mod OperationsLemmas
+pub mod WordsLemmas
+pub mod PiecesLemmas
+pub mod RenderingLemmas

@@ -1,0 +1,29 @@
+use Rattle.std.proofs.Common.{refl}
+use Rattle.std.specs.Fmt.{digits as glyphs}
+use Rattle.fru_area.specs.Names.{name_text}
+use Rattle.fru_record.specs.Lookups.{text_named}
+use Rattle.tmpl.specs.Chains.{chain_behind}
+use Rattle.tmpl.specs.Operations.{digits, operation_at}
+use Rattle.tmpl.specs.Words.{field_of, word_of}
+use Rattle.tmpl.specs.Templates.{piece_at, pieces_of, is_template, is_fixed, is_single, uses_index}
+use Rattle.tmpl.specs.Rendering.{rendered, rendered_number}
+use Rattle.tmpl.proofs.worked.worked_names.Goals as goal
+
+pub returns : goal.returns
+unfolding chain_behind digits operation_at word_of field_of name_text text_named glyphs piece_at pieces_of rendered
+returns c = record {
+  left_to_right = refl;
+  below_zero = refl;
+  above_range = refl;
+  highest = refl;
+  behind_word = refl;
+  text = refl;
+  no_operation = refl;
+  no_record = refl;
+  field = refl;
+  number = refl;
+  ten_digits = refl;
+  no_number = refl;
+  longest = refl;
+  too_long = refl;
+}

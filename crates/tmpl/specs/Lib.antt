@@ -1,0 +1,7 @@
+pub mod Chains
+pub mod Operations
+pub mod Words
+pub mod Templates
+pub mod Rendering
+pub mod Stretches
+pub mod Worked
