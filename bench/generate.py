@@ -8,31 +8,27 @@
   toolong   lines of 20,000 bytes, which are refused and dropped
   records   records of 2,048 bytes with three full areas are plugged, and
             unplugged again
-  present   COUNT FRUs are plugged first, at most 32,768; then one after
-            another of them is unplugged and plugged again, in an order that
-            jumps about
+  present   COUNT FRUs are plugged first; then one after another of them is
+            unplugged and plugged again, in an order that jumps about
   boards    256 configurations with plain patterns; then FRUs come and go at
-            2,048 places, with COUNT of them present, at most 1,024. In turn
-            one configuration finds the FRU, eight do, and none
+            2,048 places, with COUNT of them present. In turn one configuration
+            finds the FRU, eight do, and none
   regex     256 configurations with one regular expression each; then FRUs
             come and go as for boards. One configuration finds each
-  mux       a multiplexer opens 16 buses. Behind it COUNT FRUs are present, at
-            most 1,024, each with a board. They are unplugged and plugged
-            again, and with each sixteenth the multiplexer, so that all boards
-            go and come back
-  found     a chain of COUNT configurations, at most 256: the first finds a
-            FRU that is plugged and unplugged, and each other one asks for the
-            one before it
-  idle      COUNT configurations, at most 256, none of which finds the FRU
-            that is plugged and unplugged
+  mux       a multiplexer opens 16 buses. Behind it COUNT FRUs are present,
+            each with a board. They are unplugged and plugged again, and with
+            each sixteenth the multiplexer, so that all boards go and come back
+  found     a chain of COUNT configurations: the first finds a FRU that is
+            plugged and unplugged, and each other one asks for the one before it
+  idle      COUNT configurations, none of which finds the FRU that is plugged
+            and unplugged
   still     16 configurations, of which 4 find a FRU that is plugged and
-            unplugged; COUNT other FRUs are present, at most 256, which none
-            of them finds
-  under     16 configurations, of which 4 find each FRU; else as present,
-            with at most 2,048 FRUs
+            unplugged; COUNT other FRUs are present, which none of them finds
+  under     16 configurations, of which 4 find each FRU; else as present
 
-COUNT is 256 if left out. LINES does not count the configurations and the first
-FRUs. The same words give the same script."""
+COUNT is at most 256, and 255 for mux and still; left out, it is as many. LINES
+does not count the configurations and the first FRUs. The same words give the
+same script."""
 
 import json
 import os
@@ -42,10 +38,10 @@ sys.dont_write_bytecode = True
 sys.path.insert(0, os.path.dirname(os.path.realpath(__file__)) + "/../examples")
 from record import board_area, chassis_area, product_area, record
 
-# Each workload, and the most that COUNT can be.
-WORKLOADS = {"present": 32_768, "boards": 1024, "regex": 1024, "mux": 1024, "found": 256}
-WORKLOADS |= {"idle": 256, "still": 256, "under": 2048}
-WORKLOADS |= dict.fromkeys(("plugs", "refused", "comments", "long", "toolong", "records"), 256)
+# Each workload, and the most that COUNT can be: 256 FRUs may be present, and in two of them there is one more.
+WORKLOADS = dict.fromkeys(("plugs", "refused", "comments", "long", "toolong", "records"), 256)
+WORKLOADS |= dict.fromkeys(("present", "boards", "regex", "found", "idle", "under"), 256)
+WORKLOADS |= dict.fromkeys(("mux", "still"), 255)
 TEXTS = ["Norrland Systems AB", "Riser, 2 x16", "NSR2404200117", "310-00511-01", "FRU 2.1"]
 RECORD = record(board=board_area(TEXTS)).hex().upper()
 # A step that shares no factor with a power of 2, so that the places jump about and each gets its turn.
@@ -184,9 +180,9 @@ def under(lines, frus):
     yield from present(lines, frus)
 
 
-def script(workload, lines, count=256):
+def script(workload, lines, count=None):
     """The lines of a workload's script."""
-    return globals()[workload](lines, count)
+    return globals()[workload](lines, count or WORKLOADS[workload])
 
 
 def main():
@@ -196,7 +192,8 @@ def main():
         return
     if len(said) not in (2, 3) or said[0] not in WORKLOADS or not all(it.isdecimal() for it in said[1:]):
         sys.exit(__doc__)
-    count, most = int(said[2]) if len(said) == 3 else 256, WORKLOADS[said[0]]
+    most = WORKLOADS[said[0]]
+    count = int(said[2]) if len(said) == 3 else most
     if not 1 <= count <= most:
         sys.exit(f"generate.py: for {said[0]} COUNT is from 1 to {most:,}")
     sys.stdout.writelines(script(said[0], int(said[1]), count))

@@ -51,10 +51,10 @@ def built():
     return BUILT
 
 
-def made(workload, lines, count=256):
+def made(workload, lines, count=None):
     """The path of a workload's script, which is made where it is not there yet."""
     os.makedirs(DATA, exist_ok=True)
-    path = f"{DATA}/{workload}-{lines}-{count}"
+    path = f"{DATA}/{workload}-{lines}-{count or 'most'}"
     if not os.path.exists(path):
         with open(f"{path}.new", "w") as it:
             it.writelines(script(workload, lines, count))

@@ -16,6 +16,7 @@ import patterns
 LONGEST = 9000
 LONGEST_BLOCK = 262_144
 MOST_CONFIGS = 256
+MOST_FRUS = 256
 DEEPEST = 127
 CONFIG = re.compile(rb"config ([0-9]{1,9})")
 PLUG = re.compile(rb"plug ([0-9]{1,9}) ([0-9]{1,9}) ((?:[0-9A-Fa-f]{2})+)")
@@ -368,7 +369,9 @@ def match(place, fields, machine):
 def plug(place, record, machine):
     """Puts the FRU with this record at a place."""
     demand("Occupied", place not in machine.present)
-    machine.present[place] = fields_of(record)
+    fields = fields_of(record)
+    demand("FruLimit", len(machine.present) < MOST_FRUS)
+    machine.present[place] = fields
     machine.plugged = True
     match(place, machine.present[place], machine)
 

@@ -1,5 +1,5 @@
 -- Why an item is refused.
-use Rattle.std.specs.Prelude.{◌≡◌, ⊤, nat_le, is_some, if◌then◌else◌, List, [], ◌∷◌, length, Option, Some, None, Result, Ok, Err}
+use Rattle.std.specs.Prelude.{ℕ, ◌≡◌, ⊤, Bool, nat_le, is_some, if◌then◌else◌, List, [], ◌∷◌, length, Option, Some, None, Result, Ok, Err}
 use Rattle.fru_area.specs.declared.field.Field.{Field}
 use Rattle.fru_area.specs.declared.fault.FruFault.{FruFault}
 use Rattle.fru_area.specs.declared.fault.FruFault.TheVariants as rules
@@ -12,7 +12,7 @@ use Rattle.bmc_report.specs.declared.refusal.Refusal.TheVariants.{NotJson, Fract
 use Rattle.bmc_report.specs.declared.refusal.Refusal.TheVariants.{PatternSyntax, PatternTooLarge, ConfigAfterPlug}
 use Rattle.bmc_report.specs.declared.refusal.Refusal.TheVariants.{DuplicateName, ConfigLimit, Occupied}
 use Rattle.bmc_report.specs.declared.refusal.Refusal.TheVariants.{FruShort, FruTooLong, HeaderVersion, HeaderChecksum, AreaOutside, AreaVersion}
-use Rattle.bmc_report.specs.declared.refusal.Refusal.TheVariants.{AreaLength, AreaChecksum, FieldOutside, NoEnd, NotPresent}
+use Rattle.bmc_report.specs.declared.refusal.Refusal.TheVariants.{AreaLength, AreaChecksum, FieldOutside, NoEnd, FruLimit, NotPresent}
 use Rattle.bmc_machine.specs.Standings.{Standing, is_present}
 use Rattle.bmc_machine.specs.Histories.{Step, Configure, Plug, RefusedPlug, Unplug, standing}
 
@@ -43,10 +43,14 @@ config_refusal (faults.PatternSyntax text) = Some PatternSyntax
 config_refusal (faults.PatternTooLarge text) = Some PatternTooLarge
 config_refusal faults.OutOfMemory = None
 
--- the refusal of bytes, by the first rule that they break
-abbrev pub broken_rule : Result (List Field) FruFault → Option Refusal
-broken_rule (Ok fields) = None
-broken_rule (Err rule) = record_refusal rule
+-- the most FRUs that are present at one time
+abbrev pub most_frus : ℕ
+most_frus = 256
+
+-- the refusal of bytes: by the first rule that they break, and else by the limit where it is met
+abbrev pub plug_refusal : Bool → Result (List Field) FruFault → Option Refusal
+plug_refusal is_full (Ok fields) = if is_full then Some FruLimit else None
+plug_refusal is_full (Err rule) = record_refusal rule
 
 -- why a step is refused where this stands, or none
 abbrev pub refusal_of : Standing → Step → Option Refusal
@@ -55,7 +59,9 @@ refusal_of now (Configure config) =
     else if is_some (number_of now.configs config.name) then Some DuplicateName
     else if nat_le most_configs (length now.configs) then Some ConfigLimit
     else None
-refusal_of now (Plug place bytes) = if is_present now.frus place then Some Occupied else broken_rule (record_of bytes)
+refusal_of now (Plug place bytes) =
+    if is_present now.frus place then Some Occupied
+    else plug_refusal (nat_le most_frus (length now.frus)) (record_of bytes)
 refusal_of now (RefusedPlug place bytes refusal) = None
 refusal_of now (Unplug place) = if is_present now.frus place then None else Some NotPresent
 

@@ -2,6 +2,7 @@
 use Rattle.std.proofs.Common.{◌≡◌, ℕ, List, [], ◌∷◌, ◌++◌, map, length, Bool, true, false, not, cond, Option, Some, None, Ok, Err, refl, ap, ap₂, sym, ◌∙◌}
 use Rattle.std.specs.Prelude.{Result, nat_le, is_some, ◌||◌, ◌==◌}
 use Rattle.std.specs.Ordering.{is_lt, is_eq}
+use Rattle.std.proofs.lemmas.List.{length-map}
 use Rattle.bmc_base.specs.Places.{Place, place_cmp}
 use Rattle.fru_area.specs.Readings.{GivesFault, checked}
 use Rattle.fru_area.specs.declared.field.Field.{Field}
@@ -14,10 +15,10 @@ use Rattle.cfg_json.specs.Configs.{Config}
 use Rattle.cfg_json.specs.Shelves.{number_of, most_configs}
 use Rattle.match_rows.specs.Matching.{entry_of}
 use Rattle.bmc_report.specs.declared.refusal.Refusal.{Refusal}
-use Rattle.bmc_report.specs.declared.refusal.Refusal.TheVariants.{ConfigAfterPlug, DuplicateName, ConfigLimit, Occupied, NotPresent}
+use Rattle.bmc_report.specs.declared.refusal.Refusal.TheVariants.{ConfigAfterPlug, DuplicateName, ConfigLimit, Occupied, FruLimit, NotPresent}
 use Rattle.bmc_machine.specs.Standings.{Fru, Standing, fields_in, fields_of, put, without, is_present}
 use Rattle.bmc_machine.specs.Histories.{Step, Configure, Plug, Unplug, standing}
-use Rattle.bmc_machine.specs.Refusals.{record_refusal, broken_rule, refusal_of}
+use Rattle.bmc_machine.specs.Refusals.{record_refusal, plug_refusal, most_frus, refusal_of}
 use Rattle.bmc_replay.specs.States.{View, fru_entry, Stands, Moves}
 use Rattle.bmc_replay.specs.Steps.{AddsFru, RemovesFru, Tries}
 use Rattle.bmc_replay.proofs.StatesLemmas.{accepted, refused}
@@ -60,12 +61,19 @@ is_known view past place held stood is =
 
 -- ---- plugs
 
+-- whether no more FRUs may come
+abbrev is_full : List Step → Bool
+is_full past = nat_le most_frus (length (standing past).frus)
+
+abbrev refused_bytes : List Step → List ℕ → Option Refusal
+refused_bytes past bytes = plug_refusal (is_full past) (record_of bytes)
+
 -- a place that is held is refused
 pub occupied : (old new : View) (place : Place) (bytes : List ℕ) → holds_place old.entries place ≡ true → new ≡ record old { changes = [] }
     → Tries old (Plug place bytes) (Some Occupied) new
 occupied old new place bytes held left =
     refused old new (Plug place bytes) Occupied
-    (λ past stood. ap (λ (there : Bool). cond there (Some Occupied) (broken_rule (record_of bytes))) (is_known old past place true stood held)) left
+    (λ past stood. ap (λ (there : Bool). cond there (Some Occupied) (refused_bytes past bytes)) (is_known old past place true stood held)) left
 
 -- a fault that is a rule's is what reading gives
 breaks_by : {X : Type 0} (rule : FruFault) (refusal : Refusal) (read : Result X FruFault) → record_refusal rule ≡ Some refusal → GivesFault rule read
@@ -88,18 +96,35 @@ pub broken : (old new : View) (place : Place) (bytes : List ℕ) (rule : FruFaul
     → Tries old (Plug place bytes) (Some refusal) new
 broken old new place bytes rule refusal free breaks is left =
     refused old new (Plug place bytes) refusal
-    (λ past stood. ap (λ (there : Bool). cond there (Some Occupied) (broken_rule (record_of bytes))) (is_known old past place false stood free)
-    ∙ ap broken_rule (breaks_by rule refusal (record_of bytes) is breaks) ∙ is) left
+    (λ past stood. ap (λ (there : Bool). cond there (Some Occupied) (refused_bytes past bytes)) (is_known old past place false stood free)
+    ∙ ap (plug_refusal (is_full past)) (breaks_by rule refusal (record_of bytes) is breaks) ∙ is) left
+
+-- as many FRUs are known as stand
+known_full : (view : View) (past : List Step) (full : Bool) → Stands view past → nat_le most_frus (length view.entries) ≡ full → is_full past ≡ full
+known_full view past full stood is =
+    ap (nat_le most_frus) (sym (ap (λ (entries : List Entry). length entries) stood.entries
+    ∙ length-map (standing past).frus (fru_entry (standing past).configs))) ∙ is
+
+-- no more FRUs may come
+pub frus_full : (old new : View) (place : Place) (bytes : List ℕ) (fields : List Field) → holds_place old.entries place ≡ false
+    → record_of bytes ≡ Ok fields → nat_le most_frus (length old.entries) ≡ true → new ≡ record old { changes = [] }
+    → Tries old (Plug place bytes) (Some FruLimit) new
+frus_full old new place bytes fields free whole full left =
+    refused old new (Plug place bytes) FruLimit
+    (λ past stood. ap (λ (there : Bool). cond there (Some Occupied) (refused_bytes past bytes)) (is_known old past place false stood free)
+    ∙ ap (plug_refusal (is_full past)) whole
+    ∙ ap (λ (full : Bool). plug_refusal full (Ok fields)) (known_full old past true stood full)) left
 
 -- a FRU is added whose record is whole
 pub plugged : (old new : View) (place : Place) (bytes : List ℕ) (fields : List Field) → holds_place old.entries place ≡ false
-    → record_of bytes ≡ Ok fields → AddsFru place fields old new → Tries old (Plug place bytes) None new
+    → record_of bytes ≡ Ok fields → nat_le most_frus (length old.entries) ≡ false → AddsFru place fields old new → Tries old (Plug place bytes) None new
 unfolding standing
-plugged old new place bytes fields free whole adds = record {
+plugged old new place bytes fields free whole room adds = record {
   tried = λ past stood.
       let fru : Fru = record { place = place; bytes = bytes } in
       let reason : refusal_of (standing past) (Plug place bytes) ≡ None =
-      ap (λ (there : Bool). cond there (Some Occupied) (broken_rule (record_of bytes))) (is_known old past place false stood free) ∙ ap broken_rule whole in
+      ap (λ (there : Bool). cond there (Some Occupied) (refused_bytes past bytes)) (is_known old past place false stood free)
+      ∙ ap (plug_refusal (is_full past)) whole ∙ ap (λ (full : Bool). plug_refusal full (Ok fields)) (known_full old past false stood room) in
       accepted old new past (Plug place bytes) stood reason reason (adds.configs ∙ stood.configs)
       (adds.entries
       ∙ ap (λ (configs : List Config). with_entry (entry_of configs place fields) old.entries) stood.configs

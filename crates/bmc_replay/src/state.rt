@@ -20,6 +20,9 @@ use probe_lang::Entry;
 use std::alloc::Global;
 use std::marker::Model;
 
+// The most FRUs that are present at one time.
+const MOST_FRUS: usize = 256;
+
 /// What is known of what has happened: the configurations, the FRUs that are present with what matches them,
 /// what is found and reachable, the boards that each configuration ever had, whether any FRU was ever
 /// plugged, and the changes of the last step.
@@ -140,6 +143,9 @@ impl<L: Ledger> State<L> {
         }
         match FruRecord::decode(alloc, bytes) {
             Ok(fru) => {
+                if self.rows.len() >= MOST_FRUS {
+                    return Ok(self.refuse(Refusal::FruLimit));
+                }
                 self.add_fru(alloc, place, fru, steps)?;
                 Ok(None)
             }

@@ -8,7 +8,7 @@ use Rattle.bmc_report.specs.declared.refusal.Refusal.TheVariants.{NotJson, Fract
 use Rattle.bmc_report.specs.declared.refusal.Refusal.TheVariants.{PatternSyntax, PatternTooLarge}
 use Rattle.bmc_report.specs.declared.refusal.Refusal.TheVariants.{ConfigAfterPlug, DuplicateName, ConfigLimit, Occupied}
 use Rattle.bmc_report.specs.declared.refusal.Refusal.TheVariants.{FruShort, FruTooLong, HeaderVersion, HeaderChecksum}
-use Rattle.bmc_report.specs.declared.refusal.Refusal.TheVariants.{AreaOutside, AreaVersion, AreaLength, AreaChecksum, FieldOutside, NoEnd, NotPresent}
+use Rattle.bmc_report.specs.declared.refusal.Refusal.TheVariants.{AreaOutside, AreaVersion, AreaLength, AreaChecksum, FieldOutside, NoEnd, FruLimit, NotPresent}
 
 -- the name of an area
 unfoldable pub area_text : Area → List ℕ
@@ -44,6 +44,7 @@ refusal_name (AreaLength area) = codes "AreaLength"
 refusal_name (AreaChecksum area) = codes "AreaChecksum"
 refusal_name (FieldOutside area) = codes "FieldOutside"
 refusal_name (NoEnd area) = codes "NoEnd"
+refusal_name FruLimit = codes "FruLimit"
 refusal_name NotPresent = codes "NotPresent"
 
 -- the area that breaks a rule, if the rule is one on areas

@@ -61,6 +61,8 @@ pub enum Refusal {
     FieldOutside(Area),
     /// No end mark C1h stands before the checksum of the area.
     NoEnd(Area),
+    /// 256 FRUs are present already.
+    FruLimit,
     /// No FRU is at the place.
     NotPresent,
 }
@@ -98,6 +100,7 @@ impl Refusal {
             Refusal::AreaChecksum(_) => "AreaChecksum",
             Refusal::FieldOutside(_) => "FieldOutside",
             Refusal::NoEnd(_) => "NoEnd",
+            Refusal::FruLimit => "FruLimit",
             Refusal::NotPresent => "NotPresent",
         }
     }

@@ -35,6 +35,7 @@ fn lines_of_refusals(rt: HostRuntime) -> Result<(), Fail> {
         (Refusal::AreaChecksum(Area::Chassis), "AreaChecksum Chassis"),
         (Refusal::FieldOutside(Area::Board), "FieldOutside Board"),
         (Refusal::NoEnd(Area::Product), "NoEnd Product"),
+        (Refusal::FruLimit, "FruLimit"),
         (Refusal::NotPresent, "NotPresent"),
     ];
     for (refusal, name) in rows {

@@ -1,6 +1,8 @@
 use crate::play::Part::{Config, Many, Text, Times};
-use crate::play::{ALWAYS, BOARD_FIELDS, BOARD_RECORD, Row, play, play_rows, script_of};
+use crate::play::{ALWAYS, BOARD_FIELDS, BOARD_RECORD, Row, filled, play, play_rows, script_of};
+use bmc_base::OutOfMemory;
 use bmc_replay::Status::{self, Done, Refused};
+use std::alloc::Global;
 use std::fmt::Write;
 use std::test::Fail;
 
@@ -150,8 +152,46 @@ fn whole_scripts(rt: HostRuntime) -> Result<(), Fail> {
     play_rows(&rt, rt.alloc(), &REFUSALS)
 }
 
+// Lines behind 256 FRUs: no other may come before one goes, and a broken record or a taken place is said first.
+const BEHIND_THE_LAST: &str =
+    "plug 2 2 $\nplug 2 2 00\nplug 20 0 $\nunplug 20 0\nplug 2 2 $\nplug 20 0 $\n";
+
+const REFUSED_BEHIND: &str =
+    "line 3515 refused FruLimit\nline 3516 refused FruShort\nline 3517 refused Occupied\n\
+    line 3520 refused FruLimit\n";
+
+// The record of a board with a manufacturer of 63 times `A`, and a product name of 63 times `B`.
+fn long_record(alloc: Global) -> Result<String, OutOfMemory> {
+    let mut record = String::from_str(alloc, "01000001000000FE011200000000FF")?;
+    for _ in 0..63 {
+        record.push_str("41")?;
+    }
+    record.push_str("FF")?;
+    for _ in 0..63 {
+        record.push_str("42")?;
+    }
+    record.push_str("C0C0C0C10000000000B1")?;
+    Ok(record)
+}
+
+// The fields of its row.
+fn long_fields(alloc: Global) -> Result<String, OutOfMemory> {
+    let mut fields = String::from_str(alloc, " BOARD_MANUFACTURER=\"")?;
+    for _ in 0..63 {
+        fields.push('A')?;
+    }
+    fields.push_str("\" BOARD_PRODUCT_NAME=\"")?;
+    for _ in 0..63 {
+        fields.push('B')?;
+    }
+    fields.push_str(
+        "\" BOARD_SERIAL_NUMBER=\"\" BOARD_PART_NUMBER=\"\" BOARD_FRU_VERSION_ID=\"\"",
+    )?;
+    Ok(fields)
+}
+
 // A script whose texts are longer than what is gathered: many refused lines, many boards that come, go and come again
-// with their FRU, and many FRUs, of which the last one in the list comes first.
+// with their FRU, and as many FRUs as may be, of which the last one in the list comes first.
 #[test]
 fn long_texts(rt: HostRuntime) -> Result<(), Fail> {
     let mut script = script_of(
@@ -167,18 +207,22 @@ fn long_texts(rt: HostRuntime) -> Result<(), Fail> {
             write!(text, "0 {change} board \"{number}\" 1 at 1 80\n")?;
         }
     }
+    text.push_str(REFUSED_BEHIND)?;
     text.push_str(RETURNED)?;
-    for bus in 20..26u32 {
-        for address in 0..100u32 {
-            write!(text, "fru {bus} {address}{BOARD_FIELDS}\n")?;
-            let line = format!(in rt.alloc();
-                "plug {} {} {BOARD_RECORD}\n",
-                45 - bus,
-                99 - address
-            )?;
+    write!(text, "fru 2 2{BOARD_FIELDS}\n")?;
+    let record = long_record(rt.alloc())?;
+    let fields = long_fields(rt.alloc())?;
+    for bus in 20..25u32 {
+        for address in 0..51u32 {
+            if (bus, address) != (20, 0) {
+                write!(text, "fru {bus} {address}{fields}\n")?;
+            }
+            let line = format!(in rt.alloc(); "plug {} {} {record}\n", 44 - bus, 50 - address)?;
             script.extend_from_slice(line.as_bytes())?;
         }
     }
+    let behind = filled(rt.alloc(), BEHIND_THE_LAST, BOARD_RECORD)?;
+    script.extend_from_slice(behind.as_bytes())?;
     play(
         &rt,
         rt.alloc(),

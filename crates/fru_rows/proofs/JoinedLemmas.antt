@@ -1,5 +1,5 @@
 -- Two lists of entries, joined by place.
-use Rattle.std.proofs.Common.{◌≡◌, ◌∙◌, Bool, true, false, not, cond, ◌||◌, List, [], ◌∷◌, filter, Option, Some, None, refl, sym, ap, ap₂, subst}
+use Rattle.std.proofs.Common.{◌≡◌, ◌∙◌, suc, ◌+◌, length, Bool, true, false, not, cond, ◌||◌, List, [], ◌∷◌, filter, Option, Some, None, refl, sym, ap, ap₂, subst, arith}
 use Rattle.std.specs.Global.{Box}
 use Rattle.std.specs.Option.{is_some}
 use Rattle.std.specs.List.{list_all, list_any, find}
@@ -195,6 +195,20 @@ filter_with_in test entry (other ∷ entries) order passes =
         ∙ rest ∙ sym (ap (with_entry entry) (filtered false is))
 
 -- ---- two lists
+
+length_with : (entry : Entry) (entries : List Entry) → length (with_entry entry entries) ≡ suc (length entries)
+length_with entry [] = refl
+length_with entry (other ∷ entries) = by (is_before entry.place other.place) (length_with entry entries)
+  where
+    by : (first : Bool) → length (with_entry entry entries) ≡ suc (length entries)
+        → length (cond first (entry ∷ other ∷ entries) (other ∷ with_entry entry entries)) ≡ suc (suc (length entries))
+    by true rest = refl
+    by false rest = ap suc rest
+
+pub length_joined : (entries others : List Entry) → length (joined entries others) ≡ length entries + length others
+length_joined [] others = omega arith
+length_joined (entry ∷ entries) others =
+    let rest = length_joined entries others in let first = length_with entry (joined entries others) in omega (arith, first, rest)
 
 all_joined : (test : Entry → Bool) (entries others : List Entry) → list_all test entries ≡ true → list_all test others ≡ true
     → list_all test (joined entries others) ≡ true

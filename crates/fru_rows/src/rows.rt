@@ -1,4 +1,4 @@
-ghost use Rattle.std.specs.Prelude.{◌≡◌, ◌<◌, [], false, true, find, option_map, Some, IfOk, OnOk, IsTrue};
+ghost use Rattle.std.specs.Prelude.{◌≡◌, ◌<◌, [], false, true, length, find, option_map, Some, IfOk, OnOk, IsTrue};
 ghost use Rattle.std.specs.Option.{is_some};
 ghost use Rattle.probe_lang.specs.Presents.{unboxed, is_entry_at, holds_place, with_entry, without_entry, are_by_place};
 ghost use Rattle.fru_rows.specs.Idle.{is_idle, busy};
@@ -55,6 +55,13 @@ impl FruRows {
     {
         self.busy.reserve(alloc)?;
         self.idle.reserve(alloc)
+    }
+
+    /// Counts the entries.
+    pub fn len(&self) -> usize
+        ensures { result ≡ length self.now.entries }
+    {
+        self.busy.entries().len() + self.idle.entries().len()
     }
 
     /// Borrows the entries with hits or channels, by place.

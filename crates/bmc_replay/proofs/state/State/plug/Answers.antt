@@ -1,10 +1,13 @@
-use Rattle.std.proofs.Common.{◌∙◌, Option, ap, sym, subst}
+use Rattle.std.proofs.Common.{◌∙◌, length, Option, ap, sym, subst, arith}
+use Rattle.std.specs.Prelude.{nat_le}
+use Rattle.std.proofs.lemmas.Bool.{le-leb, lt-leb}
 use Rattle.probe_lang.specs.Presents.{holds_place}
 use Rattle.bmc_report.specs.declared.refusal.Refusal.{Refusal}
 use Rattle.bmc_machine.specs.Histories.{Plug}
+use Rattle.bmc_machine.specs.Refusals.{most_frus}
 use Rattle.bmc_replay.specs.States.{View}
 use Rattle.bmc_replay.specs.Steps.{Tries}
-use Rattle.bmc_replay.proofs.StepsLemmas.{occupied, broken, plugged}
+use Rattle.bmc_replay.proofs.StepsLemmas.{occupied, broken, frus_full, plugged}
 use Rattle.bmc_replay.proofs.state.State.plug.Goals as goal
 
 pub returns-then-is_some-clause-tried : goal.returns-then-is_some-clause-tried
@@ -14,11 +17,25 @@ returns-then-is_some-clause-tried g c =
     (ap (λ (view : View). holds_place view.entries c.args.place) (sym c.self.view_is) ∙ sym c.entry.ensures.held ∙ sym c.is_some.ensures ∙ c.if-is_some.true)
     c.refuse.ensures.left)
 
+pub returns-then-len-ge-MOST_FRUS-clause-tried : goal.returns-then-len-ge-MOST_FRUS-clause-tried
+returns-then-len-ge-MOST_FRUS-clause-tried g c =
+    subst (λ (refusal : Option Refusal). Tries c.args.self.now (Plug c.args.place c.args.bytes.now) refusal c.refuse-then-len-ge-MOST_FRUS.new.self)
+    (sym c.refuse-then-len-ge-MOST_FRUS.ensures.reason)
+    (frus_full c.args.self.now c.refuse-then-len-ge-MOST_FRUS.new.self c.args.place c.args.bytes.now c.in-Ok.fru
+    (ap (λ (view : View). holds_place view.entries c.args.place) (sym c.self.view_is) ∙ sym c.entry.ensures.held ∙ sym c.is_some.ensures ∙ c.if-is_some.false)
+    c.in-Ok.ensures
+    (ap (λ (view : View). nat_le most_frus (length view.entries)) (sym c.self.view_is)
+    ∙ le-leb most_frus (length c.self.inside.rows.entries) (omega (arith, c.len.ensures, c.if-len-ge-MOST_FRUS.true)))
+    c.refuse-then-len-ge-MOST_FRUS.ensures.left)
+
 pub returns-in_ok-add_fru-in-Ok-clause-tried : goal.returns-in_ok-add_fru-in-Ok-clause-tried
 returns-in_ok-add_fru-in-Ok-clause-tried g c =
     plugged c.args.self.now c.add_fru.new.self c.args.place c.args.bytes.now c.in-Ok.fru
     (ap (λ (view : View). holds_place view.entries c.args.place) (sym c.self.view_is) ∙ sym c.entry.ensures.held ∙ sym c.is_some.ensures ∙ c.if-is_some.false)
-    c.in-Ok.ensures c.in_ok-add_fru-in-Ok.ensures.ok
+    c.in-Ok.ensures
+    (ap (λ (view : View). nat_le most_frus (length view.entries)) (sym c.self.view_is)
+    ∙ lt-leb most_frus (length c.self.inside.rows.entries) (omega (arith, c.len.ensures, c.if-len-ge-MOST_FRUS.false)))
+    c.in_ok-add_fru-in-Ok.ensures.ok
 
 pub returns-in_ok-refusal-in-Err-clause-tried : goal.returns-in_ok-refusal-in-Err-clause-tried
 returns-in_ok-refusal-in-Err-clause-tried g c =
