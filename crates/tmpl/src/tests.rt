@@ -244,27 +244,38 @@ fn assert_lines(rt: &impl Abort, alloc: Global, spot: &Spot<'_>, lines: &str) {
 #[test]
 fn names(rt: HostRuntime) -> Result<(), Fail> {
     let alloc = rt.alloc();
-    let record = FruRecord::decode(alloc, RECORD)?;
-    let at_a_place = Spot {
+    let spot = Spot {
         place: Place::new(1, 80),
         fru: None,
         index: 3,
     };
-    assert_lines(&rt, alloc, &at_a_place, WORDS);
-    assert_lines(&rt, alloc, &at_a_place, OPERATIONS);
-    assert_lines(&rt, alloc, &at_a_place, NEITHER);
-    let with_a_record = Spot {
+    assert_lines(&rt, alloc, &spot, WORDS);
+    assert_lines(&rt, alloc, &spot, OPERATIONS);
+    assert_lines(&rt, alloc, &spot, NEITHER);
+    Ok(())
+}
+
+#[test]
+fn names_with_a_record(rt: HostRuntime) -> Result<(), Fail> {
+    let alloc = rt.alloc();
+    let record = FruRecord::decode(alloc, RECORD)?;
+    let spot = Spot {
         place: Place::new(255, 127),
         fru: Some(&record),
         index: u32::MAX,
     };
-    assert_lines(&rt, alloc, &with_a_record, WITH_A_RECORD);
-    let nowhere = Spot {
+    assert_lines(&rt, alloc, &spot, WITH_A_RECORD);
+    Ok(())
+}
+
+#[test]
+fn names_nowhere(rt: HostRuntime) -> Result<(), Fail> {
+    let spot = Spot {
         place: None,
         fru: None,
         index: 0,
     };
-    assert_lines(&rt, alloc, &nowhere, NOWHERE);
+    assert_lines(&rt, rt.alloc(), &spot, NOWHERE);
     Ok(())
 }
 
