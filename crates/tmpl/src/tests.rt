@@ -15,7 +15,7 @@ const RECORD: &[u8; 224] = b"\x01\x00\x01\x03\x00\x00\x00\xFB\
     \xFFBBBBBBBBBBBBBBBBBBBBBBBBBBBBBBBBBBBBBBBBBBBBBBBBBBBBBBBBBBBBBBB\
     \xC1\x00\x00\x00\x00\x00\x00\xDE";
 
-// A template in each line, and behind the arrow the name that it is rendered as, or what comes of it.
+// A template in each line, and behind the arrow the name that it is rendered as, or what comes.
 
 // Words and plain text, at address 80 of bus 1 under index 3.
 const WORDS: &str = "CPU 1 => CPU 1
