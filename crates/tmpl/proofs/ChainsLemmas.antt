@@ -1,6 +1,6 @@
 -- A chain, one link on.
-use Rattle.std.proofs.Common.{◌≡◌, ℕ, zero, suc, ◌-◌, ◌<◌, ◌≤◌, List, [], ◌∷◌, length, drop, Option, Some, None, refl, ap, sym, ◌∙◌, arith}
-use Rattle.tmpl.specs.Chains.{chain, chain_behind, linked}
+use Rattle.std.proofs.Common.{◌≡◌, ℕ, zero, suc, ◌-◌, ◌<◌, ◌≤◌, List, [], ◌∷◌, length, drop, Option, Some, None, refl, ap, arith}
+use Rattle.tmpl.specs.Chains.{chain, chain_behind}
 
 -- what stands before a chain is passed over
 chain_on : {A : Type 0} (find_at : List ℕ → Option (A × ℕ)) (n : ℕ) (text : List ℕ) → chain_behind find_at n text ≡ chain find_at (drop n text)

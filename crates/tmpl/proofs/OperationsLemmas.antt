@@ -1,5 +1,5 @@
 -- Operations, one after the other.
-use Rattle.std.proofs.Common.{◌≡◌, ℕ, zero, suc, ◌+◌, ◌-◌, ◌<◌, ◌≤◌, Bool, true, false, List, [], ◌∷◌, length, drop, take, get_or, Option, Some, None}
+use Rattle.std.proofs.Common.{◌≡◌, ℕ, ◌+◌, ◌-◌, ◌<◌, ◌≤◌, Bool, true, false, List, [], ◌∷◌, length, drop, take, get_or, Option, Some, None}
 use Rattle.std.proofs.Common.{refl, ap, sym, ◌∙◌, ◌^◌, arith, cond, length-drop, lt-ltb}
 use Rattle.std.specs.Prelude.{IsUtf8, nat_le, nat_lt, ◌==◌, ◌&&◌, ◌||◌, not, fold, map, slice_index, option_map, option_and_then, unwrap_or}
 use Rattle.std.specs.Borrow.{Bor}

@@ -1,5 +1,5 @@
 -- Pieces, one stretch on.
-use Rattle.std.proofs.Common.{◌≡◌, ℕ, zero, suc, ◌+◌, ◌-◌, ◌<◌, ◌≤◌, Bool, true, false, List, [], ◌∷◌, ◌++◌, length, drop, take, get_or, map}
+use Rattle.std.proofs.Common.{◌≡◌, ℕ, suc, ◌+◌, ◌-◌, ◌<◌, ◌≤◌, Bool, true, false, List, [], ◌∷◌, ◌++◌, length, drop, take, get_or, map}
 use Rattle.std.proofs.Common.{Option, Some, None}
 use Rattle.std.proofs.Common.{refl, ap, sym, ◌∙◌, arith, cond, length-drop}
 use Rattle.std.specs.Prelude.{◌&&◌, ◌==◌, nat_lt, nat_le, if◌then◌else◌, Ok, Err, slice_index, not, position, unwrap_or, IsUtf8, IsCharBoundary}
@@ -10,7 +10,7 @@ use Rattle.std.proofs.lemmas.List.{drop-drop, get_or-drop, length-map, length-ta
 use Rattle.std.proofs.lemmas.List.Folds.{length-prefix_len}
 use Rattle.std.proofs.lemmas.List.Sums.{prefix_len-le-length, prefix_len_passes, prefix_len_stops}
 use Rattle.std.proofs.lemmas.Str.{IsCharBoundary-before_ascii, IsCharBoundary-after_ascii, IsCharBoundary-end}
-use Rattle.tmpl.specs.Chains.{chain, chain_behind}
+use Rattle.tmpl.specs.Chains.{chain_behind}
 use Rattle.tmpl.specs.Operations.{operations_of, operations_len, divides_by_zero}
 use Rattle.tmpl.specs.Words.{starts_word, is_word_byte, word_of}
 use Rattle.tmpl.specs.declared.operation.Operation.{Operation}

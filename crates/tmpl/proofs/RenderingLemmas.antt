@@ -1,8 +1,8 @@
 -- Rendered text, one stretch on.
-use Rattle.std.proofs.Common.{◌≡◌, ℕ, zero, suc, ◌+◌, ◌<◌, ◌≤◌, Bool, true, false, List, [], ◌∷◌, ◌++◌, length, map, Option, Some, None, Result, Ok, Err}
+use Rattle.std.proofs.Common.{◌≡◌, ℕ, ◌<◌, Bool, true, false, List, [], ◌∷◌, ◌++◌, length, map, Option, Some, None}
 use Rattle.std.proofs.Common.{refl, ap, sym, ◌∙◌, arith, cond, append_assoc, length-append}
 use Rattle.std.proofs.lemmas.List.{append-nil}
-use Rattle.std.specs.Prelude.{nat_le, nat_lt, option_and_then, option_map, ◌&&◌, if◌then◌else◌}
+use Rattle.std.specs.Prelude.{nat_le, option_and_then}
 use Rattle.std.specs.Result.{result_ok}
 use Rattle.std.specs.List.{list_all}
 use Rattle.std.proofs.lemmas.Bool.{false≢true}
@@ -11,7 +11,7 @@ use Rattle.bmc_base.specs.Names.{name_of}
 use Rattle.bmc_base.specs.Places.{Place}
 use Rattle.fru_area.specs.declared.field.Field.{Field}
 use Rattle.tmpl.specs.Operations.{digits, up_to}
-use Rattle.tmpl.specs.Templates.{Piece, Plain, Substitution, begins_substitution, is_plain, is_fixed, pieces_of}
+use Rattle.tmpl.specs.Templates.{Piece, Plain, begins_substitution, is_plain, is_fixed, pieces_of}
 use Rattle.tmpl.specs.Rendering.{followed, pieces_text, piece_text, rendered, rendered_number, number_digits}
 use Rattle.tmpl.specs.Stretches.{joined}
 use Rattle.tmpl.proofs.PiecesLemmas.{no_pieces, not_plain, plain_first}

@@ -1,9 +1,7 @@
 -- Templates, one stretch at a time.
-use Rattle.std.specs.Prelude.{ℕ, ◌≡◌, ◌<◌, ◌≤◌, nat_le, if◌then◌else◌, List, [], ◌∷◌, ◌++◌, length, drop, map, Option, Some, None, option_map, option_and_then}
-use Rattle.std.specs.Borrow.{Bor}
+use Rattle.std.specs.Prelude.{ℕ, ◌≡◌, ◌<◌, ◌≤◌, nat_le, if◌then◌else◌, List, [], ◌∷◌, ◌++◌, length, drop, map, Option, Some, None, option_and_then}
 use Rattle.std.specs.Option.{MatchOption}
 use Rattle.bmc_base.specs.Names.{longest_name}
-use Rattle.fru_area.specs.declared.field.Field.{Field}
 use Rattle.tmpl.specs.Operations.{operation_at, operations_of}
 use Rattle.tmpl.specs.Templates.{Piece, Plain, Substitution, pieces_of}
 use Rattle.tmpl.specs.declared.operation.Operation.{Operation}

@@ -15,7 +15,7 @@ const RECORD: &[u8; 224] = b"\x01\x00\x01\x03\x00\x00\x00\xFB\
     \xFFBBBBBBBBBBBBBBBBBBBBBBBBBBBBBBBBBBBBBBBBBBBBBBBBBBBBBBBBBBBBBBB\
     \xC1\x00\x00\x00\x00\x00\x00\xDE";
 
-// A template in each line, and behind the arrow the name that it is rendered as, or what comes of it.
+// A template in each line, and behind the arrow the name that it is rendered as, or what comes.
 
 // Words and plain text, at address 80 of bus 1 under index 3.
 const WORDS: &str = "CPU 1 => CPU 1
@@ -244,27 +244,38 @@ fn assert_lines(rt: &impl Abort, alloc: Global, spot: &Spot<'_>, lines: &str) {
 #[test]
 fn names(rt: HostRuntime) -> Result<(), Fail> {
     let alloc = rt.alloc();
-    let record = FruRecord::decode(alloc, RECORD)?;
-    let at_a_place = Spot {
+    let spot = Spot {
         place: Place::new(1, 80),
         fru: None,
         index: 3,
     };
-    assert_lines(&rt, alloc, &at_a_place, WORDS);
-    assert_lines(&rt, alloc, &at_a_place, OPERATIONS);
-    assert_lines(&rt, alloc, &at_a_place, NEITHER);
-    let with_a_record = Spot {
+    assert_lines(&rt, alloc, &spot, WORDS);
+    assert_lines(&rt, alloc, &spot, OPERATIONS);
+    assert_lines(&rt, alloc, &spot, NEITHER);
+    Ok(())
+}
+
+#[test]
+fn names_with_a_record(rt: HostRuntime) -> Result<(), Fail> {
+    let alloc = rt.alloc();
+    let record = FruRecord::decode(alloc, RECORD)?;
+    let spot = Spot {
         place: Place::new(255, 127),
         fru: Some(&record),
         index: u32::MAX,
     };
-    assert_lines(&rt, alloc, &with_a_record, WITH_A_RECORD);
-    let nowhere = Spot {
+    assert_lines(&rt, alloc, &spot, WITH_A_RECORD);
+    Ok(())
+}
+
+#[test]
+fn names_nowhere(rt: HostRuntime) -> Result<(), Fail> {
+    let spot = Spot {
         place: None,
         fru: None,
         index: 0,
     };
-    assert_lines(&rt, alloc, &nowhere, NOWHERE);
+    assert_lines(&rt, rt.alloc(), &spot, NOWHERE);
     Ok(())
 }
 

@@ -1,7 +1,7 @@
 -- The operation at the front, or what it lacks.
-use Rattle.std.proofs.Common.{◌≡◌, ◌<◌, ◌+◌, ◌≤◌, length, drop, take, ◌-◌, get_or, sym, ap, ◌∙◌, arith}
+use Rattle.std.proofs.Common.{◌≡◌, length, drop, take, ◌-◌, get_or, sym, ap, ◌∙◌, arith}
 use Rattle.std.proofs.lemmas.Bool.Decides.{nat_tests}
-use Rattle.tmpl.specs.Operations.{operand, digits}
+use Rattle.tmpl.specs.Operations.{digits}
 use Rattle.tmpl.proofs.OperationsLemmas.{finds_operation, no_space, no_sign, no_number, operand_cut, tail_is, within_text}
 use Rattle.tmpl.proofs.operation.next_operation.Goals as goal
 use Rattle.tmpl.proofs.operation.next_operation.Goals.{in_default-via-then-text-lt3, in_default-via-else-text-lt3+in-32+in_default-1}

@@ -1,6 +1,5 @@
 -- An operation more is passed over.
-use Rattle.std.proofs.Common.{◌≡◌, ◌<◌, ◌+◌, ◌-◌, ◌≤◌, length, drop, sym, ap, ◌∙◌, arith}
-use Rattle.tmpl.specs.Operations.{operations_len}
+use Rattle.std.proofs.Common.{arith}
 use Rattle.tmpl.proofs.OperationsLemmas.{len_found, shorter_found, behind_found, cut_found, len_end, len_step, drop_step}
 use Rattle.tmpl.proofs.operation.operations_len.Goals as goal
 

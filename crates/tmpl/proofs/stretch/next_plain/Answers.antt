@@ -1,5 +1,5 @@
 -- Plain text up to the next dollar.
-use Rattle.std.proofs.Common.{◌≡◌, ◌<◌, ◌+◌, length, drop, take, map, sym, ap, ◌∙◌, arith}
+use Rattle.std.proofs.Common.{◌≡◌, ◌<◌, ◌+◌, length, drop, arith}
 use Rattle.std.specs.List.{position_or_len}
 use Rattle.tmpl.specs.Templates.{is_dollar}
 use Rattle.tmpl.proofs.PiecesLemmas.{plain_cut, plain_stretch}

@@ -1,9 +1,9 @@
 -- A dollar, a word and operations.
-use Rattle.std.proofs.Common.{◌≡◌, ◌<◌, ◌≤◌, ◌+◌, ◌∷◌, ℕ, List, true, false, length, drop, take, sym, ap, ◌∙◌, arith, None, Some}
+use Rattle.std.proofs.Common.{◌≡◌, ℕ, List, true, length, sym, ap, ◌∙◌, arith, None, Some}
 use Rattle.std.specs.Prelude.{slice_index}
 use Rattle.std.proofs.lemmas.Str.{IsCharBoundary-from_drop}
 use Rattle.std.proofs.lemmas.Str.Pattern.{strip_prefix_char}
-use Rattle.tmpl.specs.Operations.{operations_of, operations_len}
+use Rattle.tmpl.specs.Operations.{operations_len}
 use Rattle.tmpl.specs.Words.{starts_word}
 use Rattle.tmpl.specs.Templates.{first_word}
 use Rattle.tmpl.proofs.PiecesLemmas.{no_dollar, no_word, word_cut, substitution_at}

@@ -1,5 +1,5 @@
 -- The next dollar, or the end.
-use Rattle.std.proofs.Common.{ap, arith, drop, length-drop}
+use Rattle.std.proofs.Common.{arith, drop, length-drop}
 use Rattle.tmpl.proofs.OperationsLemmas.{tail_is}
 use Rattle.tmpl.proofs.PiecesLemmas.{dollar_found, dollar_missing}
 use Rattle.tmpl.proofs.stretch.plain_len.Goals as goal

@@ -1,7 +1,7 @@
 -- At the end no piece is left.
-use Rattle.std.proofs.Common.{List, sym, ap, ◌∙◌}
-use Rattle.std.specs.List.{list_all, list_any}
-use Rattle.tmpl.specs.Templates.{Piece, is_right, is_plain, asks_index, is_fixed, uses_index}
+use Rattle.std.proofs.Common.{sym, ap, ◌∙◌}
+use Rattle.std.specs.List.{list_any}
+use Rattle.tmpl.specs.Templates.{asks_index, uses_index}
 use Rattle.tmpl.proofs.PiecesLemmas.{end_pieces}
 use Rattle.tmpl.proofs.stretch.uses_index.Goals as goal
 

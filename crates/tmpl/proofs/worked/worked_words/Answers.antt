@@ -1,12 +1,7 @@
 use Rattle.std.proofs.Common.{refl}
 use Rattle.std.specs.Fmt.{digits as glyphs}
 use Rattle.fru_area.specs.Names.{name_text}
-use Rattle.fru_record.specs.Lookups.{text_named}
-use Rattle.tmpl.specs.Chains.{chain_behind}
-use Rattle.tmpl.specs.Operations.{digits, operation_at}
 use Rattle.tmpl.specs.Words.{field_of, word_of}
-use Rattle.tmpl.specs.Templates.{piece_at, pieces_of, is_template, is_fixed, is_single, uses_index}
-use Rattle.tmpl.specs.Rendering.{rendered, rendered_number}
 use Rattle.tmpl.proofs.worked.worked_words.Goals as goal
 
 pub returns : goal.returns

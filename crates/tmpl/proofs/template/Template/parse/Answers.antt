@@ -1,9 +1,9 @@
 -- What a text lacks, or that it is a template.
-use Rattle.std.proofs.Common.{◌≡◌, ◌<◌, ◌≤◌, ◌+◌, ◌++◌, [], List, ℕ, Bool, true, false, length, refl, sym, ap, ◌∙◌, arith}
+use Rattle.std.proofs.Common.{◌≡◌, ◌<◌, ◌≤◌, ◌+◌, ◌++◌, List, ℕ, Bool, true, false, length, refl, sym, ap, ◌∙◌, arith}
 use Rattle.std.specs.Prelude.{nat_lt}
 use Rattle.std.proofs.lemmas.Bool.{false≢true}
 use Rattle.std.proofs.lemmas.Bool.Decides.{nat_tests}
-use Rattle.tmpl.specs.Templates.{is_fixed, is_template, template_of}
+use Rattle.tmpl.specs.Templates.{is_fixed, is_template}
 use Rattle.tmpl.proofs.PiecesLemmas.{empty_not, wrong_not, long_not, right_is, right_read}
 use Rattle.tmpl.proofs.template.Template.parse.Goals as goal
 

@@ -1,7 +1,5 @@
 -- A number that is rendered is a name, and a fixed template is its own text.
-use Rattle.std.proofs.Common.{◌≡◌, true, ℕ, List, Some, sym, ap, ◌∙◌}
-use Rattle.std.specs.Result.{result_ok}
-use Rattle.bmc_base.specs.Names.{name_of}
+use Rattle.std.proofs.Common.{◌≡◌, true, sym, ap, ◌∙◌}
 use Rattle.tmpl.specs.Templates.{is_fixed}
 use Rattle.tmpl.specs.Rendering.{fields_of, rendered}
 use Rattle.tmpl.proofs.RenderingLemmas.{fixed_is, number_is, number_none}
