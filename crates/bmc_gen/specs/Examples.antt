@@ -1,0 +1,1 @@
+-- Samples whose values are computed.
