@@ -4,4 +4,3 @@ pub mod Lines
 pub mod Scripts
 pub mod Marks
 pub mod Laws
-pub mod Examples

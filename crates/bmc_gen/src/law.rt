@@ -1,3 +1,8 @@
+ghost use Rattle.std.specs.Prelude.{◌≡◌, ◌∷◌, ◌++◌, [], codes};
+ghost use Rattle.bmc_gen.specs.Documents.{riser, machine};
+ghost use Rattle.bmc_gen.specs.declared.line.Line.TheVariants.{Plug, Unplug, LoseT, ReadT, Tick};
+ghost use Rattle.bmc_gen.specs.Numbers.{number, choice};
+ghost use Rattle.bmc_gen.specs.Scripts.{lines, script_of};
 ghost use Rattle.bmc_gen.specs.Laws.{TakenWherePlugged};
 
 /// A FRU is at a place exactly where one of the lines plugs it in there, and no later one unplugs it.
@@ -5,6 +10,17 @@ pub fn taken_where_plugged()
     ensures { TakenWherePlugged }
 {}
 
-/// The first numbers, lines and bytes of some samples.
+/// The first numbers, choices and lines of some seeds, one of which plugs and unplugs a place, and a whole
+/// script without chosen lines.
 pub fn sample_examples()
+    ensures seed { number 7 0 ≡ 7 }
+    ensures first { number 7 1 ≡ 1282168116 }
+    ensures fourth { number 7 4 ≡ 1486001571 }
+    ensures last_seed { number 2147483647 1 ≡ 1043980748 }
+    ensures upper_bits { choice 7 1 ≡ 19564 }
+    ensures no_line { lines 7 0 ≡ [] }
+    ensures of_seven { lines 7 4 ≡ Tick ∷ Tick ∷ ReadT 48000 ∷ ReadT 54000 ∷ [] }
+    ensures plugged { lines 0 1 ≡ Plug 81 ∷ [] }
+    ensures unplugged { lines 1053 5 ≡ Plug 81 ∷ LoseT ∷ ReadT 57000 ∷ Tick ∷ Unplug 81 ∷ [] }
+    ensures bare { script_of 7 0 ≡ codes "config 131\n" ++ riser ++ codes "\nconfig 491\n" ++ machine ++ codes "\nshow zones\n" }
 {}

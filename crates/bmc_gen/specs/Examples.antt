@@ -1,1 +1,0 @@
--- Samples whose values are computed.
