@@ -3,7 +3,7 @@ use Rattle.std.proofs.Common.{◌≡◌, ℕ, zero, suc, ◌+◌, ◌%◌, ◌<�
 use Rattle.std.proofs.lemmas.List.Sums.{fold_push}
 use Rattle.bmc_gen.specs.declared.line.Line.{Line}
 use Rattle.bmc_gen.specs.declared.line.Line.TheVariants.{Plug, Unplug}
-use Rattle.bmc_gen.specs.Lines.{taken_behind, is_taken, turn, line_of}
+use Rattle.bmc_gen.specs.Lines.{occupied_behind, is_occupied, turn, line_of}
 use Rattle.bmc_gen.specs.Marks.{marks_of, Follows}
 
 abbrev pub four : Bool → Bool → Bool → Bool → List Bool
@@ -11,16 +11,16 @@ four a b c d = a ∷ b ∷ c ∷ d ∷ []
 
 -- a line changes each mark by itself
 abbrev pub behind : Bool → Bool → Bool → Bool → Line → List Bool
-behind a b c d line = four (taken_behind 80 a line) (taken_behind 81 b line) (taken_behind 82 c line) (taken_behind 83 d line)
+behind a b c d line = four (occupied_behind 80 a line) (occupied_behind 81 b line) (occupied_behind 82 c line) (occupied_behind 83 d line)
 
 pub marks_more : (earlier : List Line) (line : Line)
-    → marks_of (earlier ++ line ∷ []) ≡ behind (is_taken earlier 80) (is_taken earlier 81) (is_taken earlier 82) (is_taken earlier 83) line
+    → marks_of (earlier ++ line ∷ []) ≡ behind (is_occupied earlier 80) (is_occupied earlier 81) (is_occupied earlier 82) (is_occupied earlier 83) line
 marks_more earlier line = simp fold_push
 
 -- a mark that is turned
 turned : (a b c d : Bool) (nth : ℕ) → nth < 4
     → slice_set (four a b c d) nth (not (slice_index_or (four a b c d) nth false))
-        ≡ behind a b c d (if slice_index_or (four a b c d) nth false then Unplug (80 + nth) else Plug (80 + nth))
+    ≡ behind a b c d (if slice_index_or (four a b c d) nth false then Unplug (80 + nth) else Plug (80 + nth))
 turned true b c d zero low = refl
 turned false b c d zero low = refl
 turned a true c d (suc zero) low = refl
@@ -32,7 +32,7 @@ turned a b c false (suc (suc (suc zero))) low = refl
 turned a b c d (suc (suc (suc (suc nth)))) low = absurd (omega arith)
 
 -- the mark of an address
-pub mark_at : (earlier : List Line) (nth : ℕ) → nth < 4 → slice_index_or (marks_of earlier) nth false ≡ is_taken earlier (80 + nth)
+pub mark_at : (earlier : List Line) (nth : ℕ) → nth < 4 → slice_index_or (marks_of earlier) nth false ≡ is_occupied earlier (80 + nth)
 mark_at earlier zero low = refl
 mark_at earlier (suc zero) low = refl
 mark_at earlier (suc (suc zero)) low = refl
@@ -43,10 +43,10 @@ mark_at earlier (suc (suc (suc (suc nth)))) low = absurd (omega arith)
 pub turned_marks : (earlier : List Line) (nth : ℕ) → nth < 4
     → slice_set (marks_of earlier) nth (not (slice_index_or (marks_of earlier) nth false)) ≡ marks_of (earlier ++ turn earlier (80 + nth) ∷ [])
 turned_marks earlier nth low =
-    let a = is_taken earlier 80 in
-    let b = is_taken earlier 81 in
-    let c = is_taken earlier 82 in
-    let d = is_taken earlier 83 in
+    let a = is_occupied earlier 80 in
+    let b = is_occupied earlier 81 in
+    let c = is_occupied earlier 82 in
+    let d = is_occupied earlier 83 in
     turned a b c d nth low
     ∙ ap (λ (mark : Bool). behind a b c d (if mark then Unplug (80 + nth) else Plug (80 + nth))) (mark_at earlier nth low)
     ∙ sym (marks_more earlier (turn earlier (80 + nth)))
@@ -62,9 +62,9 @@ turn_follows old new position choice line whole is turned =
     let nth = position % 4 in
     let low : position % 4 < 4 = omega arith in
     let is_turn : (earlier : List Line) → old ≡ marks_of earlier → line ≡ turn earlier (80 + position % 4) = λ earlier marks.
-        is
-        ∙ ap (λ (old : List Bool). if slice_index_or old nth false then Unplug (80 + nth) else Plug (80 + nth)) marks
-        ∙ ap (λ (mark : Bool). if mark then Unplug (80 + nth) else Plug (80 + nth)) (mark_at earlier nth low) in
+    is
+    ∙ ap (λ (old : List Bool). if slice_index_or old nth false then Unplug (80 + nth) else Plug (80 + nth)) marks
+    ∙ ap (λ (mark : Bool). if mark then Unplug (80 + nth) else Plug (80 + nth)) (mark_at earlier nth low) in
     record {
       next = λ earlier marks. is_turn earlier marks ∙ turned_line earlier position choice whole;
       marks = λ earlier marks.

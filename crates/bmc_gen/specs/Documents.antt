@@ -8,8 +8,8 @@ riser =
     ++ codes "\"Exposes\":[{\"Name\":\"X\",\"Type\":\"Sensor\"}]}"
 
 -- a board that is always found, with the sensors `T` and `Tach`, a fan, a zone, and a controller of each kind
-abbrev pub machine : List ℕ
-machine =
+abbrev pub fan_box : List ℕ
+fan_box =
     codes "{\"Name\":\"Box\",\"Probe\":\"TRUE\",\"Exposes\":["
     ++ codes "{\"Name\":\"T\",\"Type\":\"Sensor\",\"Timeout\":20},"
     ++ codes "{\"Name\":\"Tach\",\"Type\":\"Sensor\",\"ScaleNum\":1000},"

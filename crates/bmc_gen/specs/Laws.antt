@@ -1,9 +1,10 @@
--- What holds of the places of a sample script.
-use Rattle.std.specs.Prelude.{◌≡◌, ◌↔◌, ℕ, ◌==◌, Bool, true, false, List, ◌∷◌, ◌++◌}
+-- What holds of the lines of a sample script.
+use Rattle.std.specs.Prelude.{◌≡◌, ◌↔◌, ℕ, ◌==◌, Bool, true, false, List, ◌∷◌, ◌++◌, length}
 use Rattle.std.specs.List.{list_any}
 use Rattle.bmc_gen.specs.declared.line.Line.{Line}
 use Rattle.bmc_gen.specs.declared.line.Line.TheVariants.{Plug, Unplug, LoseT, ReadT, ReadTach, Tick}
-use Rattle.bmc_gen.specs.Lines.{is_taken}
+use Rattle.bmc_gen.specs.Lines.{is_occupied}
+use Rattle.bmc_gen.specs.Scripts.{lines}
 
 abbrev pub unplugs : ℕ → Line → Bool
 unplugs address (Plug other) = false
@@ -20,5 +21,8 @@ pub record IsPlugged (lines : List Line) (address : ℕ) : Type 0 where
   pub split : lines ≡ earlier ++ Plug address ∷ later
   pub stays : list_any (unplugs address) later ≡ false
 
-abbrev pub TakenWherePlugged : Type 0
-TakenWherePlugged = (lines : List Line) (address : ℕ) → (is_taken lines address ≡ true) ↔ IsPlugged lines address
+abbrev pub OccupiedWherePlugged : Type 0
+OccupiedWherePlugged = (lines : List Line) (address : ℕ) → (is_occupied lines address ≡ true) ↔ IsPlugged lines address
+
+abbrev pub LinesAreCounted : Type 0
+LinesAreCounted = (seed n : ℕ) → length (lines seed n) ≡ n

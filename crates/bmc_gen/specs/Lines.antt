@@ -17,21 +17,21 @@ line_text (ReadTach raw) = codes "read Tach " ++ decimal raw ++ codes "\n"
 line_text Tick = codes "tick 1\n"
 
 -- whether a FRU is at the address behind a line, if it is known whether one was there before
-abbrev pub taken_behind : ℕ → Bool → Line → Bool
-taken_behind address before (Plug other) = address == other || before
-taken_behind address before (Unplug other) = not (address == other) && before
-taken_behind address before LoseT = before
-taken_behind address before (ReadT raw) = before
-taken_behind address before (ReadTach raw) = before
-taken_behind address before Tick = before
+abbrev pub occupied_behind : ℕ → Bool → Line → Bool
+occupied_behind address before (Plug other) = address == other || before
+occupied_behind address before (Unplug other) = not (address == other) && before
+occupied_behind address before LoseT = before
+occupied_behind address before (ReadT raw) = before
+occupied_behind address before (ReadTach raw) = before
+occupied_behind address before Tick = before
 
 -- whether these lines leave a FRU at the address; none is there at first
-abbrev pub is_taken : List Line → ℕ → Bool
-is_taken earlier address = fold (taken_behind address) false earlier
+abbrev pub is_occupied : List Line → ℕ → Bool
+is_occupied earlier address = fold (occupied_behind address) false earlier
 
 -- a FRU appears at an address that the earlier lines leave empty, and goes from one that they do not
 abbrev pub turn : List Line → ℕ → Line
-turn earlier address = if is_taken earlier address then Unplug address else Plug address
+turn earlier address = if is_occupied earlier address then Unplug address else Plug address
 
 -- the line at a position, from 1, by the earlier lines and what chooses it
 abbrev pub line_of : List Line → ℕ → ℕ → Line

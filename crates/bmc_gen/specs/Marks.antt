@@ -1,11 +1,11 @@
 -- Marks of the four places of a sample script.
 use Rattle.std.specs.Prelude.{◌≡◌, ℕ, Bool, List, [], ◌∷◌, ◌++◌, map}
 use Rattle.bmc_gen.specs.declared.line.Line.{Line}
-use Rattle.bmc_gen.specs.Lines.{is_taken, line_of}
+use Rattle.bmc_gen.specs.Lines.{is_occupied, line_of}
 
 -- for each of the four addresses, whether these lines leave a FRU there
 abbrev pub marks_of : List Line → List Bool
-marks_of earlier = map (is_taken earlier) (80 ∷ 81 ∷ 82 ∷ 83 ∷ [])
+marks_of earlier = map (is_occupied earlier) (80 ∷ 81 ∷ 82 ∷ 83 ∷ [])
 
 -- if the old marks are those of the earlier lines, the line is the next one, and the new marks are those of all these lines
 pub record Follows (old new : List Bool) (position choice : ℕ) (line : Line) : Type 0 where

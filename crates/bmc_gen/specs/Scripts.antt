@@ -2,7 +2,7 @@
 use Rattle.std.specs.Prelude.{ℕ, zero, suc, List, [], ◌∷◌, ◌++◌, codes}
 use Rattle.std.specs.List.{flat_map}
 use Rattle.bmc_gen.specs.declared.line.Line.{Line}
-use Rattle.bmc_gen.specs.Documents.{riser, machine, config_text}
+use Rattle.bmc_gen.specs.Documents.{riser, fan_box, config_text}
 use Rattle.bmc_gen.specs.Lines.{line_text, line_of}
 use Rattle.bmc_gen.specs.Numbers.{choice}
 
@@ -17,4 +17,4 @@ lines seed (suc i) = lines seed i ++ line_of (lines seed i) (suc i) (choice seed
 
 -- two configurations, the lines, and a list of the zones
 abbrev pub script_of : ℕ → ℕ → List ℕ
-script_of seed n = config_text riser ++ config_text machine ++ flat_map line_text (lines seed n) ++ codes "show zones\n"
+script_of seed n = config_text riser ++ config_text fan_box ++ flat_map line_text (lines seed n) ++ codes "show zones\n"

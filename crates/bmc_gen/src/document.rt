@@ -1,5 +1,5 @@
 ghost use Rattle.std.specs.Prelude.{◌≡◌, ◌++◌, OnOk, string_bytes};
-ghost use Rattle.bmc_gen.specs.Documents.{riser, machine, config_text};
+ghost use Rattle.bmc_gen.specs.Documents.{riser, fan_box, config_text};
 
 use crate::numbered::push_numbered;
 use bmc_base::OutOfMemory;
@@ -11,7 +11,7 @@ pub(crate) const RISER: &str = concat!(
 );
 
 // The configuration `Box`: a zone with a fan, a stepwise controller over `T` and a PID over `Tach`.
-pub(crate) const MACHINE: &str = concat!(
+pub(crate) const FAN_BOX: &str = concat!(
     r#"{"Name":"Box","Probe":"TRUE","Exposes":["#,
     r#"{"Name":"T","Type":"Sensor","Timeout":20},"#,
     r#"{"Name":"Tach","Type":"Sensor","ScaleNum":1000},"#,
@@ -37,8 +37,8 @@ fn push_config(out: &mut String, document: &str) -> Result<(), OutOfMemory>
 // Appends both configurations.
 #[tactic(auto, using(std::proofs::Common::append_assoc))]
 pub(crate) fn push_configs(out: &mut String) -> Result<(), OutOfMemory>
-    ensures { OnOk result (string_bytes out.new ≡ string_bytes out.old ++ config_text riser ++ config_text machine) }
+    ensures { OnOk result (string_bytes out.new ≡ string_bytes out.old ++ config_text riser ++ config_text fan_box) }
 {
     push_config(out, RISER)?;
-    push_config(out, MACHINE)
+    push_config(out, FAN_BOX)
 }

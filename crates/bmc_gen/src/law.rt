@@ -1,13 +1,18 @@
 ghost use Rattle.std.specs.Prelude.{◌≡◌, ◌∷◌, ◌++◌, [], codes};
-ghost use Rattle.bmc_gen.specs.Documents.{riser, machine};
+ghost use Rattle.bmc_gen.specs.Documents.{riser, fan_box};
 ghost use Rattle.bmc_gen.specs.declared.line.Line.TheVariants.{Plug, Unplug, LoseT, ReadT, Tick};
 ghost use Rattle.bmc_gen.specs.Numbers.{number, choice};
 ghost use Rattle.bmc_gen.specs.Scripts.{lines, script_of};
-ghost use Rattle.bmc_gen.specs.Laws.{TakenWherePlugged};
+ghost use Rattle.bmc_gen.specs.Laws.{OccupiedWherePlugged, LinesAreCounted};
 
 /// A FRU is at a place exactly where one of the lines plugs it in there, and no later one unplugs it.
-pub fn taken_where_plugged()
-    ensures { TakenWherePlugged }
+pub fn occupied_where_plugged()
+    ensures { OccupiedWherePlugged }
+{}
+
+/// A seed chooses as many lines as it is asked for.
+pub fn lines_are_counted()
+    ensures { LinesAreCounted }
 {}
 
 /// The first numbers, choices and lines of some seeds, one of which plugs and unplugs a place, and a whole
@@ -22,5 +27,5 @@ pub fn sample_examples()
     ensures of_seven { lines 7 4 ≡ Tick ∷ Tick ∷ ReadT 48000 ∷ ReadT 54000 ∷ [] }
     ensures plugged { lines 0 1 ≡ Plug 81 ∷ [] }
     ensures unplugged { lines 1053 5 ≡ Plug 81 ∷ LoseT ∷ ReadT 57000 ∷ Tick ∷ Unplug 81 ∷ [] }
-    ensures bare { script_of 7 0 ≡ codes "config 131\n" ++ riser ++ codes "\nconfig 491\n" ++ machine ++ codes "\nshow zones\n" }
+    ensures bare { script_of 7 0 ≡ codes "config 131\n" ++ riser ++ codes "\nconfig 491\n" ++ fan_box ++ codes "\nshow zones\n" }
 {}

@@ -10,5 +10,5 @@ mod step;
 #[cfg(test)]
 mod tests;
 
-pub use law::{sample_examples, taken_where_plugged};
+pub use law::{lines_are_counted, occupied_where_plugged, sample_examples};
 pub use sample::script;

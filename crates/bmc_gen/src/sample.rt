@@ -23,10 +23,10 @@ fn push_lines(out: &mut String, seed: u32, count: u32) -> Result<(), OutOfMemory
     ensures { OnOk result (string_bytes out.new ≡ string_bytes out.old ++ flat_map line_text (lines seed count)) }
 {
     let mut x = seed;
-    let mut taken = [false; 4];
+    let mut occupied = [false; 4];
     for i in 0..count {
         x = next_number(x);
-        push_line(out, next_line(&mut taken, i + 1, x >> 16))?;
+        push_line(out, next_line(&mut occupied, i + 1, x >> 16))?;
     }
     Ok(())
 }

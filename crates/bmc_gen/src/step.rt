@@ -17,12 +17,12 @@ pub(crate) fn next_number(x: u32) -> u32
 }
 
 // The plug or the unplug of a place by its mark, which says whether a FRU is there, and is turned.
-fn turn(taken: &mut [bool; 4], nth: u32) -> Line
+fn turn(occupied: &mut [bool; 4], nth: u32) -> Line
     requires { nth < 4 }
-    ensures line { result ≡ (if slice_index_or taken.old nth false then Unplug (80 + nth) else Plug (80 + nth)) }
-    ensures marks { taken.new ≡ slice_set taken.old nth (not (slice_index_or taken.old nth false)) }
+    ensures line { result ≡ (if slice_index_or occupied.old nth false then Unplug (80 + nth) else Plug (80 + nth)) }
+    ensures marks { occupied.new ≡ slice_set occupied.old nth (not (slice_index_or occupied.old nth false)) }
 {
-    let mark = &mut taken[nth as usize];
+    let mark = &mut occupied[nth as usize];
     *mark = !*mark;
     if *mark {
         Line::Plug(FIRST_ADDRESS + nth)
@@ -33,12 +33,12 @@ fn turn(taken: &mut [bool; 4], nth: u32) -> Line
 
 // The line that a choice gives at this position, from 1. The marks say at which of the four places a
 // FRU is, before the line and then behind it.
-pub(crate) fn next_line(taken: &mut [bool; 4], position: u32, choice: u32) -> Line
+pub(crate) fn next_line(occupied: &mut [bool; 4], position: u32, choice: u32) -> Line
     requires { choice < 2 ^ 15 }
-    ensures { Follows taken.old taken.new position choice result }
+    ensures { Follows occupied.old occupied.new position choice result }
 {
     match choice % 16 {
-        0 => turn(taken, position % 4),
+        0 => turn(occupied, position % 4),
         1 => Line::LoseT,
         2..=8 => Line::ReadT(20_000 + 1000 * (choice % 40)),
         9..=11 => Line::ReadTach(1000 + 100 * (choice % 20)),

@@ -18,8 +18,8 @@ plug_text before number = regroup before (codes "plug 1 ") (decimal number) (cod
 pub returns-in_ok-push_numbered-in-Plug : goal.returns-in_ok-push_numbered-in-Plug
 returns-in_ok-push_numbered-in-Plug c =
     let pushed : string_bytes c.push_numbered.new.out
-        ≡ string_bytes c.args.out.now ++ codes "plug 1 " ++ decimal c.from.result ++ (codes " " ++ record_hex ++ codes "\n") =
-        c.in_ok-push_numbered-in-Plug.ensures in
+    ≡ string_bytes c.args.out.now ++ codes "plug 1 " ++ decimal c.from.result ++ (codes " " ++ record_hex ++ codes "\n") =
+    c.in_ok-push_numbered-in-Plug.ensures in
     pushed
     ∙ plug_text (string_bytes c.args.out.now) c.from.result
     ∙ ap (λ (address : ℕ). string_bytes c.args.out.now ++ line_text (Plug address)) c.from.ensures

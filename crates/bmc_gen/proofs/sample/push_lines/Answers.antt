@@ -14,7 +14,7 @@ loop-i-preserved c =
     record {
       range = c.next_number-x.ensures.range;
       nth = at;
-      marks = marks_more seed i next c.loop-i.taken c.next_line.new.taken line at was.marks c.next_line.ensures;
-      text = text_more seed i next c.loop-i.taken c.next_line.new.taken line (string_bytes c.args.out.now) (string_bytes c.loop-i.out) _ at was.marks c.next_line.ensures was.text
+      marks = marks_more seed i next c.loop-i.occupied c.next_line.new.occupied line at was.marks c.next_line.ensures;
+      text = text_more seed i next c.loop-i.occupied c.next_line.new.occupied line (string_bytes c.args.out.now) (string_bytes c.loop-i.out) _ at was.marks c.next_line.ensures was.text
           c.in_ok-push_line.ensures;
     }

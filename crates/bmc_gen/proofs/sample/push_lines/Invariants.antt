@@ -10,6 +10,6 @@ abbrev pub invariant-loop-i : goal.invariant-loop-i
 invariant-loop-i l = record {
   range : l.x < 2 ^ 31;
   nth : l.x ≡ number l.fn.seed l.i;
-  marks : l.taken ≡ marks_of (lines l.fn.seed l.i);
+  marks : l.occupied ≡ marks_of (lines l.fn.seed l.i);
   text : string_bytes l.out ≡ string_bytes l.fn.out ++ flat_map line_text (lines l.fn.seed l.i);
 }
