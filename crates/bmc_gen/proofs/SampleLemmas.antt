@@ -32,7 +32,8 @@ marks_more seed i y old new line at marks follows =
     follows.marks (lines seed i) marks ∙ ap marks_of (line_more seed i y old new line at marks follows)
 
 -- and its text
-pub text_more : (seed i y : ℕ) (old new : List Bool) (line : Line) (before now more : List ℕ) → y ≡ number seed (i + 1) → old ≡ marks_of (lines seed i)
+pub text_more : (seed i y : ℕ) (old new : List Bool) (line : Line) (before now more : List ℕ) → y ≡ number seed (i + 1)
+    → old ≡ marks_of (lines seed i)
     → Follows old new (i + 1) (y / 65536) line → now ≡ before ++ flat_map line_text (lines seed i) → more ≡ now ++ line_text line
     → more ≡ before ++ flat_map line_text (lines seed (i + 1))
 text_more seed i y old new line before now more at marks follows text is =

@@ -16,7 +16,7 @@ line_text (ReadT raw) = codes "read T " ++ decimal raw ++ codes "\n"
 line_text (ReadTach raw) = codes "read Tach " ++ decimal raw ++ codes "\n"
 line_text Tick = codes "tick 1\n"
 
--- whether a FRU is at the address behind a line, if it is known whether one was there before
+-- whether a FRU is at the address behind a line, by whether one was there before it
 abbrev pub occupied_behind : ℕ → Bool → Line → Bool
 occupied_behind address before (Plug other) = address == other || before
 occupied_behind address before (Unplug other) = not (address == other) && before
@@ -29,9 +29,13 @@ occupied_behind address before Tick = before
 abbrev pub is_occupied : List Line → ℕ → Bool
 is_occupied earlier address = fold (occupied_behind address) false earlier
 
--- a FRU appears at an address that the earlier lines leave empty, and goes from one that they do not
+-- a FRU goes from an address that is occupied, and appears at one that is not
+abbrev pub turn_by : Bool → ℕ → Line
+turn_by occupied address = if occupied then Unplug address else Plug address
+
+-- the same by the earlier lines
 abbrev pub turn : List Line → ℕ → Line
-turn earlier address = if is_occupied earlier address then Unplug address else Plug address
+turn earlier address = turn_by (is_occupied earlier address) address
 
 -- the line at a position, from 1, by the earlier lines and what chooses it
 abbrev pub line_of : List Line → ℕ → ℕ → Line

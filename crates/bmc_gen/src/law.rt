@@ -5,7 +5,7 @@ ghost use Rattle.bmc_gen.specs.Numbers.{number, choice};
 ghost use Rattle.bmc_gen.specs.Scripts.{lines, script_of};
 ghost use Rattle.bmc_gen.specs.Laws.{OccupiedWherePlugged, LinesAreCounted};
 
-/// A FRU is at a place exactly where one of the lines plugs it in there, and no later one unplugs it.
+/// A FRU is at a place exactly where one of the lines plugs it in and no later one unplugs it.
 pub fn occupied_where_plugged()
     ensures { OccupiedWherePlugged }
 {}
@@ -15,8 +15,7 @@ pub fn lines_are_counted()
     ensures { LinesAreCounted }
 {}
 
-/// The first numbers, choices and lines of some seeds, one of which plugs and unplugs a place, and a whole
-/// script without chosen lines.
+/// The first numbers, choices and lines of some seeds, and a whole script without chosen lines.
 pub fn sample_examples()
     ensures seed { number 7 0 ≡ 7 }
     ensures first { number 7 1 ≡ 1282168116 }
@@ -27,5 +26,7 @@ pub fn sample_examples()
     ensures of_seven { lines 7 4 ≡ Tick ∷ Tick ∷ ReadT 48000 ∷ ReadT 54000 ∷ [] }
     ensures plugged { lines 0 1 ≡ Plug 81 ∷ [] }
     ensures unplugged { lines 1053 5 ≡ Plug 81 ∷ LoseT ∷ ReadT 57000 ∷ Tick ∷ Unplug 81 ∷ [] }
-    ensures bare { script_of 7 0 ≡ codes "config 131\n" ++ riser ++ codes "\nconfig 491\n" ++ fan_box ++ codes "\nshow zones\n" }
+    ensures bare { script_of 7 0
+        ≡ codes "config 131\n" ++ riser ++ codes "\nconfig 491\n" ++ fan_box
+        ++ codes "\nshow zones\n" }
 {}

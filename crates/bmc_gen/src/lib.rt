@@ -1,4 +1,4 @@
-//! Makes the sample script: two configurations, lines that are chosen by a seed, and a list of zones.
+//! Makes sample scripts: two configurations, lines that a seed chooses, and a list of the zones.
 #![tactic(auto)]
 
 mod document;

@@ -4,7 +4,7 @@ ghost use Rattle.bmc_gen.specs.Lines.{line_text};
 use crate::numbered::push_numbered;
 use bmc_base::OutOfMemory;
 
-// What follows the address where the FRU of the sample is plugged: a board RSR1 of ACM, and nothing else.
+// What follows the address of a plug: the record of a board with the product name RSR1.
 const PLUGGED: &str = " 01000001000000FE010300000000C341434DC452535231C25331C0C0C10000F5\n";
 
 /// A line between the configurations and the list of zones.

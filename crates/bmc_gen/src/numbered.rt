@@ -2,7 +2,7 @@ ghost use Rattle.std.specs.Prelude.{◌≡◌, ◌++◌, OnOk, decimal, string_b
 
 use bmc_base::OutOfMemory;
 
-// Appends a number in decimal digits, between two texts. `write!` would move the text there and back.
+// Appends a number in decimal digits, between two texts. It copies nothing else, as `write!` would.
 #[tactic(auto, using(std::proofs::Common::append_assoc))]
 pub(crate) fn push_numbered(
     out: &mut String,
@@ -10,7 +10,9 @@ pub(crate) fn push_numbered(
     number: u64,
     behind: &str,
 ) -> Result<(), OutOfMemory>
-    ensures { OnOk result (string_bytes out.new ≡ string_bytes out.old ++ before.now ++ decimal number ++ behind.now) }
+    ensures { OnOk result (
+        string_bytes out.new
+        ≡ string_bytes out.old ++ before.now ++ decimal number ++ behind.now) }
 {
     out.push_str(before)?;
     out.push_str(itoa::Buffer::new().format(number))?;

@@ -9,7 +9,7 @@ use crate::step::{next_line, next_number};
 use bmc_base::{Bytes, OutOfMemory};
 use std::alloc::Global;
 
-// Room for what stands before and behind the chosen lines.
+// Room for what stands before and behind the chosen lines, and for some plugs.
 const FRAME_ROOM: usize = 1024;
 
 // Room for a line. A line has 13 to 14 bytes on average.
@@ -20,7 +20,9 @@ const LINE_ROOM: usize = 16;
 fn push_lines(out: &mut String, seed: u32, count: u32) -> Result<(), OutOfMemory>
     requires seed { seed < 2 ^ 31 }
     requires count { count ≤ most_lines }
-    ensures { OnOk result (string_bytes out.new ≡ string_bytes out.old ++ flat_map line_text (lines seed count)) }
+    ensures { OnOk result (
+        string_bytes out.new
+        ≡ string_bytes out.old ++ flat_map line_text (lines seed count)) }
 {
     let mut x = seed;
     let mut occupied = [false; 4];

@@ -1,7 +1,7 @@
-ghost use Rattle.std.specs.Prelude.{◌≡◌, ◌+◌, ◌<◌, ◌≤◌, ◌^◌, not, if◌then◌else◌, slice_index_or, slice_set, false};
-ghost use Rattle.bmc_gen.specs.declared.line.Line.TheVariants.{Plug, Unplug};
+ghost use Rattle.std.specs.Prelude.{◌≡◌, ◌+◌, ◌<◌, ◌^◌, not, slice_set};
 ghost use Rattle.bmc_gen.specs.Numbers.{next_number};
-ghost use Rattle.bmc_gen.specs.Marks.{Follows};
+ghost use Rattle.bmc_gen.specs.Lines.{turn_by};
+ghost use Rattle.bmc_gen.specs.Marks.{mark_at, Follows};
 
 use crate::line::Line;
 
@@ -16,11 +16,11 @@ pub(crate) fn next_number(x: u32) -> u32
     ((u64::from(x) * 1_103_515_245 + 12_345) % (1 << 31)) as u32
 }
 
-// The plug or the unplug of a place by its mark, which says whether a FRU is there, and is turned.
+// A FRU appears at a place, or goes from it, by its mark, which says whether one is there.
 fn turn(occupied: &mut [bool; 4], nth: u32) -> Line
     requires { nth < 4 }
-    ensures line { result ≡ (if slice_index_or occupied.old nth false then Unplug (80 + nth) else Plug (80 + nth)) }
-    ensures marks { occupied.new ≡ slice_set occupied.old nth (not (slice_index_or occupied.old nth false)) }
+    ensures line { result ≡ turn_by (mark_at occupied.old nth) (80 + nth) }
+    ensures marks { occupied.new ≡ slice_set occupied.old nth (not (mark_at occupied.old nth)) }
 {
     let mark = &mut occupied[nth as usize];
     *mark = !*mark;
@@ -31,8 +31,8 @@ fn turn(occupied: &mut [bool; 4], nth: u32) -> Line
     }
 }
 
-// The line that a choice gives at this position, from 1. The marks say at which of the four places a
-// FRU is, before the line and then behind it.
+// The line that is chosen at this position, from 1. The marks say at which of the four places a FRU
+// is, before the line and then behind it.
 pub(crate) fn next_line(occupied: &mut [bool; 4], position: u32, choice: u32) -> Line
     requires { choice < 2 ^ 15 }
     ensures { Follows occupied.old occupied.new position choice result }

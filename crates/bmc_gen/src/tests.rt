@@ -4,9 +4,9 @@ use std::alloc::{AllocError, Global};
 use std::process::Abort;
 use std::test::Fail;
 
-// The expected values come from a model in Python that has none of this crate's steps. It writes the documents
-// with `json.dumps`, takes the i-th number from the closed form of the sequence, and looks back through
-// all earlier choices of a place to tell whether a FRU is there.
+// The expected values come from a model in Python that goes other ways. It writes the documents
+// with `json.dumps`, takes the i-th number from a closed form of the sequence, and tells whether a
+// FRU is at a place by whether the earlier choices of that place are odd in number.
 
 // The configuration of the riser, 131 bytes.
 const RISER: &str = concat!(
@@ -27,7 +27,7 @@ const FAN_BOX: &str = concat!(
 // The record that is plugged.
 const R1: &str = "01000001000000FE010300000000C341434DC452535231C25331C0C0C10000F5";
 
-// The script of a seed. The conditions of `script` are tested here, so that rows may hold any numbers.
+// The script of a seed, whose conditions are tested here: a table may hold any numbers.
 fn sample(rt: &impl Abort, alloc: Global, seed: u32, n: u32) -> Result<Bytes, Fail> {
     assert!(rt; seed < 1 << 31, "the seed {seed}");
     assert!(rt; n <= 100_000, "{n} lines");
@@ -35,13 +35,13 @@ fn sample(rt: &impl Abort, alloc: Global, seed: u32, n: u32) -> Result<Bytes, Fa
 }
 
 // The script that has these lines between its configurations and its last line.
-fn framed(alloc: Global, chosen: &[&str]) -> Result<String, AllocError> {
+fn framed(alloc: Global, chosen: &str) -> Result<String, AllocError> {
     let mut text = String::from_str(alloc, "config 131\n")?;
     text.push_str(RISER)?;
     text.push_str("\nconfig 491\n")?;
     text.push_str(FAN_BOX)?;
     text.push('\n')?;
-    for line in chosen {
+    for line in chosen.lines() {
         text.push_str(line)?;
         if line.starts_with("plug ") {
             text.push_str(R1)?;
@@ -52,81 +52,49 @@ fn framed(alloc: Global, chosen: &[&str]) -> Result<String, AllocError> {
     Ok(text)
 }
 
-// The first lines of seed 7.
-const SEVEN: [&str; 27] = [
-    "tick 1",
-    "tick 1",
-    "read T 48000",
-    "read T 54000",
-    "read T 31000",
-    "read T 25000",
-    "read T 54000",
-    "tick 1",
-    "lose T",
-    "lose T",
-    "tick 1",
-    "read T 23000",
-    "tick 1",
-    "read T 54000",
-    "tick 1",
-    "read T 22000",
-    "read Tach 1500",
-    "read T 34000",
-    "tick 1",
-    "read T 40000",
-    "tick 1",
-    "read T 47000",
-    "read T 59000",
-    "read Tach 2800",
-    "tick 1",
-    "plug 1 82 ",
-    "read T 59000",
-];
-
 #[test]
 fn short_scripts(rt: HostRuntime) -> Result<(), Fail> {
-    let rows: [(u32, &[&str]); 14] = [
-        (7, &[]),
-        (2_147_483_647, &[]),
-        // Each kind of line at both ends of its choices.
-        (0, &["plug 1 81 "]),
-        (18, &["lose T"]),
-        (8, &["read T 54000"]),
-        (9, &["read T 52000"]),
-        (4, &["read Tach 2700"]),
-        (12, &["read Tach 2100"]),
-        (2, &["tick 1"]),
-        (5, &["tick 1"]),
-        (2_147_483_647, &["read Tach 1900"]),
-        // A place that is filled, emptied and filled again, beside others.
+    // No line; each kind of line at both ends of its choices; a place that is filled, emptied and
+    // filled again; and the first lines of seed 7. The record behind a plug is left out.
+    let rows = [
+        (7, 0, ""),
+        (2_147_483_647, 0, ""),
+        (0, 1, "plug 1 81 \n"),
+        (18, 1, "lose T\n"),
+        (8, 1, "read T 54000\n"),
+        (9, 1, "read T 52000\n"),
+        (4, 1, "read Tach 2700\n"),
+        (12, 1, "read Tach 2100\n"),
+        (2, 1, "tick 1\n"),
+        (5, 1, "tick 1\n"),
+        (2_147_483_647, 1, "read Tach 1900\n"),
         (
             1053,
-            &[
-                "plug 1 81 ",
-                "lose T",
-                "read T 57000",
-                "tick 1",
-                "unplug 1 81",
-            ],
+            5,
+            "plug 1 81 \nlose T\nread T 57000\ntick 1\nunplug 1 81\n",
         ),
         (
             13_906,
-            &[
-                "plug 1 81 ",
-                "read T 31000",
-                "read T 44000",
-                "read T 51000",
-                "unplug 1 81",
-                "lose T",
-                "read T 57000",
-                "plug 1 80 ",
-                "plug 1 81 ",
-            ],
+            9,
+            concat!(
+                "plug 1 81 \nread T 31000\nread T 44000\nread T 51000\nunplug 1 81\n",
+                "lose T\nread T 57000\nplug 1 80 \nplug 1 81 \n"
+            ),
         ),
-        (7, &SEVEN),
+        (
+            7,
+            27,
+            concat!(
+                "tick 1\ntick 1\nread T 48000\nread T 54000\nread T 31000\nread T 25000\n",
+                "read T 54000\ntick 1\nlose T\nlose T\ntick 1\nread T 23000\ntick 1\n",
+                "read T 54000\ntick 1\nread T 22000\nread Tach 1500\nread T 34000\ntick 1\n",
+                "read T 40000\ntick 1\nread T 47000\nread T 59000\nread Tach 2800\ntick 1\n",
+                "plug 1 82 \nread T 59000\n"
+            ),
+        ),
     ];
-    for (seed, chosen) in rows {
-        let script = sample(&rt, rt.alloc(), seed, chosen.len() as u32)?;
+    for (seed, n, chosen) in rows {
+        let script = sample(&rt, rt.alloc(), seed, n)?;
         let wanted = framed(rt.alloc(), chosen)?;
         assert_eq!(rt; script.as_slice(), wanted.as_bytes(), "of seed {seed}");
     }
@@ -158,7 +126,7 @@ fn long_scripts(rt: HostRuntime) -> Result<(), Fail> {
         let bytes = script.as_slice();
         assert_eq!(rt; bytes.len(), length, "of seed {seed}");
         assert_eq!(rt; fnv_1a(bytes), hash, "of seed {seed}");
-        // Five newlines are not of chosen lines: two behind `config`, two behind documents, the last.
+        // Five are not of chosen lines: those of two `config` lines, two blocks and the last line.
         let newlines = bytes.iter().filter(|byte| **byte == b'\n').count();
         assert_eq!(rt; newlines, n as usize + 5, "of seed {seed}");
     }
