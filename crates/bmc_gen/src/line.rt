@@ -8,7 +8,7 @@ use bmc_base::OutOfMemory;
 const PLUGGED: &str = " 01000001000000FE010300000000C341434DC452535231C25331C0C0C10000F5\n";
 
 /// A line between the configurations and the list of zones.
-#[derive(Clone, Copy, Debug, PartialEq, Eq)]
+#[derive(Clone, Copy)]
 pub(crate) enum Line {
     /// A FRU appears at this address of bus 1.
     Plug(u32),

@@ -25,7 +25,7 @@ const FAN_BOX: &str = concat!(
 );
 
 // The record that is plugged.
-const R1: &str = "01000001000000FE010300000000C341434DC452535231C25331C0C0C10000F5";
+const RECORD: &str = "01000001000000FE010300000000C341434DC452535231C25331C0C0C10000F5";
 
 // The script of a seed, whose conditions are tested here: a table may hold any numbers.
 fn sample(rt: &impl Abort, alloc: Global, seed: u32, n: u32) -> Result<Bytes, Fail> {
@@ -44,7 +44,7 @@ fn framed(alloc: Global, chosen: &str) -> Result<String, AllocError> {
     for line in chosen.lines() {
         text.push_str(line)?;
         if line.starts_with("plug ") {
-            text.push_str(R1)?;
+            text.push_str(RECORD)?;
         }
         text.push('\n')?;
     }
