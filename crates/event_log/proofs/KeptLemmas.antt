@@ -1,12 +1,13 @@
 -- Each class keeps its latest entries.
-use Rattle.std.proofs.Common.{◌≡◌, inl, inr, ℕ, ◌+◌, ◌-◌, ◌≤◌, nat_lt, Bool, true, false, cond, List, [], ◌∷◌, ◌++◌, length, drop, filter, count_by, map, refl, ap, ap₂, sym, ◌∙◌, arith, add-one}
+use Rattle.std.proofs.Common.{◌≡◌, inl, inr, ℕ, ◌+◌, ◌-◌, ◌≤◌, nat_lt, Bool, true, false, cond, List, [], ◌∷◌, ◌++◌, length, drop}
+use Rattle.std.proofs.Common.{filter, count_by, map, refl, ap, ap₂, sym, ◌∙◌, arith, add-one}
 use Rattle.std.proofs.lemmas.Bool.{cases_lt, cond_below, cond_above}
 use Rattle.std.proofs.lemmas.List.{drop-append-le, length-drop, drop-drop, length_push, append-nil, map_push}
 use Rattle.std.proofs.lemmas.List.Elements.{filter-append}
 use Rattle.std.proofs.lemmas.List.FromFn.{map-range_with_len_more}
 use Rattle.std.proofs.lemmas.List.Sums.{length-filter}
 use Rattle.std.specs.List.{range_with_len}
-use Rattle.bmc_base.specs.Counts.{raised, last_count}
+use Rattle.bmc_base.specs.Counts.{raised}
 use Rattle.circular_buffer.specs.Buffer.{keep_last}
 use Rattle.event_log.specs.declared.entry.Class.{Class}
 use Rattle.event_log.specs.declared.entry.Class.TheVariants.{Error, Info}
@@ -56,7 +57,7 @@ other n p entry k later b is latest =
 latest_step : (cap : ℕ) (class : Class) (entry : LogEntry) (of : Class) (later : List LogEntry) → entry.class ≡ of
     → of_class class (kept cap later) ≡ keep_last (cap_of cap class) (of_class class later)
     → of_class class (cond (nat_lt (count_by (is_of of) later) (cap_of cap of)) (entry ∷ kept cap later) (kept cap later))
-      ≡ keep_last (cap_of cap class) (of_class class (entry ∷ later))
+    ≡ keep_last (cap_of cap class) (of_class class (entry ∷ later))
 latest_step cap Error entry Error later same latest =
     own cap (is_of Error) entry (kept cap later) later (ap (class_eq Error) same) latest
     ∙ ap (λ (b : Bool). keep_last cap (cond b (entry ∷ of_class Error later) (of_class Error later))) (sym (ap (class_eq Error) same))
@@ -97,7 +98,8 @@ last_push n xs x h = elim (cases_lt n (length xs)) [
 with_by : (n : ℕ) (p : LogEntry → Bool) (is : Bool) (all : List LogEntry) (entry : LogEntry) → 1 ≤ n → p entry ≡ is
     → cond is (keep_last n (keep_last n (filter p all) ++ entry ∷ [])) (keep_last n (filter p all)) ≡ keep_last n (filter p (all ++ entry ∷ []))
 with_by n p true all entry h same =
-    last_push n (filter p all) entry h ∙ ap (keep_last n) (sym (filter-append p all (entry ∷ []) ∙ ap (λ (b : Bool). filter p all ++ cond b (entry ∷ []) []) same))
+    last_push n (filter p all) entry h
+    ∙ ap (keep_last n) (sym (filter-append p all (entry ∷ []) ∙ ap (λ (b : Bool). filter p all ++ cond b (entry ∷ []) []) same))
 with_by n p false all entry h same =
     ap (keep_last n) (sym (filter-append p all (entry ∷ []) ∙ (ap (λ (b : Bool). filter p all ++ cond b (entry ∷ []) []) same ∙ append-nil (filter p all))))
 
@@ -114,10 +116,10 @@ stands_more log all entry h is stands =
     let next : entry.id ≡ nth_id (length all + 1) = grind (arith, is, stands.counted) in
     record {
       numbered =
-        map_push (λ (e : LogEntry). e.id) all entry
-        ∙ (ap₂ (λ (ids : List ℕ) (id : ℕ). ids ++ id ∷ []) stands.numbered next
-        ∙ (sym (map-range_with_len_more nth_id 1 (length all) (length all + 1) (omega arith))
-        ∙ ap (λ n. map nth_id (range_with_len 1 n)) (sym (length_push all entry))));
+          map_push (λ (e : LogEntry). e.id) all entry
+          ∙ (ap₂ (λ (ids : List ℕ) (id : ℕ). ids ++ id ∷ []) stands.numbered next
+          ∙ (sym (map-range_with_len_more nth_id 1 (length all) (length all + 1) (omega arith))
+          ∙ ap (λ n. map nth_id (range_with_len 1 n)) (sym (length_push all entry))));
       errors_kept = class_more log.error_cap Error all log.errors entry h stands.errors_kept;
       infos_kept = class_more log.error_cap Info all log.infos entry (omega arith) stands.infos_kept;
       counted = next ∙ ap nth_id (sym (length_push all entry));

@@ -1,5 +1,6 @@
 -- Entries whose ids climb are listed in their order.
-use Rattle.std.proofs.Common.{◌≡◌, ℕ, zero, suc, ◌+◌, ◌≤◌, ◌<◌, Bool, true, false, cond, List, [], ◌∷◌, ◌++◌, length, map, filter, get_or, drop, refl, ap, sym, subst, ◌∙◌, arith}
+use Rattle.std.proofs.Common.{◌≡◌, ℕ, ◌+◌, ◌≤◌, ◌<◌, Bool, true, false, cond, List, [], ◌∷◌, ◌++◌, length, map}
+use Rattle.std.proofs.Common.{filter, get_or, drop, refl, ap, sym, subst, ◌∙◌, arith}
 use Rattle.std.specs.List.{range_with_len}
 use Rattle.bmc_base.specs.Counts.{last_count}
 use Rattle.event_log.specs.declared.entry.Class.{Class}
@@ -24,9 +25,11 @@ climbing_numbered : (before : ℕ) (all : List LogEntry) → map (λ (entry : Lo
     → before + length all ≤ last_count → IsClimbing before all
 climbing_numbered before [] numbered few = tt
 climbing_numbered before (entry ∷ later) numbered few =
-    let next : entry.id ≡ before + 1 = grind (arith, ap (λ (ids : List ℕ). get_or ids 0 0) numbered) in
-    (omega (arith, next), subst (λ (id : ℕ). IsClimbing id later) (sym next)
-      (climbing_numbered (before + 1) later (ap (drop 1) numbered) (omega (arith, few))))
+    let next : entry.id ≡ before + 1 = grind (arith, ap (λ (ids : List ℕ). get_or ids 0 0) numbered) in (
+      omega (arith, next),
+      subst (λ (id : ℕ). IsClimbing id later) (sym next)
+          (climbing_numbered (before + 1) later (ap (drop 1) numbered) (omega (arith, few))),
+    )
 
 -- some of them climb too
 climbing_kept : (cap low : ℕ) (all : List LogEntry) → IsClimbing low all → IsClimbing low (kept cap all)
@@ -56,7 +59,7 @@ first_listed : (class : Class) (entry : LogEntry) (errors infos later : List Log
     → by_id (cond (class_eq Error class) (entry ∷ errors) errors ++ cond (class_eq Info class) (entry ∷ infos) infos) ≡ entry ∷ later
 first_listed Error entry errors infos later from more is =
     first_of_all entry (errors ++ infos) (from_both entry.id errors infos
-      (from_more (entry.id + 1) entry.id errors (omega arith) from) (from_more (entry.id + 1) entry.id infos (omega arith) more))
+    (from_more (entry.id + 1) entry.id errors (omega arith) from) (from_more (entry.id + 1) entry.id infos (omega arith) more))
     ∙ ap (λ (xs : List LogEntry). entry ∷ xs) is
 first_listed Info entry errors infos later from more is =
     info_first (entry.id + 1) errors entry infos (omega arith) from (from_more (entry.id + 1) entry.id infos (omega arith) more)
@@ -67,8 +70,10 @@ climbing_listed low [] climbs = refl
 climbing_listed low (entry ∷ later) climbs =
     let from : AreFrom (entry.id + 1) later = from_climbing entry.id later climbs.1 in
     first_listed entry.class entry (of_class Error later) (of_class Info later) later
-      (from_filter (entry.id + 1) (is_of Error) later from) (from_filter (entry.id + 1) (is_of Info) later from)
-      (climbing_listed entry.id later climbs.1)
+    (from_filter (entry.id + 1) (is_of Error) later from) (from_filter (entry.id + 1) (is_of Info) later from)
+    (climbing_listed entry.id later climbs.1)
 
 pub listed_as_added : (error_cap : ℕ) (all : List LogEntry) → AreNumbered all → length all ≤ last_count → listed error_cap all ≡ kept error_cap all
-listed_as_added error_cap all numbered few = climbing_listed 0 (kept error_cap all) (climbing_kept error_cap 0 all (climbing_numbered 0 all numbered (omega (arith, few))))
+listed_as_added error_cap all numbered few =
+    let climbs : IsClimbing 0 all = climbing_numbered 0 all numbered (omega (arith, few)) in
+    climbing_listed 0 (kept error_cap all) (climbing_kept error_cap 0 all climbs)

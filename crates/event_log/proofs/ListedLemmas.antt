@@ -1,13 +1,14 @@
 -- The first entry by id, of errors and infos whose ids do not fall.
-use Rattle.std.proofs.Common.{◌≡◌, inl, inr, ℕ, zero, suc, ◌+◌, ◌≤◌, ◌<◌, Bool, true, false, cond, List, [], ◌∷◌, ◌++◌, length, drop, refl, ap, ap₂, sym, ◌∙◌, append_assoc, arith, Option, Some, None}
-use Rattle.std.proofs.lemmas.Bool.{le-leb, lt-leb, leb-true, leb-false, cond-true, cond-false, cases_Bool, true≢false, false≢true}
+use Rattle.std.proofs.Common.{◌≡◌, ℕ, ◌+◌, ◌≤◌, ◌<◌, Bool, true, false, cond, List, [], ◌∷◌, ◌++◌, length, drop}
+use Rattle.std.proofs.Common.{refl, ap, ap₂, sym, ◌∙◌, append_assoc, arith, Option, Some, None}
+use Rattle.std.proofs.lemmas.Bool.{le-leb, lt-leb, leb-true, leb-false, cond-true, cond-false, true≢false, false≢true}
 use Rattle.std.proofs.lemmas.List.{append-nil}
 use Rattle.std.proofs.lemmas.Option.{MatchOption-at_some, MatchOption-at_none}
 use Rattle.std.specs.Prelude.{nat_le, slice_get, option_map}
 use Rattle.event_log.specs.declared.entry.LogEntry.{LogEntry}
 use Rattle.event_log.specs.Listed.{placed, by_id}
 use Rattle.event_log.specs.Rising.{IsRising, is_error_first, Gives}
-use Rattle.event_log.specs.Stands.{LogView, Stands, Lists}
+use Rattle.event_log.specs.Stands.{LogView, Lists}
 use Rattle.event_log.specs.Updates.{entries_of}
 use Rattle.event_log.proofs.RisingLemmas.{rising_from}
 
@@ -79,7 +80,7 @@ gives_error high (error ∷ errors) (info ∷ infos) is rises more =
       errors_rise = rising_from error.id 0 high errors rises.0 rises.1;
       infos_rise = more;
       first = first_of_all error (errors ++ info ∷ infos) (from_both error.id errors (info ∷ infos) (from_rising error.id high errors rises.1)
-        (from_rising error.id high (info ∷ infos) (under, more.1)));
+          (from_rising error.id high (info ∷ infos) (under, more.1)));
       fewer = omega arith;
     }
 
@@ -97,7 +98,7 @@ gives_info high (error ∷ errors) (info ∷ infos) is rises more = record {
   errors_rise = rises;
   infos_rise = rising_from info.id 0 high infos more.0 more.1;
   first = info_first error.id (error ∷ errors) info infos (leb-false error.id info.id is)
-    (from_rising error.id high (error ∷ errors) (omega arith, rises.1)) (from_rising info.id high infos more.1);
+      (from_rising error.id high (error ∷ errors) (omega arith, rises.1)) (from_rising info.id high infos more.1);
   fewer = omega arith;
 }
 
@@ -129,7 +130,7 @@ so_far_more log so_far errors infos errors_left infos_left new given entry liste
     let first : by_id (errors ++ infos) ≡ entry ∷ by_id (errors_left ++ infos_left) = MatchOption-at_some _ _ entry some gives.first in
     record {
       all = ap (λ (xs : List LogEntry). xs ++ by_id (errors_left ++ infos_left)) pushed
-        ∙ (append_assoc so_far (entry ∷ []) (by_id (errors_left ++ infos_left)) ∙ (ap (λ (xs : List LogEntry). so_far ++ xs) (sym first) ∙ listed.all));
+          ∙ (append_assoc so_far (entry ∷ []) (by_id (errors_left ++ infos_left)) ∙ (ap (λ (xs : List LogEntry). so_far ++ xs) (sym first) ∙ listed.all));
       errors_rise = gives.errors_rise;
       infos_rise = gives.infos_rise;
     }

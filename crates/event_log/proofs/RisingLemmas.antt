@@ -1,5 +1,5 @@
 -- Ids that do not fall, after an entry more and after some are dropped.
-use Rattle.std.proofs.Common.{◌≡◌, ℕ, zero, suc, ◌+◌, ◌-◌, ◌≤◌, Bool, true, false, cond, List, [], ◌∷◌, ◌++◌, length, drop, refl, arith}
+use Rattle.std.proofs.Common.{ℕ, zero, suc, ◌-◌, ◌≤◌, Bool, true, false, cond, List, [], ◌∷◌, ◌++◌, length, drop, arith}
 use Rattle.circular_buffer.specs.Buffer.{keep_last}
 use Rattle.event_log.specs.declared.entry.Class.{Class}
 use Rattle.event_log.specs.declared.entry.LogEntry.{LogEntry}

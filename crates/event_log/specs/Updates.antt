@@ -2,7 +2,7 @@
 use Rattle.std.specs.Prelude.{ℕ, if◌then◌else◌, List, [], ◌∷◌, ◌++◌}
 use Rattle.bmc_base.specs.Counts.{raised}
 use Rattle.bmc_report.specs.declared.change.Change.{Change}
-use Rattle.circular_buffer.specs.Buffer.{keep_last}
+use Rattle.circular_buffer.specs.Buffer.{Buffer, buffer, keep_last}
 use Rattle.event_log.specs.declared.entry.Class.{Class}
 use Rattle.event_log.specs.declared.entry.Class.TheVariants.{Error, Info}
 use Rattle.event_log.specs.declared.entry.LogEntry.{LogEntry}
@@ -21,6 +21,10 @@ next_entry log class tick change = record { id = raised log.last_id 1; class = c
 -- so many entries of a class, with this one as the newest where it is of that class
 abbrev pub class_with : Class → ℕ → List LogEntry → LogEntry → List LogEntry
 class_with class cap entries entry = if is_of class entry then keep_last cap (entries ++ entry ∷ []) else entries
+
+-- the same, in a buffer
+abbrev pub buffer_with : Class → Buffer LogEntry → LogEntry → Buffer LogEntry
+buffer_with class entries entry = buffer (class_with class entries.capacity entries.items entry) entries.capacity
 
 -- the log with this entry
 abbrev pub with_entry : LogView → LogEntry → LogView

@@ -1,10 +1,10 @@
 ghost use Rattle.std.specs.Prelude.{◌≡◌, ◌≤◌, [], IfOk};
 ghost use Rattle.bmc_base.specs.Counts.{raised};
-ghost use Rattle.circular_buffer.specs.Buffer.{buffer};
 ghost use Rattle.event_log.specs.declared.entry.Class.TheVariants.{Error, Info};
 ghost use Rattle.event_log.specs.Kept.{most_errors};
 ghost use Rattle.event_log.specs.Stands.{Stands, Takes, Lists};
-ghost use Rattle.event_log.specs.Updates.{empty_log, next_entry, class_with, with_entry, entries_of};
+ghost use Rattle.event_log.specs.Updates.{empty_log, next_entry, buffer_with, with_entry};
+ghost use Rattle.event_log.specs.Updates.{entries_of};
 
 use crate::rest::{Rest, next_by_id};
 use crate::{Class, Entries, LogEntry};
@@ -42,10 +42,10 @@ impl Model for Log {
     } };
 
     ghost invariant = { λ l.
-      (1 ≤ l.errors.capacity)
-      × (l.infos.capacity ≡ info_cap)
-      × IsRising 0 l.errors.items l.last_id
-      × IsRising 0 l.infos.items l.last_id };
+        (1 ≤ l.errors.capacity)
+        × (l.infos.capacity ≡ info_cap)
+        × IsRising 0 l.errors.items l.last_id
+        × IsRising 0 l.infos.items l.last_id };
 }
 
 impl Log {
@@ -105,8 +105,8 @@ fn push_newest(
     infos: &mut HeapCircularBuffer<LogEntry>,
     entry: LogEntry,
 )
-    ensures errors { errors.new ≡ buffer (class_with Error errors.old.capacity errors.old.items entry) errors.old.capacity }
-    ensures infos { infos.new ≡ buffer (class_with Info infos.old.capacity infos.old.items entry) infos.old.capacity }
+    ensures errors { errors.new ≡ buffer_with Error errors.old entry }
+    ensures infos { infos.new ≡ buffer_with Info infos.old entry }
 {
     match entry.class {
         Class::Error => errors.push_back(entry),

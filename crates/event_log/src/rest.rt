@@ -1,5 +1,5 @@
-ghost use Rattle.std.specs.Prelude.{◌≡◌, ℕ, option_copied, option_map, drop, slice_get};
-ghost use Rattle.event_log.specs.Rising.{IsRising, is_error_first, Gives};
+ghost use Rattle.std.specs.Prelude.{◌≡◌, option_copied, option_map, drop, slice_get};
+ghost use Rattle.event_log.specs.Rising.{is_error_first, GivesFirst};
 
 use crate::LogEntry;
 use circular_buffer::HeapCircularBuffer;
@@ -64,11 +64,8 @@ fn is_error_first(error: Option<u64>, info: Option<u64>) -> bool
 }
 
 // Takes the first entry by id of both classes.
-pub(crate) fn next_by_id<'a>(
-    errors: &mut Rest<'a>,
-    infos: &mut Rest<'a>,
-) -> Option<&'a LogEntry>
-    ensures { (high : ℕ) → IsRising 0 errors.old high → IsRising 0 infos.old high → Gives high errors.old infos.old (option_copied result) errors.new infos.new }
+pub(crate) fn next_by_id<'a>(errors: &mut Rest<'a>, infos: &mut Rest<'a>) -> Option<&'a LogEntry>
+    ensures { GivesFirst errors.old infos.old (option_copied result) errors.new infos.new }
 {
     if is_error_first(errors.first_id(), infos.first_id()) {
         errors.next()

@@ -1,7 +1,7 @@
 use Rattle.std.proofs.Common.{◌≤◌, ◌≡◌, refl, sym, arith}
 use Rattle.bmc_base.specs.Counts.{raised}
 use Rattle.event_log.specs.declared.entry.Class.TheVariants.{Error, Info}
-use Rattle.event_log.specs.Stands.{LogView, Stands}
+use Rattle.event_log.specs.Stands.{LogView}
 use Rattle.event_log.proofs.RisingLemmas.{rising_with}
 use Rattle.event_log.proofs.KeptLemmas.{stands_more}
 use Rattle.event_log.proofs.log.Log.add.Goals as goal
@@ -9,11 +9,12 @@ use Rattle.event_log.proofs.log.Log.add.Goals as goal
 pub invariant_of-self : goal.invariant_of-self
 invariant_of-self c =
     let over : c.self.inside.last_id ≤ c.saturating_add-id.result = grind (arith, c.saturating_add-id.ensures) in
-    rw (c.push_newest.ensures.errors, c.push_newest.ensures.infos)
-    (c.self.invariant.0,
-    c.self.invariant.1,
-    rising_with Error c.self.inside.errors.capacity c.self.inside.last_id c.self.inside.errors.items _ over c.self.invariant.2,
-    rising_with Info c.self.inside.infos.capacity c.self.inside.last_id c.self.inside.infos.items _ over c.self.invariant.3)
+    rw (c.push_newest.ensures.errors, c.push_newest.ensures.infos) (
+      c.self.invariant.0,
+      c.self.invariant.1,
+      rising_with Error c.self.inside.errors.capacity c.self.inside.last_id c.self.inside.errors.items _ over c.self.invariant.2,
+      rising_with Info c.self.inside.infos.capacity c.self.inside.last_id c.self.inside.infos.items _ over c.self.invariant.3,
+    )
 
 pub returns-clause-takes : goal.returns-clause-takes
 returns-clause-takes c all stands =

@@ -1,4 +1,4 @@
-use Rattle.std.proofs.Common.{◌≡◌, ◌∙◌, ap, sym, drop}
+use Rattle.std.proofs.Common.{◌∙◌, ap, sym, drop}
 use Rattle.std.proofs.lemmas.List.{drop-drop}
 use Rattle.event_log.proofs.rest.Rest.next.Goals as goal
 
