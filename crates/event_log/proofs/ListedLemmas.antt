@@ -5,6 +5,7 @@ use Rattle.std.proofs.lemmas.Bool.{le-leb, lt-leb, leb-true, leb-false, cond-tru
 use Rattle.std.proofs.lemmas.List.{append-nil}
 use Rattle.std.proofs.lemmas.Option.{MatchOption-at_some, MatchOption-at_none}
 use Rattle.std.specs.Prelude.{nat_le, slice_get, option_map}
+use Rattle.std.specs.List.{AllByRecursion}
 use Rattle.event_log.specs.declared.entry.LogEntry.{LogEntry}
 use Rattle.event_log.specs.Listed.{placed, by_id}
 use Rattle.event_log.specs.Rising.{IsRising, is_error_first, Gives}
@@ -14,8 +15,7 @@ use Rattle.event_log.proofs.RisingLemmas.{rising_from}
 
 -- all ids are at least this
 abbrev pub AreFrom : ℕ → List LogEntry → Type 0
-AreFrom low [] = Unit {0}
-AreFrom low (entry ∷ later) = (low ≤ entry.id) × AreFrom low later
+AreFrom low entries = AllByRecursion (λ (entry : LogEntry). low ≤ entry.id) entries
 
 pub from_more : (low new : ℕ) (entries : List LogEntry) → new ≤ low → AreFrom low entries → AreFrom new entries
 from_more low new [] under from = tt
@@ -37,7 +37,7 @@ placed_first entry (other ∷ others) from = cond-true _ (entry ∷ other ∷ ot
 placed_later : (entry other : LogEntry) (others : List LogEntry) → other.id < entry.id → placed entry (other ∷ others) ≡ other ∷ placed entry others
 placed_later entry other others under = cond-false _ (entry ∷ other ∷ others) (other ∷ placed entry others) (lt-leb entry.id other.id under)
 
-from_placed : (low : ℕ) (entry : LogEntry) (entries : List LogEntry) → low ≤ entry.id → AreFrom low entries → AreFrom low (placed entry entries)
+pub from_placed : (low : ℕ) (entry : LogEntry) (entries : List LogEntry) → low ≤ entry.id → AreFrom low entries → AreFrom low (placed entry entries)
 from_placed low entry [] over from = (over, tt)
 from_placed low entry (other ∷ others) over from =
     placed_by (nat_le entry.id other.id) (from_placed low entry others over from.1)

@@ -1,13 +1,18 @@
 ghost use Rattle.std.specs.Prelude.{◌≡◌, [], ◌∷◌, ◌++◌, ◌^◌, ◌-◌};
 ghost use Rattle.event_log.specs.Kept.{kept};
 ghost use Rattle.event_log.specs.Listed.{by_id, listed};
-ghost use Rattle.event_log.specs.Laws.{LatestAreKept, ListedAsAdded};
+ghost use Rattle.event_log.specs.Laws.{LatestAreKept, AreById, ListedAsAdded};
 ghost use Rattle.event_log.specs.Stands.{nth_id};
 ghost use Rattle.event_log.specs.Examples.{error, info, infos};
 
 /// Of each class the last entries are kept, as many as its cap.
 pub fn latest_are_kept()
     ensures { LatestAreKept }
+{}
+
+/// Entries by id ascend, and those of one id stay in their order.
+pub fn entries_are_by_id()
+    ensures { AreById }
 {}
 
 /// As long as no two ids are equal, entries are listed in the order in which they were added.

@@ -9,5 +9,5 @@ mod rest;
 mod tests;
 
 pub use entry::{Class, Entries, LogEntry};
-pub use law::{entries_are_listed_as_added, latest_are_kept, log_examples};
+pub use law::{entries_are_by_id, entries_are_listed_as_added, latest_are_kept, log_examples};
 pub use log::Log;
