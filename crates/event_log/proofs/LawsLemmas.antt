@@ -87,11 +87,11 @@ placed_ascending entry [] ascends = (tt, tt)
 placed_ascending entry (other ∷ others) ascends =
     cond_both (nat_le entry.id other.id) (entry ∷ other ∷ others) (other ∷ placed entry others) IsAscending
     (λ is.
-      let under : entry.id ≤ other.id = leb-true entry.id other.id is in
-      ((under, from_more other.id entry.id others under ascends.0), ascends))
+    let under : entry.id ≤ other.id = leb-true entry.id other.id is in
+    ((under, from_more other.id entry.id others under ascends.0), ascends))
     (λ is.
-      let over : other.id < entry.id = leb-false entry.id other.id is in
-      (from_placed other.id entry others (omega (arith, over)) ascends.0, placed_ascending entry others ascends.1))
+    let over : other.id < entry.id = leb-false entry.id other.id is in
+    (from_placed other.id entry others (omega (arith, over)) ascends.0, placed_ascending entry others ascends.1))
 
 by_id_ascending : (entries : List LogEntry) → IsAscending (by_id entries)
 by_id_ascending [] = tt
@@ -104,14 +104,15 @@ placed_same id entry (other ∷ others) =
     cond_both (nat_le entry.id other.id) (entry ∷ other ∷ others) (other ∷ placed entry others)
     (λ xs. filter (has_id id) xs ≡ filter (has_id id) (entry ∷ other ∷ others)) (λ is. refl)
     (λ is. passed (has_id id entry) (has_id id other) (apart (leb-false entry.id other.id is))
-      (filter (has_id id) (placed entry others)) (filter (has_id id) others) (placed_same id entry others))
+    (filter (has_id id) (placed entry others)) (filter (has_id id) others) (placed_same id entry others))
   where
     apart : other.id < entry.id → has_id id entry ≡ true → has_id id other ≡ false
     apart over same = ne_eqb other.id id (λ equal. absurd (omega (arith, over, equal, eqb-true entry.id id same)))
+
     passed : (is other_is : Bool) → (is ≡ true → other_is ≡ false) → (same_placed same_rest : List LogEntry)
         → same_placed ≡ cond is (entry ∷ same_rest) same_rest
         → cond other_is (other ∷ same_placed) same_placed
-          ≡ cond is (entry ∷ cond other_is (other ∷ same_rest) same_rest) (cond other_is (other ∷ same_rest) same_rest)
+        ≡ cond is (entry ∷ cond other_is (other ∷ same_rest) same_rest) (cond other_is (other ∷ same_rest) same_rest)
     passed true true never same_placed same_rest rest = absurd (true≢false (never refl))
     passed true false never same_placed same_rest rest = rest
     passed false true never same_placed same_rest rest = ap (λ (xs : List LogEntry). other ∷ xs) rest

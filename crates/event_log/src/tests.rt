@@ -1,6 +1,6 @@
 use crate::{Class, Log};
 use bmc_base::Name;
-use bmc_report::Change;
+use bmc_report::{Change, push_change};
 use std::alloc::Global;
 use std::fmt::Write;
 use std::process::Abort;
@@ -140,8 +140,8 @@ fn class_of(letter: char) -> Class {
     }
 }
 
-// Adds an entry of each of the classes. Its change has its number from 0 on, and its tick ends with
-// the bits of that number turned over.
+// Adds an entry of each of the classes. Its change has its number, from 0 on, and its tick the bits of
+// that number turned over.
 fn add_all(rt: &impl Abort, log: &mut Log, classes: &str) -> Result<(), Fail> {
     for (n, letter) in classes.chars().enumerate() {
         let index = u32::try_from(n)?;
@@ -169,9 +169,11 @@ fn listing(rt: &impl Abort, alloc: Global, log: &Log) -> Result<String, Fail> {
             Class::Info => 'i',
         };
         write!(text, "{letter}{}", entry.id)?;
-        let Change::Board { index, .. } = entry.change;
-        assert_eq!(rt; entry.id, u64::from(index) + 1);
-        assert_eq!(rt; entry.tick, !u64::from(index));
+        let number = entry.id.wrapping_sub(1);
+        let mut added = String::new(alloc);
+        push_change(&mut added, entry.tick, &entry.change)?;
+        let wanted = format!(in alloc; "{} new board \"Riser\" {number}\n", !number)?;
+        assert_eq!(rt; added.as_str(), wanted.as_str());
     }
     Ok(text)
 }
