@@ -140,8 +140,8 @@ fn class_of(letter: char) -> Class {
     }
 }
 
-// Adds an entry of each of the classes. Its change has its number, from 0 on, and its tick the bits of
-// that number turned over.
+// Adds an entry of each of the classes. Its change has its number, from 0 on, and its tick has the
+// bits of that number turned over.
 fn add_all(rt: &impl Abort, log: &mut Log, classes: &str) -> Result<(), Fail> {
     for (n, letter) in classes.chars().enumerate() {
         let index = u32::try_from(n)?;
