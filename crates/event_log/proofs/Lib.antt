@@ -1,0 +1,4 @@
+pub mod KeptLemmas
+pub mod RisingLemmas
+pub mod ListedLemmas
+pub mod LawsLemmas
