@@ -1,5 +1,5 @@
 -- The index of a board is one more than the number of boards of its configuration that were first met before it.
-use Rattle.std.proofs.Common.{◌≡◌, ℕ, suc, ◌+◌, ◌≤◌, List, [], ◌∷◌, ◌++◌, Bool, true, false, not, cond, ◌&&◌, ◌||◌, nat_lt, Option, Some, None}
+use Rattle.std.proofs.Common.{◌≡◌, ℕ, suc, ◌+◌, ◌≤◌, List, [], ◌∷◌, ◌++◌, Bool, true, false, not, cond, ◌&&◌, ◌||◌, nat_lt, Option, None}
 use Rattle.std.proofs.Common.{filter, map, refl, sym, ap, ap₂, ◌∙◌, arith, subst, inl, inr}
 use mathlib.Core.List.{map-map}
 use Rattle.std.specs.Prelude.{length}

@@ -1,19 +1,27 @@
 -- The FRUs that are present after a legal history, and their order.
-use Rattle.std.proofs.Common.{◌≡◌, ℕ, List, [], ◌∷◌, Bool, true, false, not, cond, ◌||◌, Option, None, Some, map, refl, ap, ◌∙◌, subst}
+use Rattle.std.proofs.Common.{◌≡◌, ℕ, suc, ◌<◌, ◌≤◌, List, [], ◌∷◌, length, Bool, true, false, not, cond, ◌||◌, Option, None, Some, Ok, Err, map}
+use Rattle.std.proofs.Common.{refl, ap, ◌∙◌, subst, arith}
+use Rattle.std.specs.Prelude.{Result, nat_le}
 use Rattle.std.specs.List.{AllByRecursion, IsDistinct}
 use Rattle.std.specs.List.Sorted.{IsStrictlySortedBy}
 use Rattle.std.specs.Ordering.{is_eq, is_lt, ordering_reverse}
 use Rattle.std.specs.declared.cmp.Ordering.{Ordering}
 use Rattle.std.specs.declared.cmp.Ordering.TheVariants.{Less, Equal, Greater}
 use Rattle.std.specs.Cmp.{IsTotalOrder}
+use Rattle.std.proofs.lemmas.Bool.Decides.{nat_tests}
 use Rattle.std.proofs.lemmas.Cmp.{nat_cmp_total, on_total, then_total}
 use Rattle.std.proofs.lemmas.Map.Keys.{IsDistinct-from_sorted}
 use Rattle.bmc_base.specs.Places.{Place, place_cmp, place_eq}
+use Rattle.fru_area.specs.declared.field.Field.{Field}
+use Rattle.fru_area.specs.declared.fault.FruFault.{FruFault}
+use Rattle.fru_area.specs.declared.fault.FruFault.TheVariants as rules
+use Rattle.fru_record.specs.Records.{record_of}
+use Rattle.fru_record.proofs.RecordsLemmas.{record_of-rule}
 use Rattle.bmc_report.specs.declared.refusal.Refusal.{Refusal}
 use Rattle.bmc_report.specs.declared.refusal.Refusal.TheVariants.{Occupied}
-use Rattle.bmc_machine.specs.Standings.{Fru, is_at, is_present, put}
+use Rattle.bmc_machine.specs.Standings.{Fru, is_at, is_present, put, without}
 use Rattle.bmc_machine.specs.Histories.{Step, Configure, Plug, RefusedPlug, Unplug, after_step, standing}
-use Rattle.bmc_machine.specs.Refusals.{refusal_of, IsLegalStep, IsLegal}
+use Rattle.bmc_machine.specs.Refusals.{record_refusal, plug_refusal, most_frus, refusal_of, IsLegalStep, IsLegal}
 use Rattle.inventory.proofs.BoardLemmas.{place_cmp_eq}
 use Rattle.inventory.proofs.ListLemmas.{all_weaker, ascending_filter}
 
@@ -75,3 +83,67 @@ pub frus_differ : (past : List Step) → IsLegal past → IsDistinct place_eq (p
 frus_differ past legal =
     subst (λ (same : Place → Place → Bool). IsDistinct same (places (standing past).frus)) (λ i place other. place_cmp_eq place other i)
     (IsDistinct-from_sorted place_cmp (places (standing past).frus) (frus_ascend past legal))
+
+-- ---- how many they are
+
+-- a rule that bytes break has a refusal
+no_refusal : (bytes : List ℕ) (rule : FruFault) → record_of bytes ≡ Err rule → record_refusal rule ≡ None → ⊥
+no_refusal bytes rules.OutOfMemory is none = record_of-rule bytes is
+no_refusal bytes rules.FruShort is none = absurd (cc)
+no_refusal bytes rules.FruTooLong is none = absurd (cc)
+no_refusal bytes rules.HeaderVersion is none = absurd (cc)
+no_refusal bytes rules.HeaderChecksum is none = absurd (cc)
+no_refusal bytes (rules.AreaOutside area) is none = absurd (cc)
+no_refusal bytes (rules.AreaVersion area) is none = absurd (cc)
+no_refusal bytes (rules.AreaLength area) is none = absurd (cc)
+no_refusal bytes (rules.AreaChecksum area) is none = absurd (cc)
+no_refusal bytes (rules.FieldOutside area) is none = absurd (cc)
+no_refusal bytes (rules.NoEnd area) is none = absurd (cc)
+
+-- a plug that is accepted found room
+room_before : (past : List Step) (place : Place) (bytes : List ℕ) → refusal_of (standing past) (Plug place bytes) ≡ None
+    → length (standing past).frus < most_frus
+room_before past place bytes accepted =
+    by (is_present (standing past).frus place) (record_of bytes) refl (nat_le most_frus (length (standing past).frus)) refl accepted
+  where
+    by : (present : Bool) (read : Result (List Field) FruFault) → record_of bytes ≡ read
+        → (is_full : Bool) → nat_le most_frus (length (standing past).frus) ≡ is_full
+        → cond present (Some Occupied) (plug_refusal is_full read) ≡ None → length (standing past).frus < most_frus
+    by true read is is_full told none = absurd (cc)
+    by false (Ok fields) is true told none = absurd (cc)
+    by false (Ok fields) is false told none = grind (arith, nat_tests, told)
+    by false (Err rule) is is_full told none = absurd (no_refusal bytes rule is none)
+
+length_put : (fru : Fru) (frus : List Fru) → length (put fru frus) ≡ suc (length frus)
+length_put fru [] = refl
+length_put fru (other ∷ frus) = by (is_lt (place_cmp fru.place other.place)) (length_put fru frus)
+  where
+    by : (first : Bool) → length (put fru frus) ≡ suc (length frus)
+        → length (cond first (fru ∷ other ∷ frus) (other ∷ put fru frus)) ≡ suc (suc (length frus))
+    by true rest = refl
+    by false rest = ap suc rest
+
+length_without : (place : Place) (frus : List Fru) → length (without place frus) ≤ length frus
+length_without place [] = omega arith
+length_without place (fru ∷ frus) = by (is_at place fru) (length_without place frus)
+  where
+    by : (here : Bool) → length (without place frus) ≤ length frus
+        → length (cond (not here) (fru ∷ without place frus) (without place frus)) ≤ suc (length frus)
+    by true rest = omega (arith, rest)
+    by false rest = omega (arith, rest)
+
+frus_few_next : (past : List Step) (step : Step) → IsLegalStep past step → length (standing past).frus ≤ most_frus
+    → length (after_step (standing past) step).frus ≤ most_frus
+frus_few_next past (Configure config) legal few = few
+frus_few_next past (Plug place bytes) legal few =
+    let room = room_before past place bytes legal in
+    let more = length_put (record { place = place; bytes = bytes }) (standing past).frus in
+    omega (arith, room, more)
+frus_few_next past (RefusedPlug place bytes refusal) legal few = few
+frus_few_next past (Unplug place) legal few = let less = length_without place (standing past).frus in omega (arith, less, few)
+
+-- after a legal history they are no more than the limit
+pub frus_few : (past : List Step) → IsLegal past → length (standing past).frus ≤ most_frus
+unfolding IsLegal standing
+frus_few [] legal = omega arith
+frus_few (step ∷ past) legal = frus_few_next past step legal.1 (frus_few past legal.0)

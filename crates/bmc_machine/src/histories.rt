@@ -1,4 +1,4 @@
-ghost use Rattle.std.specs.Prelude.{◌≡◌, ◌∷◌, true, ℕ, List, [], map, Some};
+ghost use Rattle.std.specs.Prelude.{◌≡◌, ◌≤◌, ◌∷◌, true, ℕ, List, [], map, length, Some};
 ghost use Rattle.std.specs.List.{IsDistinct};
 ghost use Rattle.std.specs.List.Sorted.{IsStrictlySortedBy};
 ghost use Rattle.bmc_base.specs.Places.{Place, place_cmp, place_eq};
@@ -8,7 +8,7 @@ ghost use Rattle.cfg_json.specs.Configs.{Config};
 ghost use Rattle.cfg_json.specs.Verdicts.{Verdict};
 ghost use Rattle.bmc_machine.specs.Histories.{Step, Configure, Plug, RefusedPlug, Unplug, standing};
 ghost use Rattle.bmc_machine.specs.Indexes.{kept};
-ghost use Rattle.bmc_machine.specs.Refusals.{refusal_of, IsLegal};
+ghost use Rattle.bmc_machine.specs.Refusals.{refusal_of, most_frus, IsLegal};
 ghost use Rattle.bmc_machine.specs.Answers.{answer_step, answer, answers, answer_of, whole_answer_of};
 
 /// Each step of a history is one that may follow those before it: items leave a legal history of a legal one,
@@ -24,6 +24,11 @@ pub fn histories_are_legal()
 pub fn frus_by_place()
     ensures one { (past : List Step) → IsLegal past → IsDistinct place_eq (map (λ fru. fru.place) (standing past).frus) }
     ensures order { (past : List Step) → IsLegal past → IsStrictlySortedBy place_cmp (map (λ fru. fru.place) (standing past).frus) }
+{}
+
+/// After a legal history at most 256 FRUs are present.
+pub fn frus_are_few()
+    ensures { (past : List Step) → IsLegal past → length (standing past).frus ≤ most_frus }
 {}
 
 /// A plug that is refused joins the history with its reason, and leaves the configurations, the FRUs that are present

@@ -8,7 +8,8 @@ mod verdicts;
 
 pub use examples::{boards_were_met, scripts_with_boards, scripts_with_configs, scripts_with_frus};
 pub use histories::{
-    frus_by_place, histories_are_legal, refused_items_are_idle, refused_plugs_are_idle,
+    frus_are_few, frus_by_place, histories_are_legal, refused_items_are_idle,
+    refused_plugs_are_idle,
 };
 pub use indexes::{indexes_are_kept, indexes_count};
 pub use verdicts::verdicts_decide;

@@ -1,7 +1,6 @@
 -- A run of the machine over the outside, so far.
 use Rattle.std.proofs.Common.{◌≡◌, ◌<◌, ◌≤◌, ◌+◌, ℕ, List, [], ◌∷◌, ◌++◌, length, map, Bool, true, false, ◌||◌, Option, Some, None, Ok, Err, refl, ap, sym, ◌∙◌}
 use Rattle.std.proofs.Common.{subst, subst₂, arith, append_assoc, append-nil, length-append, string_bytes}
-use Rattle.std.specs.Prelude.{⊤}
 use Rattle.std.specs.Io.KnownBytes.{Consumes, IsAtEnd}
 use Rattle.std.proofs.KnownBytes.{Consumes-nil, Consumes-trans}
 use Rattle.bmc_base.specs.Calls.{Calls}
@@ -23,9 +22,9 @@ use Rattle.bmc_report.specs.Rows.{fru_row}
 use Rattle.cfg_json.specs.Configs.{Config}
 use Rattle.pat_gate.specs.Makers.{Maker}
 use Rattle.cfg_json.specs.Verdicts.{Verdict, large_in}
-use Rattle.bmc_machine.specs.Standings.{Fru, Standing, fields_of}
+use Rattle.bmc_machine.specs.Standings.{Fru, fields_of}
 use Rattle.bmc_machine.specs.Histories.{standing}
-use Rattle.bmc_machine.specs.Ties.{IsTied, AreTied, large_texts}
+use Rattle.bmc_machine.specs.Ties.{AreTied, large_texts}
 use Rattle.bmc_machine.specs.Answers.{Answer, silent, answer, answers, and_then, answer_of, out, with_list, final_list}
 use Rattle.bmc_replay.specs.declared.run.Run.{Run}
 use Rattle.bmc_replay.specs.declared.stop.Stop.{Stop}

@@ -1,18 +1,16 @@
 -- Lists that grow by one element at a time.
-use Rattle.std.proofs.Common.{◌≡◌, ℕ, ◌+◌, ◌<◌, List, [], ◌∷◌, ◌++◌, map, take, length, get_or, Bool, Option, Some, refl, ap, sym, ◌∙◌, append_assoc}
+use Rattle.std.proofs.Common.{◌≡◌, ℕ, ◌+◌, ◌<◌, List, [], ◌∷◌, ◌++◌, map, take, length, get_or, Bool, Option, Some, ap, sym, ◌∙◌, append_assoc}
 use Rattle.std.proofs.Common.{append-nil, slice_get, option_map}
 use Rattle.std.specs.Option.{unwrap_or}
 use Rattle.std.specs.List.{flat_map}
 use Rattle.std.proofs.lemmas.List.{take_more, map-append}
 use Rattle.std.proofs.lemmas.Grind.{flat_map-append}
 use Rattle.bmc_base.specs.Places.{Place}
-use Rattle.cfg_json.specs.Configs.{Config, fixed_in}
-use Rattle.cfg_json.specs.declared.expose.Expose.{Expose}
+use Rattle.cfg_json.specs.Configs.{Config}
 use Rattle.inventory.specs.Indexes.{index_in}
 use Rattle.inventory.specs.declared.board.BoardKey.{BoardKey}
 use Rattle.bmc_report.specs.declared.change.Change.{Change}
 use Rattle.bmc_report.specs.declared.change.Change.TheVariants.{Board}
-use Rattle.bmc_machine.specs.Boards.{name_of}
 use Rattle.bmc_machine.specs.Changes.{board_change}
 
 -- what each element adds

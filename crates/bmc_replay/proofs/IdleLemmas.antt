@@ -1,5 +1,6 @@
 -- FRUs without hits and channels change nothing that is found, reachable or a board.
-use Rattle.std.proofs.Common.{◌≡◌, ℕ, ◌+◌, List, [], ◌∷◌, ◌++◌, map, length, Bool, true, false, cond, not, ◌==◌, ◌&&◌, ◌||◌, nat_eq, Option, append_assoc, arith}
+use Rattle.std.proofs.Common.{◌≡◌, ℕ, ◌+◌, List, [], ◌∷◌, ◌++◌, map, length, Bool, true, false, cond, not, ◌==◌, ◌&&◌, ◌||◌, nat_eq, Option}
+use Rattle.std.proofs.Common.{append_assoc, arith}
 use Rattle.std.proofs.Common.{refl, ap, ap₂, sym, ◌∙◌, inl}
 use Rattle.std.specs.Prelude.{slice_get, option_map}
 use Rattle.std.specs.List.{list_any, flat_map, range_with_len}
@@ -100,7 +101,8 @@ module _ (entry : Entry) (hits : entry.hits ≡ []) (channels : entry.channels �
           → list_any test (on_buses buses (map entry_sight (front ++ entry ∷ back))) ≡ list_any test (on_buses buses (map entry_sight (front ++ back)))
           → list_any test (cond is_on (entry_sight other ∷ on_buses buses (map entry_sight (front ++ entry ∷ back)))
           (on_buses buses (map entry_sight (front ++ entry ∷ back))))
-          ≡ list_any test (cond is_on (entry_sight other ∷ on_buses buses (map entry_sight (front ++ back))) (on_buses buses (map entry_sight (front ++ back))))
+          ≡ list_any test (cond is_on (entry_sight other ∷ on_buses buses (map entry_sight (front ++ back))) (on_buses buses (map entry_sight
+          (front ++ back))))
       by true rest = ap (λ (later : Bool). test (entry_sight other) || later) rest
       by false rest = rest
 

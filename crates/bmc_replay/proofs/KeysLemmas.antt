@@ -1,10 +1,10 @@
 -- The boards that go and those that are new, by configuration.
 use Rattle.std.proofs.Common.{◌≡◌, ℕ, zero, suc, ◌+◌, ◌<◌, ◌≤◌, List, [], ◌∷◌, ◌++◌, map, filter, length, Bool, true, false, cond, nat_eq, Option}
-use Rattle.std.proofs.Common.{Some, None, refl, ap, ap₂, sym}
-use Rattle.std.proofs.Common.{◌∙◌, arith, subst, append-nil, slice_get, option_map}
+use Rattle.std.proofs.Common.{refl, ap, ap₂, sym}
+use Rattle.std.proofs.Common.{◌∙◌, arith, append-nil, option_map}
 use Rattle.std.specs.Prelude.{nat_lt, ◌≢◌}
 use Rattle.std.specs.Option.{unwrap_or}
-use Rattle.std.specs.List.{All, flat_map, range_with_len}
+use Rattle.std.specs.List.{flat_map, range_with_len}
 use Rattle.std.proofs.lemmas.Bool.{eq-eqb, eqb-true, false_from_ne_true}
 use Rattle.std.proofs.lemmas.Bool.Decides.{nat_tests}
 use Rattle.std.proofs.lemmas.List.{map-append}
@@ -21,7 +21,7 @@ use Rattle.inventory.specs.declared.board.BoardKey.{BoardKey}
 use Rattle.bmc_report.specs.declared.change.Change.{Change}
 use Rattle.bmc_report.specs.declared.change.Change.TheVariants.{Board}
 use Rattle.bmc_machine.specs.Boards.{name_of}
-use Rattle.bmc_machine.specs.Changes.{Inventory, board_change, boards_left, changes_between}
+use Rattle.bmc_machine.specs.Changes.{board_change, boards_left, changes_between}
 use Rattle.bmc_replay.specs.States.{View, view_boards, view_inventory, Moves}
 use Rattle.bmc_replay.specs.Changes.{IsDifference, AreWithin, Tells}
 

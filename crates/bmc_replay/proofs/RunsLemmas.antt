@@ -2,7 +2,7 @@
 use Rattle.std.proofs.Common.{◌≡◌, ℕ, List, [], ◌∷◌, ◌++◌, Bool, Option, Some, None, Ok, Err, refl, ap, ap₂, sym, subst, ◌∙◌, append-nil, string_bytes}
 use Rattle.std.specs.Prelude.{◌+◌, ◌||◌, ◌≢◌, Result}
 use Rattle.std.specs.List.{flat_map}
-use Rattle.bmc_text.specs.Items.{Item, Line, LineTooLong, Block, BlockTooLong, BlockShort}
+use Rattle.bmc_text.specs.Items.{Item, Line, Block}
 use Rattle.pat_gate.specs.Makers.{Maker}
 use Rattle.cfg_json.specs.Configs.{Config}
 use Rattle.cfg_json.specs.Documents.{config_read}
@@ -16,19 +16,18 @@ use Rattle.bmc_script.specs.declared.command.Command.{Command}
 use Rattle.bmc_script.specs.declared.command.ScriptFault.{ScriptFault}
 use Rattle.bmc_report.specs.Refusals.{refused_line}
 use Rattle.bmc_report.specs.Changes.{change_line}
-use Rattle.bmc_report.specs.declared.change.Change.{Change}
 use Rattle.bmc_report.specs.declared.refusal.Refusal.{Refusal}
 use Rattle.bmc_report.specs.declared.refusal.Refusal.TheVariants.{UnknownCommand}
-use Rattle.bmc_machine.specs.Histories.{Step, Configure, standing}
-use Rattle.bmc_machine.specs.Refusals.{config_refusal, refusal_of}
+use Rattle.bmc_machine.specs.Histories.{Step, Configure}
+use Rattle.bmc_machine.specs.Refusals.{config_refusal}
 use Rattle.bmc_machine.specs.Answers.{Answer, silent, refusing, answer_by, answer_step, answer_command, answer_broken, answer_config, answer}
-use Rattle.bmc_machine.specs.Ties.{IsTied, AreTied, large_texts}
+use Rattle.bmc_machine.specs.Ties.{IsTied}
 use Rattle.bmc_replay.specs.States.{View, Stands}
-use Rattle.bmc_replay.specs.Steps.{Accepts, Refuses, IsTried, Tries}
+use Rattle.bmc_replay.specs.Steps.{IsTried, Tries}
 use Rattle.bmc_replay.specs.declared.run.Run.{Run}
 use Rattle.bmc_replay.specs.declared.run.Effect.{Effect}
 use Rattle.bmc_replay.specs.declared.run.Effect.TheVariants.{Nothing, Changed, Refused}
-use Rattle.bmc_replay.specs.Runs.{effect_text, effect_of, is_refused, IsAnswer, Answers, IsVerdict, AnswersItem, AnswersNext, LeavesItem, LeavesNext}
+use Rattle.bmc_replay.specs.Runs.{effect_text, effect_of, IsAnswer, Answers, IsVerdict, AnswersItem, AnswersNext, LeavesItem, LeavesNext}
 use Rattle.bmc_replay.specs.Runs.{CountsItem, TakesItem}
 
 -- nothing comes of it

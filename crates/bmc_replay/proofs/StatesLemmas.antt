@@ -1,11 +1,8 @@
 -- What is known stands for a history, before a step and after it.
-use Rattle.std.proofs.Common.{◌≡◌, ℕ, List, [], ◌∷◌, ◌++◌, map, filter, Bool, true, false, not, cond, Option, Some, None, refl, ap, ap₂, sym, subst, ◌∙◌}
+use Rattle.std.proofs.Common.{◌≡◌, ℕ, List, [], ◌∷◌, ◌++◌, map, Bool, true, false, not, cond, Option, Some, None, refl, ap, ap₂, sym, subst, ◌∙◌}
 use Rattle.std.specs.Option.{option_eq}
-use Rattle.std.specs.Ordering.{is_lt, is_eq}
-use Rattle.bmc_base.specs.Places.{Place, place_cmp, place_eq}
-use Rattle.probe_lang.specs.Presents.{with_entry, without_entry, holds_place}
+use Rattle.bmc_base.specs.Places.{Place, place_eq}
 use Rattle.probe_lang.specs.Sights.{Sight, entry_sight}
-use Rattle.probe_lang.specs.declared.rows.Entry.{Entry}
 use Rattle.cfg_json.specs.Configs.{Config}
 use Rattle.match_rows.proofs.MatchingLemmas.{entry_sight_is}
 use Rattle.inventory.specs.Boards.{boards_in, has_board}
@@ -14,18 +11,17 @@ use Rattle.inventory.proofs.BoardLemmas.{all_pass}
 use Rattle.inventory.proofs.IndexesLemmas.{with_boards_distinct}
 use Rattle.inventory.proofs.ListLemmas.{distinct_filter}
 use Rattle.bmc_report.specs.declared.refusal.Refusal.{Refusal}
-use Rattle.bmc_report.specs.declared.change.Change.{Change}
-use Rattle.bmc_machine.specs.Standings.{Fru, Standing, fields_of, put, without, is_present, is_at}
-use Rattle.bmc_machine.specs.Boards.{sights_of, sights, boards}
+use Rattle.bmc_machine.specs.Standings.{Fru, Standing, fields_of}
+use Rattle.bmc_machine.specs.Boards.{sights_of, boards}
 use Rattle.bmc_machine.specs.Histories.{Step, Configure, Plug, RefusedPlug, Unplug, standing}
 use Rattle.bmc_machine.specs.Indexes.{kept}
 use Rattle.bmc_machine.specs.Refusals.{refusal_of, IsLegalStep, IsLegal}
-use Rattle.bmc_machine.specs.Changes.{Inventory, inventory, changes_between, changes}
+use Rattle.bmc_machine.specs.Changes.{inventory, changes_between}
 use Rattle.bmc_machine.specs.Answers.{past_refused}
 use Rattle.bmc_machine.proofs.IndexLemmas.{kept_next, kept_now, kept_idle}
 use Rattle.bmc_machine.proofs.MeetingLemmas.{boards_differ}
 use Rattle.bmc_replay.specs.States.{View, no_view, fru_entry, view_boards, view_inventory, Stands, Moves}
-use Rattle.bmc_replay.specs.Steps.{Accepts, Refuses, Tries}
+use Rattle.bmc_replay.specs.Steps.{Accepts, Tries}
 
 pub stands_none : Stands no_view []
 unfolding standing kept IsLegal

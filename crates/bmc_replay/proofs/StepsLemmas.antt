@@ -1,10 +1,10 @@
 -- What each kind of step leaves.
 use Rattle.std.proofs.Common.{◌≡◌, ℕ, List, [], ◌∷◌, ◌++◌, map, length, Bool, true, false, not, cond, Option, Some, None, Ok, Err, refl, ap, ap₂, sym, ◌∙◌}
-use Rattle.std.specs.Prelude.{Result, nat_le, is_some, ◌||◌, ◌==◌}
+use Rattle.std.specs.Prelude.{Result, nat_le, is_some, ◌||◌}
 use Rattle.std.specs.Ordering.{is_lt, is_eq}
 use Rattle.std.proofs.lemmas.List.{length-map}
 use Rattle.bmc_base.specs.Places.{Place, place_cmp}
-use Rattle.fru_area.specs.Readings.{GivesFault, checked}
+use Rattle.fru_area.specs.Readings.{GivesFault}
 use Rattle.fru_area.specs.declared.field.Field.{Field}
 use Rattle.fru_area.specs.declared.fault.FruFault.{FruFault}
 use Rattle.fru_area.specs.declared.fault.FruFault.TheVariants as rules
@@ -16,7 +16,7 @@ use Rattle.cfg_json.specs.Shelves.{number_of, most_configs}
 use Rattle.match_rows.specs.Matching.{entry_of}
 use Rattle.bmc_report.specs.declared.refusal.Refusal.{Refusal}
 use Rattle.bmc_report.specs.declared.refusal.Refusal.TheVariants.{ConfigAfterPlug, DuplicateName, ConfigLimit, Occupied, FruLimit, NotPresent}
-use Rattle.bmc_machine.specs.Standings.{Fru, Standing, fields_in, fields_of, put, without, is_present}
+use Rattle.bmc_machine.specs.Standings.{Fru, fields_in, put, without, is_present}
 use Rattle.bmc_machine.specs.Histories.{Step, Configure, Plug, Unplug, standing}
 use Rattle.bmc_machine.specs.Refusals.{record_refusal, plug_refusal, most_frus, refusal_of}
 use Rattle.bmc_replay.specs.States.{View, fru_entry, Stands, Moves}

@@ -1,5 +1,5 @@
 -- The changes of boards, before and after they are taken over.
-use Rattle.std.specs.Prelude.{ℕ, ◌≡◌, ◌+◌, ◌≤◌, ◌<◌, ◌++◌, true, false, List, map, length, Option, Some, IsSomeAnd}
+use Rattle.std.specs.Prelude.{ℕ, ◌≡◌, ◌+◌, ◌≤◌, ◌<◌, ◌++◌, true, false, List, map, length, Option, IsSomeAnd}
 use Rattle.std.specs.List.{All}
 use Rattle.bmc_base.specs.Places.{Place}
 use Rattle.cfg_json.specs.Configs.{Config}

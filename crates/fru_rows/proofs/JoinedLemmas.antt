@@ -1,8 +1,9 @@
 -- Two lists of entries, joined by place.
-use Rattle.std.proofs.Common.{◌≡◌, ◌∙◌, suc, ◌+◌, length, Bool, true, false, not, cond, ◌||◌, List, [], ◌∷◌, filter, Option, Some, None, refl, sym, ap, ap₂, subst, arith}
+use Rattle.std.proofs.Common.{◌≡◌, ◌∙◌, suc, ◌+◌, length, Bool, true, false, not, cond, ◌||◌, List, [], ◌∷◌, filter, Option, Some, None, refl, sym}
+use Rattle.std.proofs.Common.{ap, subst, arith}
 use Rattle.std.specs.Global.{Box}
 use Rattle.std.specs.Option.{is_some}
-use Rattle.std.specs.List.{list_all, list_any, find}
+use Rattle.std.specs.List.{list_all, find}
 use Rattle.std.specs.Ordering.{is_lt, is_eq, ordering_reverse}
 use Rattle.std.specs.declared.cmp.Ordering.{Ordering}
 use Rattle.std.specs.declared.cmp.Ordering.TheVariants.{Less, Equal, Greater}
@@ -100,7 +101,9 @@ holds_with entry (other ∷ entries) place = by (is_before entry.place other.pla
         → holds_place (cond first (entry ∷ other ∷ entries) (other ∷ with_entry entry entries)) place
         ≡ (is_entry_at place entry || (is_entry_at place other || holds_place entries place))
     by true rest = refl
-    by false rest = ap (λ (later : Bool). is_entry_at place other || later) rest ∙ swap (is_entry_at place other) (is_entry_at place entry) (holds_place entries place)
+    by false rest =
+        ap (λ (later : Bool). is_entry_at place other || later) rest
+        ∙ swap (is_entry_at place other) (is_entry_at place entry) (holds_place entries place)
 
 -- of two entries at different places it does not matter which one is put first
 with_swapped : (one two : Entry) (entries : List Entry) → is_same one.place two.place ≡ false
@@ -130,7 +133,8 @@ with_swapped one two entries differ = at entries
             → with_entry one (cond second (two ∷ entry ∷ entries) (entry ∷ with_entry two entries))
             ≡ with_entry two (cond first (one ∷ entry ∷ entries) (entry ∷ with_entry one entries))
         by true before true before_too rest =
-            ap (λ (later : List Entry). cond (is_before one.place two.place) (one ∷ two ∷ entry ∷ entries) (two ∷ later)) (front one entry entries true before)
+            ap (λ (later : List Entry). cond (is_before one.place two.place) (one ∷ two ∷ entry ∷ entries) (two ∷ later))
+            (front one entry entries true before)
             ∙ both (entry ∷ entries) (is_before one.place two.place) refl
             ∙ sym (ap (λ (later : List Entry). cond (is_before two.place one.place) (two ∷ one ∷ entry ∷ entries) (one ∷ later))
             (front two entry entries true before_too))

@@ -1,5 +1,5 @@
 -- The busy entries in one list, and the idle ones in another.
-use Rattle.std.proofs.Common.{◌≡◌, ◌∙◌, ℕ, ◌<◌, min, Bool, true, false, not, cond, ◌||◌, List, [], ◌∷◌, filter, refl, sym, ap, ap₂, arith}
+use Rattle.std.proofs.Common.{◌≡◌, ◌∙◌, ℕ, ◌<◌, min, Bool, true, false, not, cond, ◌||◌, List, [], ◌∷◌, refl, sym, ap, ap₂, arith}
 use Rattle.std.specs.List.{list_all}
 use Rattle.std.proofs.Math.Nat.{min-le_left, min-le_right}
 use Rattle.std.proofs.lemmas.Bool.{and_parts, and_from, or_parts, or_from}

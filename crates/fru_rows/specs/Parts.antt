@@ -1,8 +1,8 @@
 -- Entries in two lists.
-use Rattle.std.specs.Prelude.{ℕ, ◌≡◌, Bool, true, false, not, min, List, [], ◌∷◌}
+use Rattle.std.specs.Prelude.{◌≡◌, Bool, true, false, not, min, List, [], ◌∷◌}
 use Rattle.std.specs.List.{list_all}
 use Rattle.std.specs.Ordering.{is_lt}
-use Rattle.bmc_base.specs.Places.{Place, place_cmp}
+use Rattle.bmc_base.specs.Places.{place_cmp}
 use Rattle.probe_lang.specs.declared.rows.Entry.{Entry}
 use Rattle.probe_lang.specs.Presents.{holds_place, with_entry, are_by_place}
 use Rattle.match_rows.specs.Rows.{RowsView}

@@ -1,4 +1,4 @@
-use Rattle.std.proofs.Common.{◌≡◌, ◌∙◌, List, [], map, true, refl, ap, ap₂, sym, subst, append-nil, inl}
+use Rattle.std.proofs.Common.{◌≡◌, ◌∙◌, List, [], true, refl, ap, ap₂, sym, subst, append-nil, inl}
 use Rattle.probe_lang.specs.declared.rows.Entry.{Entry}
 use Rattle.bmc_replay.specs.States.{View}
 use Rattle.bmc_replay.specs.Steps.{AddsFru}
@@ -12,21 +12,23 @@ use Rattle.inventory.specs.Indexes.{kept_of}
 use Rattle.found_set.specs.Rows.{row_of, sights_of}
 use Rattle.found_set.specs.Events.{PlugEvent}
 use Rattle.bmc_replay.proofs.KeysLemmas.{moves}
-use Rattle.bmc_replay.proofs.BusyLemmas.{busy_among}
-use Rattle.bmc_replay.proofs.IdleLemmas.{idle_boards, idle_moves}
-use Rattle.bmc_replay.proofs.EventsLemmas.{on_err, new_place, known_entry, free_there, plug_among, busy_plugged, difference_is, gone_within, staged_within, tells_those}
+use Rattle.bmc_replay.proofs.EventsLemmas.{on_err, new_place, known_entry, free_there, plug_among, busy_plugged, difference_is, gone_within}
+use Rattle.bmc_replay.proofs.EventsLemmas.{staged_within, tells_those}
 use Rattle.bmc_replay.proofs.EventsLemmas.{set_after, rows_plugged}
 use Rattle.bmc_replay.proofs.state.State.add_busy.Goals as goal
 
 pub prepare_plug-requires-clause-new : goal.prepare_plug-requires-clause-new
 prepare_plug-requires-clause-new g c =
-    new_place c.self.inside.set.rows c.self.inside.rows.entries c.deref-entry.result.now c.self.inside.shelf c.args.boxed.value.place c.args.boxed.value.fru c.self.invariant.rows
-    (c.deref-entry.ensures ∙ c.requires.known ∙ ap (λ (view : View). entry_of view.configs c.args.boxed.value.place c.args.boxed.value.fru) (sym c.self.view_is)) (ap (λ (view : View). holds_place view.entries c.args.boxed.value.place) c.self.view_is ∙ c.requires.free)
+    new_place c.self.inside.set.rows c.self.inside.rows.entries c.deref-entry.result.now c.self.inside.shelf c.args.boxed.value.place
+    c.args.boxed.value.fru c.self.invariant.rows
+    (c.deref-entry.ensures ∙ c.requires.known ∙ ap (λ (view : View). entry_of view.configs c.args.boxed.value.place c.args.boxed.value.fru) (sym
+    c.self.view_is)) (ap (λ (view : View). holds_place view.entries c.args.boxed.value.place) c.self.view_is ∙ c.requires.free)
 
 pub prepare_plug-requires-clause-known : goal.prepare_plug-requires-clause-known
 prepare_plug-requires-clause-known g c =
     known_entry c.self.inside.set.rules c.self.inside.shelf c.deref-entry.result.now c.args.boxed.value.place c.args.boxed.value.fru c.self.invariant.rules
-    (c.deref-entry.ensures ∙ c.requires.known ∙ ap (λ (view : View). entry_of view.configs c.args.boxed.value.place c.args.boxed.value.fru) (sym c.self.view_is))
+    (c.deref-entry.ensures ∙ c.requires.known ∙ ap (λ (view : View). entry_of view.configs c.args.boxed.value.place c.args.boxed.value.fru) (sym
+    c.self.view_is))
 
 pub with-after-requires-clause-free : goal.with-after-requires-clause-free
 with-after-requires-clause-free g c =
@@ -119,7 +121,8 @@ returns-clause-ok g c =
     subst (λ (view : View). AddsFru c.args.boxed.value.place c.args.boxed.value.fru view new) c.self.view_is (record {
       configs = refl;
       entries = now ∙ ap (λ (entry : Entry). with_entry entry c.self.inside.rows.entries)
-          (c.deref-entry.ensures ∙ c.requires.known ∙ ap (λ (view : View). entry_of view.configs c.args.boxed.value.place c.args.boxed.value.fru) (sym c.self.view_is));
+          (c.deref-entry.ensures ∙ c.requires.known ∙ ap (λ (view : View). entry_of view.configs c.args.boxed.value.place c.args.boxed.value.fru)
+          (sym c.self.view_is));
       plugged = refl;
       moves =
           moves old new [] _ _ _ _ _ (sym (append-nil c.self.inside.shelf))

@@ -1,20 +1,13 @@
-use Rattle.std.proofs.Common.{◌≡◌, ◌∙◌, List, [], map, true, refl, ap, ap₂, sym, subst, append-nil, inl}
+use Rattle.std.proofs.Common.{◌≡◌, ◌∙◌, map, true, refl, ap, sym, subst}
 use Rattle.probe_lang.specs.declared.rows.Entry.{Entry}
 use Rattle.bmc_replay.specs.States.{View}
 use Rattle.bmc_replay.specs.Steps.{AddsFru}
-use Rattle.probe_lang.specs.Presents.{with_entry, are_by_place, holds_place}
-use Rattle.fru_rows.specs.Idle.{is_idle, busy}
-use Rattle.found_set.specs.Found.{facts}
-use Rattle.found_set.specs.Sets.{SetView}
-use Rattle.found_set.specs.declared.next_facts.NextFacts.{NextFacts}
-use Rattle.inventory.specs.Indexes.{kept_of}
-use Rattle.found_set.specs.Rows.{row_of, sights_of}
-use Rattle.found_set.specs.Events.{PlugEvent}
-use Rattle.bmc_replay.proofs.KeysLemmas.{moves}
+use Rattle.probe_lang.specs.Presents.{with_entry}
+use Rattle.fru_rows.specs.Idle.{is_idle}
+use Rattle.found_set.specs.Rows.{row_of}
 use Rattle.bmc_replay.proofs.BusyLemmas.{busy_among}
 use Rattle.bmc_replay.proofs.IdleLemmas.{idle_boards, idle_moves}
-use Rattle.bmc_replay.proofs.EventsLemmas.{on_err, new_place, known_entry, free_there, plug_among, busy_plugged, difference_is, gone_within, staged_within, tells_those}
-use Rattle.bmc_replay.proofs.EventsLemmas.{set_after, rows_plugged}
+use Rattle.bmc_replay.proofs.EventsLemmas.{plug_among}
 use Rattle.bmc_replay.proofs.state.State.add_fru.Goals as goal
 
 pub invariant_of-self-2 : goal.invariant_of-self-2

@@ -22,7 +22,8 @@ use Rattle.bmc_replay.proofs.state.State.configure.Goals as goal
 pub prepare_config-requires-clause-new : goal.prepare_config-requires-clause-new
 prepare_config-requires-clause-new g c =
     new_name c.self.inside.set.rules c.self.inside.shelf c.name-2.result c.args.config c.self.invariant.rules c.name-2.ensures
-    (no_number c.self.inside.shelf c.name.result c.args.config c.position.result c.position.ensures c.name.ensures (sym c.is_some.ensures ∙ c.if-is_some.false))
+    (no_number c.self.inside.shelf c.name.result c.args.config c.position.result c.position.ensures c.name.ensures (sym c.is_some.ensures ∙
+    c.if-is_some.false))
 
 pub returns-in_err-gone-clause-same : goal.returns-in_err-gone-clause-same
 returns-in_err-gone-clause-same g c =
@@ -99,7 +100,8 @@ returns-clause-tried g c =
     } in
     subst (λ (view : View). Tries view (Configure c.args.config) None new) c.self.view_is
     (configured old new c.args.config c.if-self.false (no_entries c.self.inside.plugged c.self.inside.rows.entries c.if-self.false c.self.invariant.none)
-    (no_number c.self.inside.shelf c.name.result c.args.config c.position.result c.position.ensures c.name.ensures (sym c.is_some.ensures ∙ c.if-is_some.false))
+    (no_number c.self.inside.shelf c.name.result c.args.config c.position.result c.position.ensures c.name.ensures (sym c.is_some.ensures ∙
+    c.if-is_some.false))
     (lt-leb most_configs (length c.self.inside.shelf) (omega (arith, c.len.ensures.value, c.if-len-ge-MOST_CONFIGS.false))) c.in_ok-add.ensures.ok refl refl
     (moves old new (c.args.config ∷ []) _ _ _ _ _ c.in_ok-add.ensures.ok (subst (λ (configs : List Config). IsDifference
     (length c.self.inside.shelf) (length configs) (boards_in c.self.inside.shelf (map entry_sight c.self.inside.rows.entries))

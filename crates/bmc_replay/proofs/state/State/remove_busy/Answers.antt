@@ -1,21 +1,18 @@
-use Rattle.std.proofs.Common.{◌∙◌, [], map, find, option_map, Option, None, refl, ap, sym, subst, append-nil, inr, true}
+use Rattle.std.proofs.Common.{◌∙◌, [], find, option_map, refl, ap, sym, subst, append-nil, inr}
 use Rattle.probe_lang.specs.Presents.{without_entry, is_entry_at, are_by_place}
 use Rattle.fru_rows.specs.Idle.{busy}
 use Rattle.found_set.specs.Found.{facts}
-use Rattle.found_set.specs.Rows.{row_of, sights_of}
+use Rattle.found_set.specs.Rows.{sights_of}
 use Rattle.found_set.specs.Events.{UnplugEvent}
 use Rattle.found_set.specs.Sets.{SetView}
 use Rattle.found_set.specs.declared.next_facts.NextFacts.{NextFacts}
 use Rattle.inventory.specs.Indexes.{kept_of}
-use Rattle.bmc_report.specs.declared.refusal.Refusal.{Refusal}
-use Rattle.bmc_machine.specs.Histories.{Unplug}
 use Rattle.bmc_replay.specs.States.{View}
 use Rattle.bmc_replay.specs.Steps.{RemovesFru}
 use Rattle.bmc_replay.proofs.KeysLemmas.{moves}
-use Rattle.bmc_replay.proofs.StepsLemmas.{not_present, unplugged}
-use Rattle.bmc_replay.proofs.BusyLemmas.{busy_among, busy_found, busy_without}
-use Rattle.bmc_replay.proofs.IdleLemmas.{idle_boards, idle_moves}
-use Rattle.bmc_replay.proofs.EventsLemmas.{on_err, busy_at, busy_none, held_place, unplug_among, difference_is, gone_within, staged_within, tells_those, set_after}
+use Rattle.bmc_replay.proofs.BusyLemmas.{busy_found, busy_without}
+use Rattle.bmc_replay.proofs.EventsLemmas.{on_err, busy_at, busy_none, held_place, unplug_among, difference_is, gone_within, staged_within}
+use Rattle.bmc_replay.proofs.EventsLemmas.{tells_those, set_after}
 use Rattle.bmc_replay.proofs.EventsLemmas.{rows_unplugged, none_left}
 use Rattle.bmc_replay.proofs.state.State.remove_busy.Goals as goal
 
@@ -29,7 +26,8 @@ pub difference_by-requires : goal.difference_by-requires
 difference_by-requires g c =
     inr (unplug_among c.args.place c.in-Some.entry.now (busy c.self.inside.rows.entries) c.of-before.result.entries c.without-after.result.entries
     (ap are_by_place (sym c.busy.ensures.value) ∙ c.busy.ensures.order)
-    (busy_found c.args.place c.in-Some.entry.now c.self.inside.rows.entries (sym c.in-Some.ensures.value) (busy_at (find (is_entry_at c.args.place) c.args.self.now.entries) c.in-Some.entry.now
+    (busy_found c.args.place c.in-Some.entry.now c.self.inside.rows.entries (sym c.in-Some.ensures.value) (busy_at (find (is_entry_at c.args.place)
+    c.args.self.now.entries) c.in-Some.entry.now
     (c.in-Some.ensures.value ∙ ap (λ (view : View). find (is_entry_at c.args.place) view.entries) c.self.view_is) c.requires))
     (c.of-before.ensures.entries ∙ c.busy.ensures.value)
     (c.without-after.ensures.entries ∙ ap (without_entry c.args.place) c.busy-2.ensures.value))

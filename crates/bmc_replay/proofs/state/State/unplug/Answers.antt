@@ -1,22 +1,15 @@
-use Rattle.std.proofs.Common.{◌∙◌, [], map, find, Option, None, refl, ap, sym, subst, append-nil, inr, true}
-use Rattle.probe_lang.specs.Presents.{without_entry, is_entry_at, holds_place, are_by_place}
-use Rattle.fru_rows.specs.Idle.{busy}
-use Rattle.found_set.specs.Found.{facts}
-use Rattle.found_set.specs.Rows.{row_of, sights_of}
-use Rattle.found_set.specs.Events.{UnplugEvent}
-use Rattle.found_set.specs.Sets.{SetView}
-use Rattle.found_set.specs.declared.next_facts.NextFacts.{NextFacts}
-use Rattle.inventory.specs.Indexes.{kept_of}
+use Rattle.std.proofs.Common.{◌∙◌, map, Option, None, refl, ap, sym, subst}
+use Rattle.probe_lang.specs.Presents.{holds_place}
+use Rattle.found_set.specs.Rows.{row_of}
 use Rattle.bmc_report.specs.declared.refusal.Refusal.{Refusal}
 use Rattle.bmc_machine.specs.Histories.{Unplug}
 use Rattle.bmc_replay.specs.States.{View}
 use Rattle.bmc_replay.specs.Steps.{Tries}
-use Rattle.bmc_replay.proofs.KeysLemmas.{moves}
 use Rattle.bmc_replay.proofs.StepsLemmas.{not_present, unplugged}
-use Rattle.bmc_replay.proofs.BusyLemmas.{busy_among, busy_found, busy_without}
+use Rattle.bmc_replay.proofs.BusyLemmas.{busy_among}
 use Rattle.bmc_replay.proofs.IdleLemmas.{idle_boards, idle_moves}
-use Rattle.bmc_replay.proofs.EventsLemmas.{on_err, held_place, unplug_among, difference_is, gone_within, staged_within, tells_those, set_after}
-use Rattle.bmc_replay.proofs.EventsLemmas.{rows_unplugged, none_left}
+use Rattle.bmc_replay.proofs.EventsLemmas.{unplug_among}
+use Rattle.bmc_replay.proofs.EventsLemmas.{none_left}
 use Rattle.bmc_replay.proofs.state.State.unplug.Goals as goal
 
 pub returns-in_default-clause-tried : goal.returns-in_default-clause-tried
@@ -65,7 +58,8 @@ returns-then-is_idle-clause-tried g c =
       plugged = refl;
       moves =
           idle_moves old new refl (λ number. sym (idle_boards c.self.inside.shelf c.in-Some.entry.now c.unplug.new.self.entries c.self.inside.rows.entries
-          (unplug_among c.args.place c.in-Some.entry.now c.self.inside.rows.entries c.self.inside.rows.entries c.unplug.new.self.entries c.in-Some.ensures.order
+          (unplug_among c.args.place c.in-Some.entry.now c.self.inside.rows.entries c.self.inside.rows.entries c.unplug.new.self.entries
+          c.in-Some.ensures.order
           (sym c.in-Some.ensures.value) refl c.unplug.ensures.entries)
           (sym c.is_idle.ensures ∙ c.if-is_idle.true) number)) refl c.clear.ensures.items;
     }))

@@ -1,4 +1,4 @@
-use Rattle.std.proofs.Common.{◌≡◌, ◌∙◌, ◌∷◌, List, sym, ap}
+use Rattle.std.proofs.Common.{◌∙◌, ◌∷◌, sym, ap}
 use Rattle.probe_lang.specs.declared.rows.Entry.{Entry}
 use Rattle.probe_lang.specs.Presents.{unboxed}
 use Rattle.fru_rows.specs.Parts.{joined}
