@@ -5,10 +5,11 @@ use Rattle.fru_area.specs.declared.fault.Area.TheVariants.{Chassis, Board, Produ
 use Rattle.bmc_report.specs.declared.refusal.Refusal.{Refusal}
 use Rattle.bmc_report.specs.declared.refusal.Refusal.TheVariants.{UnknownCommand, ConfigTooLong, ConfigShort}
 use Rattle.bmc_report.specs.declared.refusal.Refusal.TheVariants.{NotJson, Fraction, MissingKey, WrongKind, OutOfRange, ProbeSyntax, ExposeForm}
-use Rattle.bmc_report.specs.declared.refusal.Refusal.TheVariants.{PatternSyntax, PatternTooLarge}
+use Rattle.bmc_report.specs.declared.refusal.Refusal.TheVariants.{TemplateSyntax, MuxMatchOne, PatternSyntax, PatternTooLarge}
 use Rattle.bmc_report.specs.declared.refusal.Refusal.TheVariants.{ConfigAfterPlug, DuplicateName, ConfigLimit, Occupied}
 use Rattle.bmc_report.specs.declared.refusal.Refusal.TheVariants.{FruShort, FruTooLong, HeaderVersion, HeaderChecksum}
-use Rattle.bmc_report.specs.declared.refusal.Refusal.TheVariants.{AreaOutside, AreaVersion, AreaLength, AreaChecksum, FieldOutside, NoEnd, FruLimit, NotPresent}
+use Rattle.bmc_report.specs.declared.refusal.Refusal.TheVariants.{AreaOutside, AreaVersion, AreaLength, AreaChecksum, FieldOutside, NoEnd}
+use Rattle.bmc_report.specs.declared.refusal.Refusal.TheVariants.{FruLimit, BoardLimit, SensorLimit, ZoneLimit, FanLimit, PidLimit, StepLimit, NotPresent}
 
 -- the name of an area
 unfoldable pub area_text : Area → List ℕ
@@ -28,6 +29,8 @@ refusal_name WrongKind = codes "WrongKind"
 refusal_name OutOfRange = codes "OutOfRange"
 refusal_name ProbeSyntax = codes "ProbeSyntax"
 refusal_name ExposeForm = codes "ExposeForm"
+refusal_name TemplateSyntax = codes "TemplateSyntax"
+refusal_name MuxMatchOne = codes "MuxMatchOne"
 refusal_name PatternSyntax = codes "PatternSyntax"
 refusal_name PatternTooLarge = codes "PatternTooLarge"
 refusal_name ConfigAfterPlug = codes "ConfigAfterPlug"
@@ -45,6 +48,12 @@ refusal_name (AreaChecksum area) = codes "AreaChecksum"
 refusal_name (FieldOutside area) = codes "FieldOutside"
 refusal_name (NoEnd area) = codes "NoEnd"
 refusal_name FruLimit = codes "FruLimit"
+refusal_name BoardLimit = codes "BoardLimit"
+refusal_name SensorLimit = codes "SensorLimit"
+refusal_name ZoneLimit = codes "ZoneLimit"
+refusal_name FanLimit = codes "FanLimit"
+refusal_name PidLimit = codes "PidLimit"
+refusal_name StepLimit = codes "StepLimit"
 refusal_name NotPresent = codes "NotPresent"
 
 -- the area that breaks a rule, if the rule is one on areas

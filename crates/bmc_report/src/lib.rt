@@ -4,6 +4,7 @@
 mod change;
 mod decimal;
 mod examples;
+mod live_kind;
 mod place;
 mod quoted;
 mod refusal;
@@ -13,5 +14,6 @@ mod tests;
 
 pub use change::{Change, push_change};
 pub use examples::printed_texts;
+pub use live_kind::LiveKind;
 pub use refusal::{Refusal, push_refused_line};
 pub use row::push_fru_row;

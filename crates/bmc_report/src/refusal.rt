@@ -29,6 +29,10 @@ pub enum Refusal {
     ProbeSyntax,
     /// An expose is of a form that is not read.
     ExposeForm,
+    /// A name or a number in the document is no template, or a channel of a multiplexer asks for the index.
+    TemplateSyntax,
+    /// The probe ends with MATCH_ONE, and a channel of a multiplexer has a substitution.
+    MuxMatchOne,
     /// A text of a pattern is no regular expression, or nests too deep.
     PatternSyntax,
     /// A text of a pattern is too large to be compiled.
@@ -63,6 +67,18 @@ pub enum Refusal {
     NoEnd(Area),
     /// 256 FRUs are present already.
     FruLimit,
+    /// There would be more than 1,024 boards.
+    BoardLimit,
+    /// The boards would have more than 4,096 exposes of sensors.
+    SensorLimit,
+    /// The boards would have more than 32 exposes of fan zones.
+    ZoneLimit,
+    /// The boards would have more than 128 exposes of fans.
+    FanLimit,
+    /// The boards would have more than 128 exposes of PID controllers.
+    PidLimit,
+    /// The boards would have more than 64 exposes of stepwise controllers.
+    StepLimit,
     /// No FRU is at the place.
     NotPresent,
 }
@@ -84,6 +100,8 @@ impl Refusal {
             Refusal::OutOfRange => "OutOfRange",
             Refusal::ProbeSyntax => "ProbeSyntax",
             Refusal::ExposeForm => "ExposeForm",
+            Refusal::TemplateSyntax => "TemplateSyntax",
+            Refusal::MuxMatchOne => "MuxMatchOne",
             Refusal::PatternSyntax => "PatternSyntax",
             Refusal::PatternTooLarge => "PatternTooLarge",
             Refusal::ConfigAfterPlug => "ConfigAfterPlug",
@@ -101,6 +119,12 @@ impl Refusal {
             Refusal::FieldOutside(_) => "FieldOutside",
             Refusal::NoEnd(_) => "NoEnd",
             Refusal::FruLimit => "FruLimit",
+            Refusal::BoardLimit => "BoardLimit",
+            Refusal::SensorLimit => "SensorLimit",
+            Refusal::ZoneLimit => "ZoneLimit",
+            Refusal::FanLimit => "FanLimit",
+            Refusal::PidLimit => "PidLimit",
+            Refusal::StepLimit => "StepLimit",
             Refusal::NotPresent => "NotPresent",
         }
     }

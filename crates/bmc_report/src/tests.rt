@@ -1,4 +1,4 @@
-use crate::{Change, Refusal, push_change, push_fru_row, push_refused_line};
+use crate::{Change, LiveKind, Refusal, push_change, push_fru_row, push_refused_line};
 use bmc_base::{Name, Place};
 use fru_area::{Area, Field, FieldName, FieldText};
 use std::alloc::Global;
@@ -19,6 +19,8 @@ fn lines_of_refusals(rt: HostRuntime) -> Result<(), Fail> {
         (Refusal::OutOfRange, "OutOfRange"),
         (Refusal::ProbeSyntax, "ProbeSyntax"),
         (Refusal::ExposeForm, "ExposeForm"),
+        (Refusal::TemplateSyntax, "TemplateSyntax"),
+        (Refusal::MuxMatchOne, "MuxMatchOne"),
         (Refusal::PatternSyntax, "PatternSyntax"),
         (Refusal::PatternTooLarge, "PatternTooLarge"),
         (Refusal::ConfigAfterPlug, "ConfigAfterPlug"),
@@ -36,6 +38,12 @@ fn lines_of_refusals(rt: HostRuntime) -> Result<(), Fail> {
         (Refusal::FieldOutside(Area::Board), "FieldOutside Board"),
         (Refusal::NoEnd(Area::Product), "NoEnd Product"),
         (Refusal::FruLimit, "FruLimit"),
+        (Refusal::BoardLimit, "BoardLimit"),
+        (Refusal::SensorLimit, "SensorLimit"),
+        (Refusal::ZoneLimit, "ZoneLimit"),
+        (Refusal::FanLimit, "FanLimit"),
+        (Refusal::PidLimit, "PidLimit"),
+        (Refusal::StepLimit, "StepLimit"),
         (Refusal::NotPresent, "NotPresent"),
     ];
     for (refusal, name) in rows {
@@ -121,6 +129,35 @@ fn lines_of_changes(rt: HostRuntime) -> Result<(), Fail> {
             name: Name::new(name)?,
             index,
             place,
+        };
+        assert_printed(&rt, rt.alloc(), &change, text)?;
+        assert_printed(&rt, rt.alloc(), &change.copied(), text)?;
+    }
+    Ok(())
+}
+
+#[test]
+fn lines_of_live_items(rt: HostRuntime) -> Result<(), Fail> {
+    let rows = [
+        (true, LiveKind::Sensor, "T", "gone sensor \"T\""),
+        (
+            false,
+            LiveKind::Sensor,
+            "Card 1 Temp",
+            "new sensor \"Card 1 Temp\"",
+        ),
+        (true, LiveKind::Zone, "Z", "gone zone \"Z\""),
+        (false, LiveKind::Zone, "a\"b", "new zone \"a\\\"b\""),
+        (true, LiveKind::Fan, "Fan 1", "gone fan \"Fan 1\""),
+        (false, LiveKind::Fan, "\u{e9}", "new fan \"\u{e9}\""),
+        (true, LiveKind::Controller, "FP", "gone controller \"FP\""),
+        (false, LiveKind::Controller, "TP", "new controller \"TP\""),
+    ];
+    for (gone, kind, name, text) in rows {
+        let change = Change::Item {
+            gone,
+            kind,
+            name: Name::new(name)?,
         };
         assert_printed(&rt, rt.alloc(), &change, text)?;
         assert_printed(&rt, rt.alloc(), &change.copied(), text)?;
