@@ -1,5 +1,6 @@
 pub mod Chains
 pub mod Operations
+pub mod Numbers
 pub mod Words
 pub mod Templates
 pub mod Rendering

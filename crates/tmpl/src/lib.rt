@@ -2,6 +2,7 @@
 #![tactic(auto)]
 
 mod digits;
+mod number;
 mod operation;
 mod render;
 mod spot;
@@ -12,6 +13,7 @@ mod tests;
 mod word;
 mod worked;
 
+pub use number::fixed_number;
 pub use spot::Spot;
 pub use template::{Rendered, Template, TmplFault};
 pub use worked::{worked_kinds, worked_names, worked_numbers, worked_templates, worked_words};

@@ -1,4 +1,4 @@
-use crate::{Rendered, Spot, Template, TmplFault};
+use crate::{Rendered, Spot, Template, TmplFault, fixed_number};
 use bmc_base::Place;
 use fru_record::FruRecord;
 use std::alloc::Global;
@@ -182,6 +182,47 @@ const NUMBERS: [(&str, u32, Option<u32>); 30] = [
     ("$PRODUCT_VERSION", 255, None),
 ];
 
+// Texts, and the number that each is without substitutions.
+const FIXED: [(&str, Option<u32>); 37] = [
+    ("0", Some(0)),
+    ("007", Some(7)),
+    ("255", Some(255)),
+    ("000000001", Some(1)),
+    ("999999999", Some(999999999)),
+    ("1234567890", None),
+    ("0000000001", None),
+    ("0x4C", Some(76)),
+    ("0x4c", Some(76)),
+    ("0xaF", Some(175)),
+    ("0x0", Some(0)),
+    ("0x0000", Some(0)),
+    ("0xFFFF", Some(65535)),
+    ("0x10000", None),
+    ("0x00001", None),
+    ("0x", None),
+    ("x4C", None),
+    ("4C", None),
+    ("0X4C", None),
+    ("00x4", None),
+    ("0x4G", None),
+    ("0xg", None),
+    ("0x/", None),
+    ("0x:", None),
+    ("0x@", None),
+    ("0x`", None),
+    ("0x+4", None),
+    ("0x 4", None),
+    ("0x٣", None),
+    ("٣", None),
+    ("-1", None),
+    ("+5", None),
+    (" 5", None),
+    ("5 ", None),
+    ("", None),
+    ("$bus", None),
+    ("1_000", None),
+];
+
 // Templates, whether each is fixed, whether it is one substitution, and whether it uses the index.
 const KINDS: [(&str, bool, bool, bool); 16] = [
     ("CPU", true, false, false),
@@ -291,6 +332,14 @@ fn numbers(rt: HostRuntime) -> Result<(), Fail> {
     for (text, max, wanted) in &NUMBERS {
         let template = Template::parse(alloc, text)?;
         assert_eq!(rt; template.render_number(&spot, *max), *wanted, "{text}");
+    }
+    Ok(())
+}
+
+#[test]
+fn fixed_numbers(rt: HostRuntime) -> Result<(), Fail> {
+    for (text, wanted) in &FIXED {
+        assert_eq!(rt; fixed_number(text), *wanted, "{text}");
     }
     Ok(())
 }

@@ -3,6 +3,7 @@ ghost use Rattle.fru_area.specs.declared.fault.Area.TheVariants.{Board};
 ghost use Rattle.fru_area.specs.declared.name.FieldName.TheVariants.{Custom};
 ghost use Rattle.tmpl.specs.Templates.{Plain, Substitution, pieces_of};
 ghost use Rattle.tmpl.specs.Templates.{is_template, is_fixed, is_single, uses_index};
+ghost use Rattle.tmpl.specs.Numbers.{fixed_number};
 ghost use Rattle.tmpl.specs.Words.{word_of};
 ghost use Rattle.tmpl.specs.Worked.{bare, full, full_number};
 ghost use Rattle.tmpl.specs.declared.operation.Operator.TheVariants.{Add};
@@ -68,7 +69,8 @@ pub fn worked_names()
     ensures too_long { bare (replicate 65 65) ≡ None }
 {}
 
-/// Numbers that are rendered there, computed from the definitions.
+/// Numbers that are rendered there, and a number without substitutions, computed from the
+/// definitions.
 pub fn worked_numbers()
     ensures fixed { full_number (codes "12") 12 ≡ Some 12 }
     ensures above { full_number (codes "12") 11 ≡ None }
@@ -76,4 +78,5 @@ pub fn worked_numbers()
     ensures leading_zeros { full_number (codes "$BOARD_SERIAL_NUMBER") 127 ≡ Some 7 }
     ensures ten_digits { full_number (codes "$BOARD_PART_NUMBER") 4294967295 ≡ Some 1234567890 }
     ensures no_number { full_number (codes "$BOARD_PRODUCT_NAME") 255 ≡ None }
+    ensures hexadecimal { fixed_number (codes "0x4C") ≡ Some 76 }
 {}
