@@ -1,3 +1,4 @@
+pub mod ChannelsLemmas
 pub mod DocumentsLemmas
 pub mod FaultsLemmas
 pub mod ListsLemmas
@@ -5,4 +6,5 @@ pub mod ProbesLemmas
 pub mod ReadingsLemmas
 pub mod RulesLemmas
 pub mod ShelvesLemmas
+pub mod UnitsLemmas
 pub mod VerdictsLemmas

@@ -14,7 +14,7 @@ use Rattle.probe_lang.specs.declared.pattern.PatternFault.{PatternFault}
 use Rattle.probe_lang.specs.declared.pattern.PatternFault.TheVariants as faults
 use Rattle.cfg_json.specs.declared.config_fault.ConfigFault.{ConfigFault}
 use Rattle.cfg_json.specs.declared.config_fault.ConfigFault.TheVariants.{NotJson, Fraction, MissingKey, WrongKind, OutOfRange}
-use Rattle.cfg_json.specs.declared.config_fault.ConfigFault.TheVariants.{ProbeSyntax, ExposeForm, PatternSyntax, PatternTooLarge, OutOfMemory}
+use Rattle.cfg_json.specs.declared.config_fault.ConfigFault.TheVariants.{ProbeSyntax, ExposeForm, TemplateSyntax, MuxMatchOne, PatternSyntax, PatternTooLarge, OutOfMemory}
 use Rattle.cfg_json.specs.Configs.{Config}
 use Rattle.cfg_json.specs.Readings.{MakesPatterns, GivesFault, GivesConfig, pattern_rule}
 use Rattle.cfg_json.proofs.RulesLemmas.{NamesNoPattern}
@@ -80,6 +80,8 @@ document_refused maker fault read (Err other) rules e gives =
     gives_rule maker OutOfRange read rules gives = (gives, refl)
     gives_rule maker (ProbeSyntax at) read rules gives = (gives, refl)
     gives_rule maker ExposeForm read rules gives = (gives, refl)
+    gives_rule maker TemplateSyntax read rules gives = (gives, refl)
+    gives_rule maker MuxMatchOne read rules gives = (gives, refl)
     gives_rule maker (PatternSyntax text) read rules gives = absurd (subst NamesNoPattern gives rules)
     gives_rule maker (PatternTooLarge text) read rules gives = absurd (subst NamesNoPattern gives rules)
     gives_rule maker OutOfMemory read rules gives = refl
@@ -102,6 +104,8 @@ patterns_refused old new config patterns fault read (Err other) reads same makes
     gives_pattern old new config OutOfRange makes = absurd makes
     gives_pattern old new config (ProbeSyntax at) makes = absurd makes
     gives_pattern old new config ExposeForm makes = absurd makes
+    gives_pattern old new config TemplateSyntax makes = absurd makes
+    gives_pattern old new config MuxMatchOne makes = absurd makes
     gives_pattern old new config (PatternSyntax text) makes = makes
     gives_pattern old new config (PatternTooLarge text) makes = makes
     gives_pattern old new config OutOfMemory makes = makes

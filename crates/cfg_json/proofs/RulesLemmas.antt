@@ -1,20 +1,28 @@
 -- Reading a document names no pattern: that is left to compiling them.
 use Rattle.std.specs.Prelude.{⊤}
-use Rattle.std.proofs.Common.{◌&&◌, ℕ, Bool, true, false, nat_eq, nat_le, if◌then◌else◌, List, [], ◌∷◌, length, codes, Option, Some, None, Result, Ok, Err}
+use Rattle.std.proofs.Common.{◌&&◌, not, ℕ, Bool, true, false, nat_le, if◌then◌else◌, List, [], ◌∷◌, length, codes, Option, Some, None, Result, Ok, Err}
+use Rattle.std.specs.Prelude.{ℤ, pos, neg_ℤ, ◌*ℤ◌}
 use Rattle.std.specs.Prelude.{bytes_eq}
 use Rattle.std.specs.List.{list_any}
 use Rattle.bmc_base.specs.Names.{longest_name}
 use Rattle.bmc_base.specs.Places.{last_bus}
 use Rattle.serde_json.specs.Data.{Num, unsigned, negative, float, Data, null, boolean, number, string, array, object}
-use Rattle.serde_json.specs.Find.{get}
+use Rattle.serde_json.specs.Find.{get, as_integer}
 use Rattle.serde_json.specs.Written.{has_float}
+use Rattle.bmc_text.specs.Words.{decimal_units}
 use Rattle.probe_lang.specs.Grammar.{Parsed, probe_of, most_texts}
+use Rattle.tmpl.specs.Numbers.{fixed_number}
+use Rattle.tmpl.specs.Templates.{is_template, is_single, uses_index, longest_template}
 use Rattle.cfg_json.specs.declared.config_fault.ConfigFault.{ConfigFault}
-use Rattle.cfg_json.specs.declared.config_fault.ConfigFault.TheVariants.{Fraction, OutOfRange, ExposeForm, PatternSyntax, PatternTooLarge}
+use Rattle.cfg_json.specs.declared.config_fault.ConfigFault.TheVariants.{Fraction, OutOfRange, ExposeForm, TemplateSyntax}
+use Rattle.cfg_json.specs.declared.config_fault.ConfigFault.TheVariants.{MuxMatchOne, PatternSyntax, PatternTooLarge}
+use Rattle.cfg_json.specs.declared.channels.Channel.TheVariants.{Fixed, Moving}
+use Rattle.cfg_json.specs.declared.expose.Body.TheVariants.{Passive}
 use Rattle.cfg_json.specs.Values.{◌>>=◌, required, text_only, object_only, list_of, list_only, with_length, short_text, each}
+use Rattle.cfg_json.specs.Values.{kind_only, is_between, int_within, whole_units, decimal_units_within, milli_within, any_milli}
 use Rattle.cfg_json.specs.Probes.{probe_texts, by_grammar, probe_in}
-use Rattle.cfg_json.specs.Exposes.{expose_name, bus_of, channel_of, channels_of, body_of, expose_of, exposes_of}
-use Rattle.cfg_json.specs.Exposes.{most_channels, most_exposes, longest_expose_name}
+use Rattle.cfg_json.specs.Channels.{most_channels, to_bus, number_channel, moving_channel, text_channel, channel_of, mux_of}
+use Rattle.cfg_json.specs.Exposes.{most_exposes, expose_name, zone_of, is_unread, body_of, expose_of, exposes_of, has_moving}
 use Rattle.cfg_json.specs.Documents.{config_in, config_of}
 
 -- a fault that names no pattern
@@ -94,31 +102,82 @@ probe_none value = then_none (probe_texts value) _ (texts_none value) (λ texts.
 
 name_none : (value : Data) → NamesNoPattern (expose_name value)
 name_none value =
-    then_none (text_only value >>= with_length 1 longest_expose_name) _ (then_none (text_only value) _ (text_none value) (length_none 1 longest_expose_name))
-    (λ text. where_none (list_any (nat_eq 36) text) (Err ExposeForm) (Ok text) tt tt)
+    then_none (text_only value >>= with_length 1 longest_template) _ (then_none (text_only value) _ (text_none value) (length_none 1 longest_template))
+    (λ text. where_none (is_template text) (Ok text) (Err TemplateSyntax) tt tt)
 
-bus_none : (n : Num) → NamesNoPattern (bus_of n)
-bus_none (unsigned n) = where_none (nat_le n last_bus) (Ok n) (Err OutOfRange) tt tt
-bus_none (negative n) = tt
-bus_none (float x) = tt
+kind_only_none : {A : Type 0} (found : Option A) → NamesNoPattern (kind_only found)
+kind_only_none None = tt
+kind_only_none (Some value) = tt
+
+within_none : (least most value : ℤ) → NamesNoPattern (int_within least most value)
+within_none least most value = where_none (is_between least most value) (Ok value) (Err OutOfRange) tt tt
+
+whole_none : (least most : ℤ) (n : Num) → NamesNoPattern (whole_units least most n)
+whole_none least most n =
+    then_none (kind_only (as_integer n) >>= int_within least most) _
+    (then_none (kind_only (as_integer n)) _ (kind_only_none (as_integer n)) (within_none least most)) (λ units. tt)
+
+decimal_none : (least most : ℤ) (text : List ℕ) → NamesNoPattern (decimal_units_within least most text)
+decimal_none least most text =
+    then_none (kind_only (decimal_units 3 text) >>= int_within (least *ℤ pos 1000) (most *ℤ pos 1000)) _
+    (then_none (kind_only (decimal_units 3 text)) _ (kind_only_none (decimal_units 3 text)) (within_none (least *ℤ pos 1000) (most *ℤ pos 1000)))
+    (λ thousandths. tt)
+
+milli_none : (least most : ℤ) (value : Data) → NamesNoPattern (milli_within least most value)
+milli_none least most null = tt
+milli_none least most (boolean b) = tt
+milli_none least most (number n) = whole_none least most n
+milli_none least most (string text) = decimal_none least most text
+milli_none least most (array items) = tt
+milli_none least most (object ms) = tt
+
+zone_none : (members : Data) → NamesNoPattern (zone_of members)
+zone_none members =
+    then_none (required (get (codes "MinThermalOutput") members) >>= any_milli) _
+    (then_none (required (get (codes "MinThermalOutput") members)) _ (required_none (get (codes "MinThermalOutput") members))
+    (milli_none (neg_ℤ (pos 1000000)) (pos 1000000))) (λ least.
+    then_none (required (get (codes "FailSafePercent") members) >>= milli_within (pos 0) (pos 100)) _
+    (then_none (required (get (codes "FailSafePercent") members)) _ (required_none (get (codes "FailSafePercent") members))
+    (milli_none (pos 0) (pos 100))) (λ failsafe. tt))
+
+bus_none : (n : ℕ) → NamesNoPattern (to_bus n)
+bus_none n = where_none (nat_le n last_bus) (Ok (Fixed n)) (Err OutOfRange) tt tt
+
+number_none : (n : Num) → NamesNoPattern (number_channel n)
+number_none (unsigned n) = bus_none n
+number_none (negative n) = tt
+number_none (float x) = tt
+
+moving_none : (text : List ℕ) → NamesNoPattern (moving_channel text)
+moving_none text = where_none (is_template text && is_single text && not (uses_index text)) (Ok (Moving text)) (Err TemplateSyntax) tt tt
+
+text_channel_none : (n : Option ℕ) (text : List ℕ) → NamesNoPattern (text_channel n text)
+text_channel_none None text = moving_none text
+text_channel_none (Some n) text = bus_none n
 
 channel_none : (value : Data) → NamesNoPattern (channel_of value)
 channel_none null = tt
 channel_none (boolean b) = tt
-channel_none (number n) = bus_none n
-channel_none (string text) = tt
+channel_none (number n) = number_none n
+channel_none (string text) = text_channel_none (fixed_number text) text
 channel_none (array items) = tt
 channel_none (object ms) = tt
 
-channels_none : (value : Data) → NamesNoPattern (channels_of value)
-channels_none value =
-    then_none (list_only value >>= with_length 1 most_channels) _ (then_none (list_only value) _ (list_none value) (length_none 1 most_channels))
-    (each_none channel_of channel_none)
+mux_none : (value : Data) → NamesNoPattern (mux_of value)
+mux_none value =
+    then_none (list_only value >>= with_length 1 most_channels >>= each channel_of) _
+    (then_none (list_only value >>= with_length 1 most_channels) _ (then_none (list_only value) _ (list_none value) (length_none 1 most_channels))
+    (each_none channel_of channel_none)) (λ channels. tt)
 
 body_none : (members : Data) (kind : List ℕ) → NamesNoPattern (body_of members kind)
-body_none members kind = where_none (bytes_eq kind (codes "Mux")) _ (Err ExposeForm)
-    (then_none (required (get (codes "Channels") members) >>= channels_of) _
-    (then_none (required (get (codes "Channels") members)) _ (required_none (get (codes "Channels") members)) channels_none) (λ fixed. tt)) tt
+unfolding body_of
+body_none members kind =
+    where_none (bytes_eq kind (codes "Fan")) _ _ tt
+    (where_none (bytes_eq kind (codes "Pid.Zone")) _ _ (then_none (zone_of members) _ (zone_none members) (λ setting. tt))
+    (where_none (bytes_eq kind (codes "Mux")) _ _
+    (then_none (required (get (codes "Channels") members) >>= mux_of) _
+    (then_none (required (get (codes "Channels") members)) _ (required_none (get (codes "Channels") members)) mux_none) (λ part. tt))
+    (where_none (is_unread kind) (Err ExposeForm) (Ok Passive) tt tt)))
 
 expose_none : (value : Data) → NamesNoPattern (expose_of value)
 expose_none value =
@@ -143,7 +202,8 @@ config_in_none document =
     (then_none (required (get (codes "Name") members)) _ (required_none (get (codes "Name") members)) short_none) (λ name.
     then_none (required (get (codes "Probe") members) >>= probe_in) _
     (then_none (required (get (codes "Probe") members)) _ (required_none (get (codes "Probe") members)) probe_none) (λ parsed.
-    then_none (exposes_of (get (codes "Exposes") members)) _ (exposes_none (get (codes "Exposes") members)) (λ exposes. tt))))
+    then_none (exposes_of (get (codes "Exposes") members)) _ (exposes_none (get (codes "Exposes") members)) (λ exposes.
+    where_none (parsed.0.match_one && list_any has_moving exposes) (Err MuxMatchOne) _ tt tt))))
 
 -- reading a document names no pattern
 pub document_names_none : (read : Option Data) → NamesNoPattern (config_of read)

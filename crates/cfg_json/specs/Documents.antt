@@ -1,16 +1,25 @@
 -- The configuration that a document gives, or its first broken rule.
-use Rattle.std.specs.Prelude.{ℕ, if◌then◌else◌, List, codes, Option, Some, None, Result, Ok, Err}
+use Rattle.std.specs.Prelude.{ℕ, ◌&&◌, if◌then◌else◌, List, codes, Option, Some, None, Result, Ok, Err}
 use Rattle.std.specs.Str.{is_utf8}
+use Rattle.std.specs.List.{list_any}
 use Rattle.serde_json.specs.Read.{read}
 use Rattle.serde_json.specs.Data.{Data}
 use Rattle.serde_json.specs.Find.{get}
 use Rattle.serde_json.specs.Written.{has_float}
+use Rattle.probe_lang.specs.Grammar.{Parsed}
 use Rattle.cfg_json.specs.Configs.{Config}
 use Rattle.cfg_json.specs.Values.{◌>>=◌, required, object_only, short_text}
 use Rattle.cfg_json.specs.Probes.{probe_in}
-use Rattle.cfg_json.specs.Exposes.{exposes_of}
+use Rattle.cfg_json.specs.Exposes.{exposes_of, has_moving}
+use Rattle.cfg_json.specs.declared.expose.Expose.{Expose}
 use Rattle.cfg_json.specs.declared.config_fault.ConfigFault.{ConfigFault}
-use Rattle.cfg_json.specs.declared.config_fault.ConfigFault.TheVariants.{NotJson, Fraction}
+use Rattle.cfg_json.specs.declared.config_fault.ConfigFault.TheVariants.{NotJson, Fraction, MuxMatchOne}
+
+-- the parts of a configuration, in which a probe for one place alone goes with no channel that moves with the place
+abbrev pub put_together : List ℕ → Parsed → List Expose → Result Config ConfigFault
+put_together name parsed exposes =
+    if parsed.0.match_one && list_any has_moving exposes then Err MuxMatchOne
+    else Ok (record { name = name; probe = parsed.0; patterns = parsed.1; exposes = exposes })
 
 -- the configuration of a document whose numbers are whole
 unfoldable pub config_in : Data → Result Config ConfigFault
@@ -19,7 +28,7 @@ config_in document =
     required (get (codes "Name") members) >>= short_text >>= λ name.
     required (get (codes "Probe") members) >>= probe_in >>= λ parsed.
     exposes_of (get (codes "Exposes") members) >>= λ exposes.
-    Ok (record { name = name; probe = parsed.0; patterns = parsed.1; exposes = exposes })
+    put_together name parsed exposes
 
 -- the configuration of a document that was read, or the first broken rule: a number that is no whole number of 64 bits
 -- comes before all else

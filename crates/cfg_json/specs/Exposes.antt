@@ -1,57 +1,49 @@
 -- The exposes of a document.
-use Rattle.std.specs.Prelude.{ℕ, nat_le, nat_eq, bytes_eq, if◌then◌else◌, List, [], codes, Option, Some, None, Result, Ok, Err}
-use Rattle.std.specs.List.{list_any}
-use Rattle.bmc_base.specs.Places.{last_bus}
-use Rattle.serde_json.specs.Data.{Num, unsigned, negative, float, Data, null, boolean, number, string, array, object}
+use Rattle.std.specs.Prelude.{ℕ, Bool, not, ◌==◌, bytes_eq, if◌then◌else◌, ◌||◌, pos, List, [], length, codes, Option, Some, None, Result, Ok, Err}
+use Rattle.tmpl.specs.Templates.{is_template, longest_template}
+use Rattle.serde_json.specs.Data.{Data}
 use Rattle.serde_json.specs.Find.{get}
 use Rattle.cfg_json.specs.declared.config_fault.ConfigFault.{ConfigFault}
-use Rattle.cfg_json.specs.declared.config_fault.ConfigFault.TheVariants.{WrongKind, OutOfRange, ExposeForm}
+use Rattle.cfg_json.specs.declared.config_fault.ConfigFault.TheVariants.{TemplateSyntax, ExposeForm}
 use Rattle.cfg_json.specs.declared.expose.Expose.{Expose}
 use Rattle.cfg_json.specs.declared.expose.Body.{Body}
-use Rattle.cfg_json.specs.declared.expose.Body.TheVariants.{Mux}
-use Rattle.cfg_json.specs.Values.{◌>>=◌, required, text_only, object_only, list_within, with_length, short_text, each}
+use Rattle.cfg_json.specs.declared.expose.Body.TheVariants.{Fan, Zone, Mux, Passive}
+use Rattle.cfg_json.specs.declared.expose.ZoneSetting.{ZoneSetting}
+use Rattle.cfg_json.specs.Configs.{moving_in}
+use Rattle.cfg_json.specs.Values.{◌>>=◌, required, text_only, object_only, list_within, with_length, short_text, milli_within, any_milli, each}
+use Rattle.cfg_json.specs.Channels.{mux_of}
 
--- the most exposes of a configuration, the most channels of a multiplexer, and the most bytes of the name of an expose
+-- the most exposes of a configuration
 abbrev pub most_exposes : ℕ
 most_exposes = 256
 
-abbrev pub most_channels : ℕ
-most_channels = 16
+-- a template
+abbrev pub template_only : List ℕ → Result (List ℕ) ConfigFault
+template_only text = if is_template text then Ok text else Err TemplateSyntax
 
-abbrev pub longest_expose_name : ℕ
-longest_expose_name = 128
-
--- a name without a dollar sign (36), behind which a substitution may stand
-abbrev pub plain_name : List ℕ → Result (List ℕ) ConfigFault
-plain_name text = if list_any (nat_eq 36) text then Err ExposeForm else Ok text
-
+-- the name of an expose: a template of 1 to 128 bytes
 abbrev pub expose_name : Data → Result (List ℕ) ConfigFault
-expose_name value = text_only value >>= with_length 1 longest_expose_name >>= plain_name
+expose_name value = text_only value >>= with_length 1 longest_template >>= template_only
 
--- a bus
-abbrev pub bus_of : Num → Result ℕ ConfigFault
-bus_of (unsigned n) = if nat_le n last_bus then Ok n else Err OutOfRange
-bus_of (negative n) = Err OutOfRange
-bus_of (float x) = Err WrongKind
+-- the setting of a zone; the duty in failsafe is 0 to 100 percent
+abbrev pub zone_of : Data → Result ZoneSetting ConfigFault
+zone_of members =
+    required (get (codes "MinThermalOutput") members) >>= any_milli >>= λ least.
+    required (get (codes "FailSafePercent") members) >>= milli_within (pos 0) (pos 100) >>= λ failsafe.
+    Ok (record { min_thermal = least; failsafe = failsafe })
 
--- a fixed channel: a bus; a text may have substitutions
-abbrev pub channel_of : Data → Result ℕ ConfigFault
-channel_of (number n) = bus_of n
-channel_of (string text) = Err ExposeForm
-channel_of null = Err WrongKind
-channel_of (boolean b) = Err WrongKind
-channel_of (array items) = Err WrongKind
-channel_of (object ms) = Err WrongKind
+-- the types that are known and not read yet
+abbrev pub is_unread : List ℕ → Bool
+is_unread kind = bytes_eq kind (codes "Sensor") || bytes_eq kind (codes "Pid") || bytes_eq kind (codes "Stepwise")
 
-abbrev pub channels_of : Data → Result (List ℕ) ConfigFault
-channels_of value = list_within 1 most_channels value >>= each channel_of
-
--- the body of an expose of this type: of a multiplexer its channels; other types are not read
-abbrev pub body_of : Data → List ℕ → Result Body ConfigFault
+-- the body of an expose of this type; one of any other type is passive
+unfoldable pub body_of : Data → List ℕ → Result Body ConfigFault
 body_of members kind =
-    if bytes_eq kind (codes "Mux")
-    then required (get (codes "Channels") members) >>= channels_of >>= (λ fixed. Ok (Mux (record { fixed = fixed })))
-    else Err ExposeForm
+    if bytes_eq kind (codes "Fan") then Ok Fan
+    else if bytes_eq kind (codes "Pid.Zone") then zone_of members >>= (λ setting. Ok (Zone setting))
+    else if bytes_eq kind (codes "Mux") then required (get (codes "Channels") members) >>= mux_of >>= (λ part. Ok (Mux part))
+    else if is_unread kind then Err ExposeForm
+    else Ok Passive
 
 abbrev pub expose_of : Data → Result Expose ConfigFault
 expose_of value =
@@ -65,3 +57,7 @@ expose_of value =
 abbrev pub exposes_of : Option Data → Result (List Expose) ConfigFault
 exposes_of None = Ok []
 exposes_of (Some value) = list_within 0 most_exposes value >>= each expose_of
+
+-- whether a channel of an expose moves with the place
+abbrev pub has_moving : Expose → Bool
+has_moving expose = not (length (moving_in expose.body) == 0)

@@ -1,6 +1,7 @@
 pub mod Configs
 pub mod Values
 pub mod Probes
+pub mod Channels
 pub mod Exposes
 pub mod Documents
 pub mod Readings

@@ -13,10 +13,12 @@ use Rattle.probe_lang.specs.Matches.{texts_of}
 use Rattle.probe_lang.specs.declared.pattern_text.Member.{Member}
 use Rattle.probe_lang.specs.declared.pattern.PatternFault.{PatternFault}
 use Rattle.probe_lang.specs.declared.pattern.PatternFault.TheVariants as faults
+use Rattle.tmpl.specs.declared.template.TmplFault.{TmplFault}
+use Rattle.tmpl.specs.declared.template.TmplFault.TheVariants as templates
 use Rattle.cfg_json.specs.Configs.{Config, pattern_texts}
 use Rattle.cfg_json.specs.Documents.{config_of}
 use Rattle.cfg_json.specs.declared.config_fault.ConfigFault.{ConfigFault}
-use Rattle.cfg_json.specs.declared.config_fault.ConfigFault.TheVariants.{PatternSyntax, PatternTooLarge, OutOfMemory}
+use Rattle.cfg_json.specs.declared.config_fault.ConfigFault.TheVariants.{TemplateSyntax, PatternSyntax, PatternTooLarge, OutOfMemory}
 
 -- the configuration is read, and this is one of the texts of its patterns
 abbrev pub HasText : Result Config ConfigFault → List ℕ → Type 0
@@ -66,6 +68,11 @@ GivesList (Err fault) found = found ≡ Err fault
 abbrev pub GivesTexts : Result (ArrayVec (Bor (List ℕ))) ConfigFault → Result (List (List ℕ)) ConfigFault → Type 0
 GivesTexts (Ok texts) found = found ≡ Ok (map (λ text. text.now) texts.items)
 GivesTexts (Err fault) found = found ≡ Err fault
+
+-- a fault of a template as a configuration's
+abbrev pub template_rule : TmplFault → ConfigFault
+template_rule templates.TemplateSyntax = TemplateSyntax
+template_rule templates.OutOfMemory = OutOfMemory
 
 -- a fault of a pattern as a configuration's
 abbrev pub pattern_rule : PatternFault → ConfigFault

@@ -1,7 +1,10 @@
 -- Members of a document, and the kinds of their values.
-use Rattle.std.specs.Prelude.{ℕ, ◌&&◌, nat_le, if◌then◌else◌, List, [], ◌∷◌, length, Option, Some, None, Result, Ok, Err}
+use Rattle.std.specs.Prelude.{ℕ, Bool, ◌&&◌, nat_le, if◌then◌else◌, ℤ, pos, neg_ℤ, ◌*ℤ◌, int_le, List, [], ◌∷◌, length, Option, Some, None, Result, Ok, Err}
+use Rattle.bmc_base.specs.declared.milli.Milli.{Milli}
+use Rattle.bmc_text.specs.Words.{decimal_units}
 use Rattle.bmc_base.specs.Names.{longest_name}
-use Rattle.serde_json.specs.Data.{Data, null, boolean, number, string, array, object, Items, no_items, item}
+use Rattle.serde_json.specs.Data.{Num, Data, null, boolean, number, string, array, object, Items, no_items, item}
+use Rattle.serde_json.specs.Find.{as_integer}
 use Rattle.cfg_json.specs.declared.config_fault.ConfigFault.{ConfigFault}
 use Rattle.cfg_json.specs.declared.config_fault.ConfigFault.TheVariants.{MissingKey, WrongKind, OutOfRange}
 
@@ -60,3 +63,37 @@ short_text value = text_only value >>= with_length 1 longest_name
 abbrev pub each : {A B : Type 0} → (A → Result B ConfigFault) → List A → Result (List B) ConfigFault
 each read [] = Ok []
 each read (value ∷ values) = read value >>= λ first. each read values >>= λ later. Ok (first ∷ later)
+
+-- what has to be there, or the value is of the wrong kind
+abbrev pub kind_only : {A : Type 0} → Option A → Result A ConfigFault
+kind_only None = Err WrongKind
+kind_only (Some value) = Ok value
+
+-- a whole number from so many to so many
+abbrev pub is_between : ℤ → ℤ → ℤ → Bool
+is_between least most value = int_le least value && int_le value most
+
+abbrev pub int_within : ℤ → ℤ → ℤ → Result ℤ ConfigFault
+int_within least most value = if is_between least most value then Ok value else Err OutOfRange
+
+-- a whole number of units, from so many to so many, in thousandths
+abbrev pub whole_units : ℤ → ℤ → Num → Result Milli ConfigFault
+whole_units least most n = kind_only (as_integer n) >>= int_within least most >>= λ units. Ok (record { 0 = units *ℤ pos 1000 })
+
+-- the text of a decimal with up to three places, from so many units to so many, in thousandths
+abbrev pub decimal_units_within : ℤ → ℤ → List ℕ → Result Milli ConfigFault
+decimal_units_within least most text =
+    kind_only (decimal_units 3 text) >>= int_within (least *ℤ pos 1000) (most *ℤ pos 1000) >>= λ thousandths. Ok (record { 0 = thousandths })
+
+-- thousandths from so many units to so many: a whole number of units, or the text of a decimal
+abbrev pub milli_within : ℤ → ℤ → Data → Result Milli ConfigFault
+milli_within least most (number n) = whole_units least most n
+milli_within least most (string text) = decimal_units_within least most text
+milli_within least most null = Err WrongKind
+milli_within least most (boolean b) = Err WrongKind
+milli_within least most (array items) = Err WrongKind
+milli_within least most (object ms) = Err WrongKind
+
+-- thousandths in the widest range: a million units to either side of 0
+abbrev pub any_milli : Data → Result Milli ConfigFault
+any_milli value = milli_within (neg_ℤ (pos 1000000)) (pos 1000000) value

@@ -1,10 +1,11 @@
 ghost use Rattle.std.specs.Prelude.{◌≡◌, ◌≤◌, length};
 ghost use Rattle.probe_lang.specs.Values.{most_patterns};
+ghost use Rattle.cfg_json.specs.Configs.{counts_of};
 ghost use Rattle.cfg_json.specs.Documents.{config_read};
 ghost use Rattle.cfg_json.specs.Readings.{GivesConfig, MakesPatterns};
 
 use crate::draft::{Draft, read_draft};
-use crate::{ConfigFault, Expose, Exposes};
+use crate::{ConfigFault, Counts, Expose, Exposes};
 use bmc_base::{Ledger, Name};
 use pat_gate::PatternMaker;
 use probe_lang::{Pattern, PatternText, Probe};
@@ -18,26 +19,27 @@ pub struct Config<L: Ledger> {
     probe: Probe<L>,
     patterns: Vec<Pattern<L>>,
     exposes: Exposes,
+    counts: Counts,
 }
 
 impl<L: Ledger> Model for Config<L> {
-    ghost use Rattle.std.specs.Prelude.{◌≤◌, length};
+    ghost use Rattle.std.specs.Prelude.{◌≡◌, ◌≤◌, length};
     ghost use Rattle.probe_lang.specs.Values.{most_patterns};
-    ghost use Rattle.cfg_json.specs.Configs.{Config};
+    ghost use Rattle.cfg_json.specs.Configs.{Config, counts_of};
 
     ghost Value = { Config };
 
     ghost view = { λ c. record { name = c.name; probe = c.probe; patterns = c.patterns.items; exposes = c.exposes } };
 
-    ghost invariant = { λ c. length c.patterns.items ≤ most_patterns };
+    ghost invariant = { λ c. (length c.patterns.items ≤ most_patterns) × (c.counts ≡ counts_of c.exposes) };
 }
 
 impl<L: Ledger> Config<L> {
     /// Reads the configuration of a document in JSON, and compiles the patterns of its probe with a maker.
     /// The fault is the first rule that is broken, in this order: the bytes are JSON in UTF-8; its numbers
     /// are whole; it is an object with a `Name` of 1 to 64 bytes, a `Probe` of 1 to 33 texts that the grammar
-    /// reads, and at most 256 `Exposes`; the maker compiles each pattern. Of a key that is given twice the
-    /// last value counts.
+    /// reads, and at most 256 `Exposes`; a probe that ends with `MATCH_ONE` goes with no channel that moves with
+    /// the place; the maker compiles each pattern. Of a key that is given twice the last value counts.
     pub fn read<M: PatternMaker>(
         alloc: Global,
         bytes: &[u8],
@@ -52,11 +54,13 @@ impl<L: Ledger> Config<L> {
             exposes,
         } = read_draft(alloc, bytes)?;
         let patterns = make_patterns(alloc, texts.as_slice(), maker)?;
+        let counts = Counts::of(exposes.as_slice());
         Ok(Config {
             name,
             probe,
             patterns,
             exposes,
+            counts,
         })
     }
 
@@ -87,6 +91,13 @@ impl<L: Ledger> Config<L> {
         ensures { result.now ≡ self.now.exposes }
     {
         self.exposes.as_slice()
+    }
+
+    /// Returns how many of its exposes are of each kind. They were counted when it was read.
+    pub fn counts(&self) -> Counts
+        ensures { result ≡ counts_of self.now.exposes }
+    {
+        self.counts
     }
 }
 

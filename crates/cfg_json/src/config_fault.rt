@@ -2,6 +2,7 @@ use bmc_base::{OutOfMemory, Text};
 use probe_lang::{PatternFault, ProbeFault};
 use std::alloc::{AllocError, AllocFailed};
 use thiserror::Error;
+use tmpl::TmplFault;
 
 /// Why a document is no configuration: the first rule that it breaks, or want of memory.
 #[derive(Debug, Drop, Error)]
@@ -25,10 +26,16 @@ pub enum ConfigFault {
     /// number of its texts, and one operand more was wanted.
     #[error("the text at {0} of the probe is no word, or stands in a wrong place")]
     ProbeSyntax(u32),
-    /// An expose is of a form that is not read: its type is not `Mux`, its name has a `$`, or a channel is a
-    /// text.
-    #[error("an expose is of a form that is not read")]
+    /// The type of an expose is not read yet: it is `Sensor`, `Pid` or `Stepwise`.
+    #[error("an expose is of a type that is not read")]
     ExposeForm,
+    /// The name of an expose is no template, or a channel is neither a bus nor one substitution, or asks for the
+    /// index.
+    #[error("a text is no template")]
+    TemplateSyntax,
+    /// The probe ends with `MATCH_ONE`, and a channel moves with the place.
+    #[error("a probe with MATCH_ONE goes with no channel that moves")]
+    MuxMatchOne,
     /// This text of a pattern is no regular expression, or nests too deep.
     #[error("a pattern is no regular expression")]
     PatternSyntax(Text),
@@ -83,6 +90,20 @@ impl From<ProbeFault> for ConfigFault {
         match fault {
             ProbeFault::ProbeSyntax(at) => ConfigFault::ProbeSyntax(at),
             ProbeFault::OutOfMemory => ConfigFault::OutOfMemory,
+        }
+    }
+}
+
+impl From<TmplFault> for ConfigFault {
+    ghost use Rattle.std.specs.Prelude.{◌≡◌};
+    ghost use Rattle.cfg_json.specs.Readings.{template_rule};
+
+    ghost from_gives = { λ fault rule. rule ≡ template_rule fault };
+
+    fn from(fault: TmplFault) -> Self {
+        match fault {
+            TmplFault::TemplateSyntax => ConfigFault::TemplateSyntax,
+            TmplFault::OutOfMemory => ConfigFault::OutOfMemory,
         }
     }
 }

@@ -4,7 +4,7 @@ ghost use Rattle.cfg_json.specs.Documents.{config_in, config_read};
 ghost use Rattle.cfg_json.specs.Readings.{Gives};
 
 use crate::document::read_document;
-use crate::exposes::read_exposes;
+use crate::exposes::{have_moving, read_exposes};
 use crate::fraction::has_fraction;
 use crate::probe_texts::read_probe;
 use crate::values::{required, short_text};
@@ -59,6 +59,9 @@ fn read_members<L: Ledger>(alloc: Global, document: &Value) -> Result<Draft<L>, 
     let name = short_text(required(document, "Name")?)?;
     let (probe, texts) = read_probe(alloc, required(document, "Probe")?)?;
     let exposes = read_exposes(alloc, document.get("Exposes"))?;
+    if probe.match_one() && have_moving(exposes.as_slice()) {
+        return Err(ConfigFault::MuxMatchOne);
+    }
     Ok(Draft {
         name,
         probe,

@@ -1,14 +1,15 @@
 ghost use Rattle.std.specs.Prelude.{◌≡◌, ◌∷◌, ◌++◌, [], IfOk, OnOk, OnErr};
 
-use bmc_base::{Bytes, Name, OutOfMemory, Text};
+use bmc_base::{Bytes, Milli, Name, OutOfMemory};
 use std::alloc::Global;
 use std::marker::Model;
+use tmpl::Template;
 
 /// What a configuration exposes at each of its boards.
 #[derive(Drop)]
 pub struct Expose {
-    /// Its name: 1 to 128 bytes without a `$`.
-    pub name: Text,
+    /// Its name, which is rendered for each board.
+    pub name: Template,
     /// Its type, such as `Mux`.
     pub kind: Name,
     /// What its type asks for.
@@ -18,15 +19,75 @@ pub struct Expose {
 /// What an expose has by its type.
 #[derive(Drop)]
 pub enum Body {
-    /// A multiplexer.
+    /// A fan (type `Fan`).
+    Fan,
+    /// A zone of fans (type `Pid.Zone`).
+    Zone(ZoneSetting),
+    /// A multiplexer (type `Mux`).
     Mux(MuxPart),
+    /// An expose of any other type, of which nothing else is read.
+    Passive,
 }
 
-/// A multiplexer, which leads to further buses.
+/// The setting of a zone. Both numbers are thousandths.
+#[derive(Clone, Copy, Debug, PartialEq, Eq)]
+pub struct ZoneSetting {
+    /// The least setpoint of the zone, up to a million units to either side of 0.
+    pub min_thermal: Milli,
+    /// The duty that its fans get in failsafe at the least, 0 to 100 percent.
+    pub failsafe: Milli,
+}
+
+/// A multiplexer, which leads to further buses. It has 1 to 16 channels.
 #[derive(Drop)]
 pub struct MuxPart {
-    /// The buses to which its channels lead: 1 to 16.
+    /// The buses to which its fixed channels lead.
     pub fixed: Bytes,
+    /// What gives the buses to which its other channels lead: each is one substitution, rendered for the place and
+    /// the record of a FRU.
+    pub moving: Templates,
+}
+
+/// Templates, in the order of the document.
+#[derive(Drop)]
+pub struct Templates {
+    templates: Vec<Template>,
+}
+
+impl Model for Templates {
+    ghost use Rattle.std.specs.Prelude.{List, ℕ};
+
+    ghost Value = { List (List ℕ) };
+
+    ghost view = { λ t. t.templates.items };
+}
+
+impl Templates {
+    /// Returns a list of no templates.
+    pub fn new(alloc: Global) -> Templates
+        ensures { result ≡ [] }
+    {
+        Templates {
+            templates: Vec::new(alloc),
+        }
+    }
+
+    /// Appends a template, or changes nothing for want of memory.
+    pub fn push(&mut self, alloc: Global, item: Template) -> Result<(), OutOfMemory>
+        ensures ok { OnOk result (self.new ≡ self.old ++ item ∷ []) }
+        ensures err { OnErr result (self.new ≡ self.old) }
+    {
+        let _ = alloc;
+        self.templates.push(item)?;
+        Ok(())
+    }
+
+    /// Borrows the templates.
+    pub fn as_slice(&self) -> &[Template]
+        ensures { result.now ≡ self.now }
+    {
+        &self.templates
+    }
 }
 
 /// Exposes, in the order of the document.

@@ -1,21 +1,20 @@
-ghost use Rattle.std.specs.Prelude.{◌≡◌, nat_eq, map, option_map};
+ghost use Rattle.std.specs.Prelude.{◌≡◌, map, option_map};
 ghost use Rattle.std.specs.List.{list_any};
-ghost use Rattle.serde_json.specs.View.{view, number_view};
-ghost use Rattle.cfg_json.specs.Exposes.{expose_name, bus_of, channel_of, channels_of, body_of, expose_of, exposes_of};
+ghost use Rattle.serde_json.specs.View.{view};
+ghost use Rattle.cfg_json.specs.Exposes.{expose_name, zone_of, is_unread, body_of, expose_of, exposes_of, has_moving};
 ghost use Rattle.cfg_json.specs.Values.{each};
 ghost use Rattle.cfg_json.specs.Readings.{Gives};
 
-use crate::values::{check_length, list, required, short_text, text};
-use crate::{Body, ConfigFault, Expose, Exposes, MuxPart};
-use bmc_base::{Bytes, Name, Text};
-use serde_json::{Number, Value};
+use crate::channels::read_mux;
+use crate::values::{check_length, list, milli_within, required, short_text, text};
+use crate::{Body, ConfigFault, Expose, Exposes, ZoneSetting};
+use bmc_base::Name;
+use serde_json::Value;
 use std::alloc::Global;
+use tmpl::Template;
 
 // How many exposes a configuration has at the most.
 const MOST_EXPOSES: usize = 256;
-
-// How many channels a multiplexer has at the most.
-const MOST_CHANNELS: usize = 16;
 
 // How many bytes the name of an expose has at the most.
 const LONGEST_NAME: usize = 128;
@@ -54,68 +53,61 @@ fn read_expose(alloc: Global, value: &Value) -> Result<Expose, ConfigFault>
     Ok(Expose { name, kind, body })
 }
 
-// Reads a name without a dollar sign.
-fn read_name(alloc: Global, value: &Value) -> Result<Text, ConfigFault>
+// Reads a name, which is a template.
+fn read_name(alloc: Global, value: &Value) -> Result<Template, ConfigFault>
     ensures { Gives result (expose_name (view value.now)) }
 {
     let name = text(value)?;
     check_length(name.len(), 1, LONGEST_NAME)?;
-    if has_dollar(name) {
-        return Err(ConfigFault::ExposeForm);
-    }
-    Ok(Text::copy(alloc, name)?)
-}
-
-// Whether a text has a dollar sign, behind which a substitution may stand.
-fn has_dollar(text: &str) -> bool
-    ensures { result ≡ list_any (nat_eq 36) text.now }
-{
-    text.bytes().any(|byte| byte == b'$')
+    Ok(Template::parse(alloc, name)?)
 }
 
 // Reads what the type of an expose asks for.
+#[tactic(auto, unfolding(crate::specs::Exposes::body_of))]
 fn read_body(alloc: Global, members: &Value, kind: &Name) -> Result<Body, ConfigFault>
     ensures { Gives result (body_of (view members.now) kind.now) }
 {
-    if kind.as_str() != "Mux" {
-        return Err(ConfigFault::ExposeForm);
-    }
-    let fixed = read_channels(alloc, required(members, "Channels")?)?;
-    Ok(Body::Mux(MuxPart { fixed }))
-}
-
-// Reads the buses to which the channels of a multiplexer lead.
-fn read_channels(alloc: Global, value: &Value) -> Result<Bytes, ConfigFault>
-    ensures { Gives result (channels_of (view value.now)) }
-{
-    let items = list(value, 1, MOST_CHANNELS)?;
-    let mut fixed = Vec::with_capacity(alloc, items.len())?;
-    for item in items {
-        fixed.push(read_channel(item)?)?;
-    }
-    Ok(Bytes::from(fixed))
-}
-
-// Reads a fixed channel.
-fn read_channel(value: &Value) -> Result<u8, ConfigFault>
-    ensures { result ≡ channel_of (view value.now) }
-{
-    match value {
-        Value::Number(number) => read_bus(number),
-        Value::String(_) => Err(ConfigFault::ExposeForm),
-        _ => Err(ConfigFault::WrongKind),
+    match kind.as_str() {
+        "Fan" => Ok(Body::Fan),
+        "Pid.Zone" => Ok(Body::Zone(read_zone(members)?)),
+        "Mux" => Ok(Body::Mux(read_mux(alloc, required(members, "Channels")?)?)),
+        "Sensor" | "Pid" | "Stepwise" => Err(ConfigFault::ExposeForm),
+        _ => Ok(Body::Passive),
     }
 }
 
-// Reads a bus.
-fn read_bus(number: &Number) -> Result<u8, ConfigFault>
-    ensures { result ≡ bus_of (number_view number.now) }
+// How many units a number in the widest range has at the most, to either side of 0.
+const MOST_UNITS: i32 = 1_000_000;
+
+// Reads the setting of a zone.
+fn read_zone(members: &Value) -> Result<ZoneSetting, ConfigFault>
+    ensures { result ≡ zone_of (view members.now) }
 {
-    if number.is_f64() {
-        return Err(ConfigFault::WrongKind);
-    }
-    match number.as_u64() {
-        Some(bus) => u8::try_from(bus).map_err(|_| ConfigFault::OutOfRange),
-        None => Err(ConfigFault::OutOfRange),
+    let min_thermal = milli_within(
+        required(members, "MinThermalOutput")?,
+        -MOST_UNITS,
+        MOST_UNITS,
+    )?;
+    let failsafe = milli_within(required(members, "FailSafePercent")?, 0, 100)?;
+    Ok(ZoneSetting {
+        min_thermal,
+        failsafe,
+    })
+}
+
+// Whether a channel of some exposes moves with the place.
+pub(crate) fn have_moving(exposes: &[Expose]) -> bool
+    ensures { result ≡ list_any has_moving exposes.now }
+{
+    exposes.iter().any(|expose| has_moving(expose))
+}
+
+// Whether a channel of an expose moves with the place.
+fn has_moving(expose: &Expose) -> bool
+    ensures { result ≡ has_moving expose.now }
+{
+    match &expose.body {
+        Body::Mux(part) => !part.moving.as_slice().is_empty(),
+        _ => false,
     }
 }

@@ -2,13 +2,16 @@
 //! them in their order.
 #![tactic(auto)]
 
+mod channels;
 mod config;
 mod config_fault;
+mod counts;
 mod document;
 mod draft;
 mod expose;
 mod exposes;
 mod fraction;
+mod item;
 mod law;
 mod probe_texts;
 mod shelf;
@@ -18,6 +21,8 @@ mod values;
 
 pub use config::Config;
 pub use config_fault::ConfigFault;
-pub use expose::{Body, Expose, Exposes, MuxPart};
+pub use counts::Counts;
+pub use expose::{Body, Expose, Exposes, MuxPart, Templates, ZoneSetting};
+pub use item::{Item, ItemId, ItemPart, MuxItem};
 pub use law::answers_are_verdicts;
 pub use shelf::{MOST_CONFIGS, Shelf};

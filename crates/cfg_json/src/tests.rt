@@ -1,5 +1,5 @@
-use crate::{Body, Config, Expose, MOST_CONFIGS, Shelf, answers_are_verdicts};
-use bmc_base::{Name, Silent, Text};
+use crate::{Body, Config, Counts, Expose, MOST_CONFIGS, Shelf, answers_are_verdicts};
+use bmc_base::{Milli, Name, Silent, Text};
 use pat_gate::{ListMaker, PatternMaker, RegexMaker};
 use std::alloc::Global;
 use std::process::Abort;
@@ -141,23 +141,99 @@ const FAULTS: [(&str, &str); 67] = [
     ),
 ];
 
-// The members of an expose that is not read.
-const EXPOSES: [(&str, &str); 30] = [
+// The members of an expose, and the first rule that they break.
+const EXPOSES: [(&str, &str); 66] = [
     (r#""Type":"Mux","Channels":[1]"#, "MissingKey"),
     (r#""Name":5,"Type":"Mux","Channels":[1]"#, "WrongKind"),
     (r#""Name":null,"Type":"Mux","Channels":[1]"#, "WrongKind"),
     (r#""Name":"","Type":"Mux","Channels":[1]"#, "OutOfRange"),
-    (
-        r#""Name":"M $bus","Type":"Mux","Channels":[1]"#,
-        "ExposeForm",
-    ),
-    (r#""Name":"$","Type":"Mux","Channels":[1]"#, "ExposeForm"),
     (r#""Name":"M","Channels":[1]"#, "MissingKey"),
     (r#""Name":"M","Type":5,"Channels":[1]"#, "WrongKind"),
     (r#""Name":"M","Type":"","Channels":[1]"#, "OutOfRange"),
-    (r#""Name":"M","Type":"EEPROM","Channels":[1]"#, "ExposeForm"),
-    (r#""Name":"M","Type":"mux","Channels":[1]"#, "ExposeForm"),
-    (r#""Name":"M","Type":"Mux ","Channels":[1]"#, "ExposeForm"),
+    // names that are templates, and names that are none
+    (r#""Name":"M $bus","Type":"Mux","Channels":[1]"#, "Ok"),
+    (r#""Name":"$","Type":"Mux","Channels":[1]"#, "Ok"),
+    (r#""Name":"$5 $ +","Type":"Fan""#, "Ok"),
+    (r#""Name":"$BOARD_INFO_AM2040 $index","Type":"Fan""#, "Ok"),
+    (r#""Name":"$foo","Type":"Fan""#, "TemplateSyntax"),
+    (r#""Name":"$bus / 0","Type":"Fan""#, "TemplateSyntax"),
+    (
+        r#""Name":"$BOARD_INFO_AM2041","Type":"Fan""#,
+        "TemplateSyntax",
+    ),
+    // types
+    (r#""Name":"F","Type":"Fan""#, "Ok"),
+    (r#""Name":"F","Type":"Fan","Channels":5"#, "Ok"),
+    (r#""Name":"M","Type":"EEPROM","Channels":5"#, "Ok"),
+    (r#""Name":"M","Type":"mux","Channels":5"#, "Ok"),
+    (r#""Name":"M","Type":"Mux ","Channels":5"#, "Ok"),
+    (
+        r#""Name":"M","Type":"Pid.Zone ","MinThermalOutput":null"#,
+        "Ok",
+    ),
+    (r#""Name":"M","Type":"$foo""#, "Ok"),
+    (r#""Name":"M","Type":"Sensor""#, "ExposeForm"),
+    (r#""Name":"M","Type":"Pid","Class":5"#, "ExposeForm"),
+    (r#""Name":"M","Type":"Stepwise""#, "ExposeForm"),
+    // zones
+    (r#""Name":"Z","Type":"Pid.Zone""#, "MissingKey"),
+    (
+        r#""Name":"Z","Type":"Pid.Zone","MinThermalOutput":0"#,
+        "MissingKey",
+    ),
+    (
+        r#""Name":"Z","Type":"Pid.Zone","FailSafePercent":0"#,
+        "MissingKey",
+    ),
+    (
+        r#""Name":"Z","Type":"Pid.Zone","MinThermalOutput":null,"FailSafePercent":0"#,
+        "WrongKind",
+    ),
+    (
+        r#""Name":"Z","Type":"Pid.Zone","MinThermalOutput":0,"FailSafePercent":[0]"#,
+        "WrongKind",
+    ),
+    (
+        r#""Name":"Z","Type":"Pid.Zone","MinThermalOutput":"1e3","FailSafePercent":0"#,
+        "WrongKind",
+    ),
+    (
+        r#""Name":"Z","Type":"Pid.Zone","MinThermalOutput":"+5","FailSafePercent":0"#,
+        "WrongKind",
+    ),
+    (
+        r#""Name":"Z","Type":"Pid.Zone","MinThermalOutput":"0.0001","FailSafePercent":0"#,
+        "WrongKind",
+    ),
+    (
+        r#""Name":"Z","Type":"Pid.Zone","MinThermalOutput":1000001,"FailSafePercent":0"#,
+        "OutOfRange",
+    ),
+    (
+        r#""Name":"Z","Type":"Pid.Zone","MinThermalOutput":-1000001,"FailSafePercent":0"#,
+        "OutOfRange",
+    ),
+    (
+        r#""Name":"Z","Type":"Pid.Zone","MinThermalOutput":"1000000.001","FailSafePercent":0"#,
+        "OutOfRange",
+    ),
+    (
+        r#""Name":"Z","Type":"Pid.Zone","MinThermalOutput":18446744073709551615,"FailSafePercent":0"#,
+        "OutOfRange",
+    ),
+    (
+        r#""Name":"Z","Type":"Pid.Zone","MinThermalOutput":0,"FailSafePercent":101"#,
+        "OutOfRange",
+    ),
+    (
+        r#""Name":"Z","Type":"Pid.Zone","MinThermalOutput":0,"FailSafePercent":"100.001""#,
+        "OutOfRange",
+    ),
+    (
+        r#""Name":"Z","Type":"Pid.Zone","MinThermalOutput":0,"FailSafePercent":"-0.001""#,
+        "OutOfRange",
+    ),
+    // the channels of a multiplexer
     (r#""Name":"M","Type":"Mux""#, "MissingKey"),
     (r#""Name":"M","Type":"Mux","Channels":null"#, "WrongKind"),
     (r#""Name":"M","Type":"Mux","Channels":1"#, "WrongKind"),
@@ -169,25 +245,89 @@ const EXPOSES: [(&str, &str); 30] = [
     ),
     (r#""Name":"M","Type":"Mux","Channels":[256]"#, "OutOfRange"),
     (r#""Name":"M","Type":"Mux","Channels":[-1]"#, "OutOfRange"),
-    (
-        r#""Name":"M","Type":"Mux","Channels":["$bus"]"#,
-        "ExposeForm",
-    ),
-    (r#""Name":"M","Type":"Mux","Channels":["1"]"#, "ExposeForm"),
     (r#""Name":"M","Type":"Mux","Channels":[null]"#, "WrongKind"),
     (r#""Name":"M","Type":"Mux","Channels":[[1]]"#, "WrongKind"),
-    // the first rule counts
-    (r#""Name":"$","Type":5"#, "ExposeForm"),
-    (r#""Name":5,"Type":5,"Channels":5"#, "WrongKind"),
-    (r#""Name":"","Type":5"#, "OutOfRange"),
-    (r#""Name":"M","Type":"EEPROM","Channels":5"#, "ExposeForm"),
     (
-        r#""Name":"M","Type":"Mux","Channels":[1,"2",256]"#,
-        "ExposeForm",
+        r#""Name":"M","Type":"Mux","Channels":["256"]"#,
+        "OutOfRange",
     ),
     (
-        r#""Name":"M","Type":"Mux","Channels":[256,"2",null]"#,
+        r#""Name":"M","Type":"Mux","Channels":["0x1FF"]"#,
         "OutOfRange",
+    ),
+    (
+        r#""Name":"M","Type":"Mux","Channels":[""]"#,
+        "TemplateSyntax",
+    ),
+    (
+        r#""Name":"M","Type":"Mux","Channels":["-1"]"#,
+        "TemplateSyntax",
+    ),
+    (
+        r#""Name":"M","Type":"Mux","Channels":["0X4C"]"#,
+        "TemplateSyntax",
+    ),
+    (
+        r#""Name":"M","Type":"Mux","Channels":["1234567890"]"#,
+        "TemplateSyntax",
+    ),
+    (
+        r#""Name":"M","Type":"Mux","Channels":["1$bus"]"#,
+        "TemplateSyntax",
+    ),
+    (
+        r#""Name":"M","Type":"Mux","Channels":["$bus "]"#,
+        "TemplateSyntax",
+    ),
+    (
+        r#""Name":"M","Type":"Mux","Channels":["$bus + 123456"]"#,
+        "TemplateSyntax",
+    ),
+    (
+        r#""Name":"M","Type":"Mux","Channels":["$index"]"#,
+        "TemplateSyntax",
+    ),
+    (
+        r#""Name":"M","Type":"Mux","Channels":["$bus / 0"]"#,
+        "TemplateSyntax",
+    ),
+    // the first rule counts
+    (r#""Name":"$foo","Type":5"#, "TemplateSyntax"),
+    (r#""Name":5,"Type":5,"Channels":5"#, "WrongKind"),
+    (r#""Name":"","Type":5"#, "OutOfRange"),
+    (r#""Name":"M","Type":"Sensor","Channels":5"#, "ExposeForm"),
+    (
+        r#""Name":"M","Type":"Mux","Channels":[1,"$foo",256]"#,
+        "TemplateSyntax",
+    ),
+    (
+        r#""Name":"M","Type":"Mux","Channels":[256,"$foo",null]"#,
+        "OutOfRange",
+    ),
+];
+
+// Documents whose probe ends with MATCH_ONE, or does not, with a channel that moves with the place, or without.
+const MATCH_ONE: [(&str, &str); 5] = [
+    (
+        r#"{"Name":"A","Probe":["TRUE","MATCH_ONE"],"Exposes":[{"Name":"M","Type":"Mux","Channels":["$bus"]}]}"#,
+        "MuxMatchOne",
+    ),
+    (
+        r#"{"Name":"A","Probe":["TRUE","MATCH_ONE"],"Exposes":[{"Name":"M","Type":"Mux","Channels":["20",21]},{"Name":"$bus","Type":"Fan"}]}"#,
+        "Ok",
+    ),
+    (
+        r#"{"Name":"A","Probe":["TRUE"],"Exposes":[{"Name":"M","Type":"Mux","Channels":["$bus"]}]}"#,
+        "Ok",
+    ),
+    // exposes come before it, and patterns behind it
+    (
+        r#"{"Name":"A","Probe":["TRUE","MATCH_ONE"],"Exposes":[{"Name":"M","Type":"Mux","Channels":["$bus"]},5]}"#,
+        "WrongKind",
+    ),
+    (
+        r#"{"Name":"A","Probe":["xyz.openbmc_project.FruDevice({'B': '('})","MATCH_ONE"],"Exposes":[{"Name":"M","Type":"Mux","Channels":["$bus"]}]}"#,
+        "MuxMatchOne",
     ),
 ];
 
@@ -195,6 +335,9 @@ const EXPOSES: [(&str, &str); 30] = [
 fn first_rules(rt: HostRuntime) -> Result<(), Fail> {
     answers_are_verdicts();
     for (document, fault) in FAULTS {
+        assert_fault(&rt, rt.alloc(), document, fault)?;
+    }
+    for (document, fault) in MATCH_ONE {
         assert_fault(&rt, rt.alloc(), document, fault)?;
     }
     Ok(())
@@ -353,11 +496,15 @@ const PROBES: [(&str, &str, usize, bool); 10] = [
     ),
 ];
 
-fn assert_expose(rt: &impl Abort, expose: &Expose, name: &str, fixed: &[u8]) {
-    assert_eq!(rt; expose.name.as_str(), name);
+fn assert_mux(rt: &impl Abort, expose: &Expose, fixed: &[u8], moving: usize) {
     assert_eq!(rt; expose.kind.as_str(), "Mux");
-    let Body::Mux(part) = &expose.body;
-    assert_eq!(rt; part.fixed.as_slice(), fixed);
+    match &expose.body {
+        Body::Mux(part) => {
+            assert_eq!(rt; part.fixed.as_slice(), fixed);
+            assert_eq!(rt; part.moving.as_slice().len(), moving);
+        }
+        _ => assert!(rt; false, "a multiplexer"),
+    }
 }
 
 #[test]
@@ -373,17 +520,45 @@ fn configurations(rt: HostRuntime) -> Result<(), Fail> {
 }
 
 #[test]
-fn exposes(rt: HostRuntime) -> Result<(), Fail> {
+fn multiplexers(rt: HostRuntime) -> Result<(), Fail> {
     let document = br#"{"Name":"A","Probe":"TRUE","Exposes":[
         {"Name":"Upper","Type":"Mux","Channels":[0,255],"Address":"0x70"},
-        {"Channels":[16,16,3],"Type":"Mux","Name":"Lower"}]}"#;
+        {"Channels":[16,"$bus + 15","016","0x3",3,"$CHASSIS_TYPE"],"Type":"Mux","Name":"Lower"}]}"#;
     let config = read(rt.alloc(), document)?;
     match config.exposes() {
         [upper, lower] => {
-            assert_expose(&rt, upper, "Upper", &[0, 255]);
-            assert_expose(&rt, lower, "Lower", &[16, 16, 3]);
+            assert_mux(&rt, upper, &[0, 255], 0);
+            assert_mux(&rt, lower, &[16, 16, 3, 3], 2);
         }
         _ => assert!(rt; false, "two exposes"),
+    }
+    Ok(())
+}
+
+#[test]
+fn zones_and_fans(rt: HostRuntime) -> Result<(), Fail> {
+    let document = br#"{"Name":"A","Probe":"TRUE","Exposes":[
+        {"Name":"F","Type":"Fan"},
+        {"Name":"Z","Type":"Pid.Zone","MinThermalOutput":"-12.5","FailSafePercent":100},
+        {"Name":"E","Type":"EEPROM"},
+        {"Name":"G","Type":"Fan"}]}"#;
+    let config = read(rt.alloc(), document)?;
+    assert_eq!(rt; config.counts(), Counts { zones: 1, fans: 2 });
+    match config.exposes() {
+        [first, zone, passive, second] => {
+            assert!(rt; matches!(first.body, Body::Fan));
+            assert!(rt; matches!(second.body, Body::Fan));
+            assert!(rt; matches!(passive.body, Body::Passive));
+            assert_eq!(rt; passive.kind.as_str(), "EEPROM");
+            match &zone.body {
+                Body::Zone(setting) => {
+                    assert_eq!(rt; setting.min_thermal, Milli(-12_500));
+                    assert_eq!(rt; setting.failsafe, Milli(100_000));
+                }
+                _ => assert!(rt; false, "a zone"),
+            }
+        }
+        _ => assert!(rt; false, "four exposes"),
     }
     Ok(())
 }

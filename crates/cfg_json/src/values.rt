@@ -1,13 +1,14 @@
 ghost use Rattle.std.specs.Prelude.{◌≡◌, ◌&&◌, nat_le, if◌then◌else◌, Ok, Err};
-ghost use Rattle.serde_json.specs.View.{view};
+ghost use Rattle.serde_json.specs.View.{view, number_view};
 ghost use Rattle.serde_json.specs.Find.{get};
-ghost use Rattle.cfg_json.specs.Values.{required, text_only, list_within, short_text};
+ghost use Rattle.cfg_json.specs.Values.{required, text_only, list_within, short_text, is_between, whole_units, decimal_units_within, milli_within};
 ghost use Rattle.cfg_json.specs.declared.config_fault.ConfigFault.TheVariants.{OutOfRange};
 ghost use Rattle.cfg_json.specs.Readings.{GivesMember, GivesText, GivesList};
 
 use crate::ConfigFault;
-use bmc_base::Name;
-use serde_json::Value;
+use bmc_base::{Milli, Name};
+use bmc_text::decimal;
+use serde_json::{Number, Value};
 
 // Borrows a member that has to be there.
 pub(crate) fn required<'a>(members: &'a Value, key: &str) -> Result<&'a Value, ConfigFault>
@@ -53,4 +54,61 @@ pub(crate) fn short_text(value: &Value) -> Result<Name, ConfigFault>
     ensures { result ≡ short_text (view value.now) }
 {
     Name::new(text(value)?).map_err(|_| ConfigFault::OutOfRange)
+}
+
+// How many thousandths a unit has.
+const THOUSAND: i64 = 1_000;
+
+// Whether a number is from the least to the most.
+fn is_between(value: i64, least: i64, most: i64) -> bool
+    ensures { result ≡ is_between least most value }
+{
+    least <= value && value <= most
+}
+
+// Reads a whole number of units, from so many to so many, in thousandths.
+fn whole_units(number: &Number, least: i32, most: i32) -> Result<Milli, ConfigFault>
+    ensures { result ≡ whole_units least most (number_view number.now) }
+{
+    if number.is_f64() {
+        return Err(ConfigFault::WrongKind);
+    }
+    match number.as_i64() {
+        Some(units) => {
+            if i64::from(least) <= units && units <= i64::from(most) {
+                Ok(Milli(units * THOUSAND))
+            } else {
+                Err(ConfigFault::OutOfRange)
+            }
+        }
+        None => Err(ConfigFault::OutOfRange),
+    }
+}
+
+// Reads a decimal with up to three places, from so many units to so many, in thousandths.
+fn decimal_units(text: &str, least: i32, most: i32) -> Result<Milli, ConfigFault>
+    ensures { result ≡ decimal_units_within least most text.now }
+{
+    let (least, most) = (i64::from(least) * THOUSAND, i64::from(most) * THOUSAND);
+    match decimal(text, 3) {
+        Some(thousandths) => {
+            if is_between(thousandths, least, most) {
+                Ok(Milli(thousandths))
+            } else {
+                Err(ConfigFault::OutOfRange)
+            }
+        }
+        None => Err(ConfigFault::WrongKind),
+    }
+}
+
+// Reads thousandths from so many units to so many.
+pub(crate) fn milli_within(value: &Value, least: i32, most: i32) -> Result<Milli, ConfigFault>
+    ensures { result ≡ milli_within least most (view value.now) }
+{
+    match value {
+        Value::Number(number) => whole_units(number, least, most),
+        Value::String(text) => decimal_units(text.as_str(), least, most),
+        _ => Err(ConfigFault::WrongKind),
+    }
 }

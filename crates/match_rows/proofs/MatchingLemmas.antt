@@ -1,6 +1,6 @@
 -- The patterns that match a FRU, how many were tested, and what is seen of it.
 use Rattle.std.proofs.Common.{◌≡◌, ◌∙◌, ℕ, zero, suc, ◌+◌, ◌<◌, ◌≤◌, List, [], ◌∷◌, ◌++◌, length, take, drop, Bool, true, false, ◌&&◌, ◌||◌, ◌==◌}
-use Rattle.std.proofs.Common.{Some, Result, Ok, Err, refl, sym, ap, ap₂, subst, arith, slice_get, option_map, append_assoc, add-one, drop-cons}
+use Rattle.std.proofs.Common.{if◌then◌else◌, map, Some, Result, Ok, Err, refl, sym, ap, ap₂, subst, arith, slice_get, option_map, append_assoc, add-one, drop-cons}
 use Rattle.std.specs.Prelude.{OnErr}
 use Rattle.std.specs.Option.{unwrap_or}
 use Rattle.std.specs.List.{list_any}
@@ -17,9 +17,12 @@ use Rattle.probe_lang.specs.declared.pattern_text.Member.{Member}
 use Rattle.probe_lang.specs.declared.rows.Hit.{Hit}
 use Rattle.probe_lang.specs.Matches.{matches}
 use Rattle.probe_lang.specs.Sights.{has_hit, has_config, entry_sight}
-use Rattle.cfg_json.specs.Configs.{Config}
+use Rattle.probe_lang.specs.declared.rows.Channel.{Channel}
+use Rattle.cfg_json.specs.Configs.{Config, moving_of}
 use Rattle.match_rows.specs.Matching.{hit_if, pattern_hits, config_hits, hits_of, entry_of, of_config, pattern_matches, any_matches}
+use Rattle.match_rows.specs.Matching.{buses_of, channel_to, own_channels, config_channels}
 use Rattle.match_rows.specs.Matching.{sight_of, pattern_count, IsMatchedWithin}
+use Rattle.match_rows.proofs.ChannelsLemmas.{opened_is}
 
 and_false : (answer : Bool) → (answer && false) ≡ false
 and_false true = refl
@@ -150,7 +153,7 @@ entry_sight_is configs place fields = λ i. record {
   place = place;
   matched = λ config pattern. hit_is place fields configs config pattern i;
   hit = λ config. config_is place fields configs config i;
-  opened = λ config bus. false;
+  opened = λ config bus. opened_is place fields configs config bus i;
 }
 
 raised_more : (count m n : ℕ) → raised (raised count m) n ≡ raised count (m + n)
@@ -208,6 +211,32 @@ found_more place fields configs number config hits new all at so_far one =
     ap (λ (l : List Hit). l ++ config_hits place fields (number + 1) (drop (number + 1) configs)) one
     ∙ append_assoc hits (pattern_hits place fields number 0 config.patterns) _
     ∙ ap (λ (l : List Config). hits ++ config_hits place fields number l) (sym (drop_at configs number config at)) ∙ so_far
+
+-- a configuration more, with its channels, where a pattern of it matches
+pub opened_more : (place : Place) (fields : List Field) (configs : List Config) (number : ℕ) (config : Config) (channels new all : List Channel)
+    → slice_get configs number ≡ Some config → channels ++ config_channels place fields number (drop number configs) ≡ all
+    → new ≡ channels ++ own_channels place fields number config
+    → new ++ config_channels place fields (number + 1) (drop (number + 1) configs) ≡ all
+opened_more place fields configs number config channels new all at so_far one =
+    ap (λ (l : List Channel). l ++ config_channels place fields (number + 1) (drop (number + 1) configs)) one
+    ∙ append_assoc channels (own_channels place fields number config) _
+    ∙ ap (λ (l : List Config). channels ++ config_channels place fields number l) (sym (drop_at configs number config at)) ∙ so_far
+
+-- the channels of a configuration, by whether a pattern of it matches
+pub opened_where : (place : Place) (fields : List Field) (number : ℕ) (config : Config) (channels new : List Channel) (is_match : Bool)
+    → is_match ≡ any_matches place fields config
+    → new ≡ channels ++ (if is_match then map (channel_to number) (buses_of place fields (moving_of config)) else [])
+    → new ≡ channels ++ own_channels place fields number config
+opened_where place fields number config channels new is_match same opened =
+    opened ∙ ap (λ (b : Bool). channels ++ (if b then map (channel_to number) (buses_of place fields (moving_of config)) else [])) same
+
+-- all patterns of a configuration were matched
+pub on_err_behind : {T E : Type 0} (result : Result T E) (old so_far new : Counts) (configs : List Config) (number : ℕ) (config : Config)
+    → slice_get configs number ≡ Some config → so_far ≡ with_matches old (pattern_count (take number configs))
+    → new ≡ with_matches so_far (length config.patterns) → OnErr result (IsMatchedWithin old new (pattern_count configs))
+on_err_behind result old so_far new configs number config at first counted =
+    on_err_config result old so_far new configs number config at first
+    (record { more = length config.patterns; within = omega arith; counted = counted })
 
 pub counted_more : (old so_far new : Counts) (configs : List Config) (number : ℕ) (config : Config) → slice_get configs number ≡ Some config
     → so_far ≡ with_matches old (pattern_count (take number configs)) → new ≡ with_matches so_far (length config.patterns)

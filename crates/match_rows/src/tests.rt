@@ -1,7 +1,8 @@
 use crate::{Rows, entry_shows_record, make};
 use bmc_base::{Place, Silent, Steps};
-use cfg_json::Shelf;
+use cfg_json::{Config, Shelf};
 use fru_record::FruRecord;
+use pat_gate::RegexMaker;
 use probe_lang::Entry;
 use std::alloc::Global;
 use std::process::Abort;
@@ -82,5 +83,40 @@ fn entries_go(rt: HostRuntime) -> Result<(), Fail> {
     assert!(rt; rows.entry(riser).is_none());
     assert!(rt; unplug(&mut rows, riser).is_none());
     assert_places(&rt, &rows, &[(1, 79)]);
+    Ok(())
+}
+
+// A configuration that finds FRUs on the buses 1 and 2, with channels that move with the place.
+const MOVING: &[u8] = br#"{"Name":"W",
+    "Probe":["xyz.openbmc_project.FruDevice({'BUS': 1})","OR","xyz.openbmc_project.FruDevice({'BUS': '2'})"],
+    "Exposes":[{"Name":"X","Type":"Mux","Channels":["$address - 60",9,"$address * 4","$BOARD_PRODUCT_NAME"]},
+        {"Name":"F","Type":"Fan"},{"Name":"Y","Type":"Mux","Channels":["$bus + 20"]}]}"#;
+
+// Places, and the buses to which its channels lead from there: what is no bus is left out.
+const BUSES: [((u32, u32), &[u8]); 4] = [
+    ((1, 80), &[20, 21]),
+    ((2, 63), &[3, 252, 22]),
+    ((1, 59), &[236, 21]),
+    ((3, 80), &[]),
+];
+
+#[test]
+fn channels_move(rt: HostRuntime) -> Result<(), Fail> {
+    let alloc = rt.alloc();
+    let mut shelf: Shelf<Silent> = Shelf::new(alloc)?;
+    let config = Config::read(alloc, MOVING, &mut RegexMaker::new(alloc))?;
+    if shelf.position(&config.name()).is_none() && shelf.len() == 0 {
+        shelf.add(alloc, config)?;
+    }
+    for ((bus, address), buses) in BUSES {
+        let place = Place::new(bus, address).expect(&rt, "it is in range");
+        let fru = FruRecord::decode(alloc, BOARD)?;
+        let entry = make(alloc, place, fru, &shelf, &mut Steps::new(Silent))?;
+        let channels = entry.channels.as_slice();
+        assert_eq!(rt; channels.len(), buses.len(), "{bus} {address}");
+        for (channel, wanted) in channels.iter().zip(buses) {
+            assert_eq!(rt; (channel.config, channel.bus), (0, *wanted));
+        }
+    }
     Ok(())
 }

@@ -1,0 +1,11 @@
+-- The exposes so far are counted.
+use Rattle.std.proofs.Common.{◌≡◌, ◌≤◌, take}
+use Rattle.cfg_json.specs.Configs.{counts_of}
+use Rattle.cfg_json.proofs.counts.Counts.of.Given as goal
+
+abbrev pub invariant-loop-expose : goal.invariant-loop-expose
+invariant-loop-expose l = record {
+  counted : l.counts ≡ counts_of (take l.expose-index l.exposes);
+  zones : l.counts.zones ≤ l.expose-index;
+  fans : l.counts.fans ≤ l.expose-index;
+}

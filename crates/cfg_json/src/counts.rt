@@ -1,0 +1,30 @@
+ghost use Rattle.std.specs.Prelude.{◌≡◌};
+ghost use Rattle.cfg_json.specs.Configs.{counts_of};
+
+use crate::{Body, Expose};
+
+/// How many exposes of each kind a configuration has.
+#[derive(Clone, Copy, Debug, PartialEq, Eq)]
+pub struct Counts {
+    /// How many are zones.
+    pub zones: usize,
+    /// How many are fans.
+    pub fans: usize,
+}
+
+impl Counts {
+    /// Counts exposes.
+    pub fn of(exposes: &[Expose]) -> Counts
+        ensures { result ≡ counts_of exposes.now }
+    {
+        let mut counts = Counts { zones: 0, fans: 0 };
+        for expose in exposes {
+            match &expose.body {
+                Body::Zone(_) => counts.zones += 1,
+                Body::Fan => counts.fans += 1,
+                Body::Mux(_) | Body::Passive => {}
+            }
+        }
+        counts
+    }
+}
