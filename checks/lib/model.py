@@ -34,17 +34,28 @@ AREAS = [
 FOUND = re.compile(r"FOUND\('([^']*)'\)", re.S)
 PATTERN = re.compile(r"xyz\.openbmc_project\.FruDevice\(\{(.*)\}\)", re.S)
 MOST_WORDS, MOST_MEMBERS, LONGEST_WANT = 33, 16, 256
-MOST_EXPOSES, MOST_CHANNELS, LONGEST_EXPOSE_NAME = 256, 16, 128
+MOST_EXPOSES, MOST_CHANNELS, LONGEST_TEMPLATE, LONGEST_GIVEN = 256, 16, 128, 64
 STRING = re.compile(r'"(?:[^"\\]|\\.)*"?', re.S)
 SURROGATE = re.compile("[\ud800-\udfff]")
+# A substitution of a template, and an operation in it; the words that are no fields; the names of fields; the numbers
+# that a text may be, and a decimal.
+OPERATION = re.compile(r" ([-+*/%]) ([0-9]{1,5})")
+SUBSTITUTION = re.compile(rf"\$([A-Za-z_][A-Za-z0-9_]*)((?:{OPERATION.pattern})*)")
+WORDS = ("bus", "BUS", "address", "ADDRESS", "index")
+NAMED = {"CHASSIS_TYPE", "BOARD_MANUFACTURE_DATE"} | {f"{front}_{it}" for *_, front, names in AREAS for it in names}
+CUSTOM = re.compile(r"(?:CHASSIS|BOARD|PRODUCT)_INFO_AM([1-9][0-9]{0,3})")
+MOST_CUSTOM = 2040
+NUMBER = re.compile(r"[0-9]{1,9}|0x[0-9A-Fa-f]{1,4}")
+DECIMAL = re.compile(r"(-?)([0-9]{1,10})(?:\.([0-9]{1,3}))?")
+NOT_READ = ("Sensor", "Pid", "Stepwise")
 END = 0xC1
 ENGLISH = (0, 25)
 BCD_PLUS = "0123456789 -.:,_"
 # The buses below this one are root buses.
 ROOTS = 16
 # A configuration: its name; its operands, each with the operator before it; whether it ends with MATCH_ONE; what its
-# patterns want, each by key; and the buses that it opens.
-Config = namedtuple("Config", "name words match_one wants opens")
+# patterns want, each by key; the buses that it opens, and the templates of its channels that move.
+Config = namedtuple("Config", "name words match_one wants opens moves")
 
 
 class Broken(Exception):
@@ -57,12 +68,12 @@ class Members(list):
 
 class Machine:
     """What stands: the FRUs that are present by place, the configurations, and whether a FRU was plugged. For each
-    configuration the places at which each of its patterns matches, and the indexes of all boards it ever had, by
-    place."""
+    configuration the places at which each of its patterns matches, the buses to which its channels lead from a place,
+    and the indexes of all boards it ever had, by place."""
 
     def __init__(self):
         self.present, self.configs, self.plugged = {}, [], False
-        self.matched, self.had = [], []
+        self.matched, self.led, self.had = [], [], []
 
 
 def demand(rule, holds):
@@ -286,19 +297,97 @@ def text_in(value, key, longest):
     return text
 
 
+def is_word(word):
+    """Whether the word of a substitution stands for something."""
+    custom = CUSTOM.fullmatch(word)
+    return word in WORDS or word in NAMED or bool(custom and int(custom[1]) <= MOST_CUSTOM)
+
+
+def check_template(text):
+    """A text of 1 to 128 bytes has to be a template."""
+    for word, operations in ((it[1], it[2]) for it in SUBSTITUTION.finditer(text)):
+        divides_by_zero = any(sign in "/%" and int(number) == 0 for sign, number in OPERATION.findall(operations))
+        demand("TemplateSyntax", is_word(word) and not divides_by_zero)
+
+
+def computed(text, operations):
+    """The number that operations make of the text of a number, or None."""
+    if not re.fullmatch("[0-9]{1,9}", text):
+        return None
+    value = int(text)
+    for sign, number in OPERATION.findall(operations):
+        number = int(number)
+        if sign in "/%":
+            value = value // number if sign == "/" else value % number
+        else:
+            value = value + number if sign == "+" else value - number if sign == "-" else value * number
+        if not 0 <= value < 2**32:
+            return None
+    return value
+
+
+def given_by(template, texts):
+    """What a template gives where words stand for these texts, or None."""
+    given, at = "", 0
+    for it in SUBSTITUTION.finditer(template):
+        text = texts.get(it[1])
+        if text is not None and it[2]:
+            text = computed(text, it[2])
+        if text is None:
+            return None
+        given += template[at : it.start()] + str(text)
+        at = it.end()
+    given += template[at:]
+    return given if 1 <= len(given.encode()) <= LONGEST_GIVEN else None
+
+
+def led_by(template, texts):
+    """The bus to which a channel that moves leads, or None."""
+    given = given_by(template, texts)
+    number = int(given) if given and re.fullmatch("[0-9]{1,10}", given) else 256
+    return number if number <= 255 else None
+
+
 def channel_of(value):
-    """The bus to which a fixed channel leads."""
-    demand("ExposeForm", not isinstance(value, str))
-    demand("WrongKind", type(value) is int)
+    """The bus to which a fixed channel leads, or the template of one that moves."""
+    demand("WrongKind", isinstance(value, str) or type(value) is int)
+    if isinstance(value, str):
+        single = SUBSTITUTION.fullmatch(value)
+        short = len(value.encode()) <= LONGEST_TEMPLATE
+        demand("TemplateSyntax", NUMBER.fullmatch(value) or single and short and single[1] != "index")
+        if single:
+            check_template(value)
+            return value
+        value = int(value, 16 if value.startswith("0x") else 10)
     demand("OutOfRange", 0 <= value <= 255)
     return value
 
 
+def check_decimal(expose, key, least, most):
+    """A decimal from and to so many units."""
+    value = member(expose, key, (str, int))
+    demand("WrongKind", type(value) is not bool)
+    if isinstance(value, str):
+        found = DECIMAL.fullmatch(value)
+        demand("WrongKind", found)
+        size = int(found[2] + (found[3] or "").ljust(3, "0"))
+        value = -size if found[1] else size
+    else:
+        value *= 1000
+    demand("OutOfRange", 1000 * least <= value <= 1000 * most)
+
+
 def channels_of(expose):
-    """The buses that an expose opens."""
+    """The channels of an expose, of which only a multiplexer has some."""
     demand("WrongKind", isinstance(expose, dict))
-    demand("ExposeForm", "$" not in text_in(expose, "Name", LONGEST_EXPOSE_NAME))
-    demand("ExposeForm", text_in(expose, "Type", 64) == "Mux")
+    check_template(text_in(expose, "Name", LONGEST_TEMPLATE))
+    kind = text_in(expose, "Type", 64)
+    demand("ExposeForm", kind not in NOT_READ)
+    if kind == "Pid.Zone":
+        check_decimal(expose, "MinThermalOutput", -1_000_000, 1_000_000)
+        check_decimal(expose, "FailSafePercent", 0, 100)
+    if kind != "Mux":
+        return []
     channels = member(expose, "Channels", list)
     demand("OutOfRange", 1 <= len(channels) <= MOST_CHANNELS)
     return [channel_of(it) for it in channels]
@@ -332,9 +421,11 @@ def config_of(block):
     words, match_one, wants = probe_of(texts_of(member(document, "Probe", (str, list))))
     exposes = member(document, "Exposes", list) if "Exposes" in document else []
     demand("OutOfRange", len(exposes) <= MOST_EXPOSES)
-    opens = [bus for it in exposes for bus in channels_of(it)]
+    channels = [channel for it in exposes for channel in channels_of(it)]
+    opens, moves = ({it for it in channels if isinstance(it, kind)} for kind in (int, str))
+    demand("MuxMatchOne", not (match_one and moves))
     wants = [{key: with_pattern(want) for key, want in it.items()} for it in wants]
-    return Config(name, words, match_one, wants, set(opens))
+    return Config(name, words, match_one, wants, opens, moves)
 
 
 def config(size, block, machine):
@@ -347,6 +438,7 @@ def config(size, block, machine):
     demand("ConfigLimit", len(machine.configs) < MOST_CONFIGS)
     machine.configs.append(found)
     machine.matched.append([set() for _ in found.wants])
+    machine.led.append({})
     machine.had.append({})
 
 
@@ -357,13 +449,21 @@ def is_wanted(want, text):
     return text == str(want) if isinstance(want, int) else bool(want.search(text))
 
 
+def texts_at(place, fields):
+    """What words and keys stand for at a place."""
+    bus, address = map(str, place)
+    return {**fields, "BUS": bus, "ADDRESS": address, "bus": bus, "address": address}
+
+
 def match(place, fields, machine):
-    """Notes the patterns that match the record at a place."""
-    texts = {**fields, "BUS": str(place[0]), "ADDRESS": str(place[1])}
-    for config, matched in zip(machine.configs, machine.matched):
+    """Notes the patterns that match the record at a place, and the buses to which channels lead from there."""
+    texts = texts_at(place, fields)
+    for config, matched, led in zip(machine.configs, machine.matched, machine.led):
         for wants, places in zip(config.wants, matched):
             if all(is_wanted(want, texts.get(key)) for key, want in wants.items()):
                 places.add(place)
+        if place[0] < ROOTS and any(place in it for it in matched):
+            led[place] = {led_by(it, texts) for it in config.moves} - {None}
 
 
 def plug(place, record, machine):
@@ -381,6 +481,8 @@ def unplug(place, machine):
     demand("NotPresent", machine.present.pop(place, None) is not None)
     for places in (it for matched in machine.matched for it in matched):
         places.discard(place)
+    for led in machine.led:
+        led.pop(place, None)
 
 
 def line_alone(line, machine):
@@ -418,8 +520,9 @@ def boards_of(machine):
     They are in the order of configurations, and for one of them in that of places."""
     buses, boards = set(range(ROOTS)), []
     on_roots = found_on(buses, machine)
-    for config in machine.configs:
-        buses |= config.opens if config.name in on_roots else set()
+    for config, led in zip(machine.configs, machine.led):
+        if config.name in on_roots:
+            buses = buses.union(config.opens, *led.values())
     found = found_on(buses, machine)
     for number, (config, matched) in enumerate(zip(machine.configs, machine.matched)):
         if config.name in found:

@@ -12,7 +12,7 @@ const LOWER: &str = r#"{"Name":"a","Probe":"TRUE"}"#;
 
 const ESCAPED: &str = r#"{"Name":"\u0041","Probe":"TRUE"}"#;
 
-const EXPOSING: &str = r#"{"Name":"A","Probe":"TRUE","Exposes":[{"Name":"x","Type":"Fan"}]}"#;
+const EXPOSING: &str = r#"{"Name":"A","Probe":"TRUE","Exposes":[{"Name":"x","Type":"Pid"}]}"#;
 
 // What stands behind a block.
 const ENDS: [Row; 13] = [

@@ -6,7 +6,11 @@ mod blocks;
 #[cfg(test)]
 mod boards;
 #[cfg(test)]
+mod channels;
+#[cfg(test)]
 mod documents;
+#[cfg(test)]
+mod exposes;
 #[cfg(test)]
 mod faults;
 #[cfg(test)]

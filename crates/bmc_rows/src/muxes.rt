@@ -163,7 +163,7 @@ fru 21 80$
                 r#"{"Name":"R","Probe":"TRUE","Exposes":[{"Name":"x","Type":"Mux","Channels":[20]}]}"#,
             ),
             Config(
-                r#"{"Name":"O","Probe":"TRUE","Exposes":[{"Name":"x","Type":"Mux","Channels":[20]},{"Name":"x","Type":"Fan"}]}"#,
+                r#"{"Name":"O","Probe":"TRUE","Exposes":[{"Name":"x","Type":"Mux","Channels":[20]},{"Name":"x","Type":"Sensor"}]}"#,
             ),
             Config(
                 r#"{"Name":"O","Probe":["TRUE","OR","xyz.openbmc_project.FruDevice({'BUS': '('})"],
@@ -217,6 +217,24 @@ const FOUND: &[Part] = &[
         255,
         "]}",
     ),
+    // texts of numbers and of either case, and substitutions, of which one has 128 bytes
+    Config(
+        r#"{"Name":"A","Probe":"TRUE","Exposes":[{"Name":"x","Type":"Mux","Channels":["0","255","000000016","0x0","0x00fF"]}]}"#,
+    ),
+    Config(
+        r#"{"Name":"A","Probe":"TRUE","Exposes":[
+            {"Name":"x","Type":"Mux","Channels":["$bus","$ADDRESS - 60 * 2","$BOARD_INFO_AM2040 % 7"]}]}"#,
+    ),
+    Repeats(
+        r#"{"Name":"A","Probe":"TRUE","Exposes":[{"Name":"x","Type":"Mux","Channels":["$bus"#,
+        " + 1",
+        31,
+        r#""]}]}"#,
+    ),
+    // fixed channels as texts, with MATCH_ONE
+    Config(
+        r#"{"Name":"A","Probe":["TRUE","MATCH_ONE"],"Exposes":[{"Name":"x","Type":"Mux","Channels":["16",17,"0x12"]}]}"#,
+    ),
     // 16 channels, and a name of an expose of 128 bytes
     Repeats(
         r#"{"Name":"A","Probe":"TRUE","Exposes":[{"Name":"x","Type":"Mux","Channels":[16"#,
@@ -245,7 +263,7 @@ const WRONG_KINDS: &[Part] = &[
     Config(r#"{"Name":"A","Probe":"TRUE","Exposes":[{"Name":"M","Type":"Mux","Channels":17}]}"#),
     Config(r#"{"Name":"A","Probe":"TRUE","Exposes":[{"Name":"M","Type":"Mux","Channels":"1"}]}"#),
     Config(
-        r#"{"Name":"A","Probe":"TRUE","Exposes":[{"Name":"M","Type":"Mux","Channels":[null,"1"]}]}"#,
+        r#"{"Name":"A","Probe":"TRUE","Exposes":[{"Name":"M","Type":"Mux","Channels":[null,"x"]}]}"#,
     ),
     Config(
         r#"{"Name":"A","Probe":"TRUE","Exposes":[{"Name":"M","Type":"Mux","Channels":[1,[1]]}]}"#,
@@ -280,7 +298,16 @@ const OUT_OF_RANGE: &[Part] = &[
     Config(r#"{"Name":"A","Probe":"TRUE","Exposes":[{"Name":"M","Type":"Mux","Channels":[256]}]}"#),
     Config(r#"{"Name":"A","Probe":"TRUE","Exposes":[{"Name":"M","Type":"Mux","Channels":[-1]}]}"#),
     Config(
-        r#"{"Name":"A","Probe":"TRUE","Exposes":[{"Name":"M","Type":"Mux","Channels":[1,18446744073709551615,"1"]}]}"#,
+        r#"{"Name":"A","Probe":"TRUE","Exposes":[{"Name":"M","Type":"Mux","Channels":[1,18446744073709551615,"x"]}]}"#,
+    ),
+    Config(
+        r#"{"Name":"A","Probe":"TRUE","Exposes":[{"Name":"M","Type":"Mux","Channels":["256","x"]}]}"#,
+    ),
+    Config(
+        r#"{"Name":"A","Probe":"TRUE","Exposes":[{"Name":"M","Type":"Mux","Channels":["999999999",null]}]}"#,
+    ),
+    Config(
+        r#"{"Name":"A","Probe":"TRUE","Exposes":[{"Name":"M","Type":"Mux","Channels":["$bus","0x100"]}]}"#,
     ),
     // 17 channels
     Repeats(
@@ -291,36 +318,101 @@ const OUT_OF_RANGE: &[Part] = &[
     ),
 ];
 
-// Documents with exposes that are not read.
-const EXPOSE_FORMS: &[Part] = &[
+// Documents with a channel that is a text and no number, and no substitution alone.
+const TEMPLATE_SYNTAX: &[Part] = &[
+    Config(r#"{"Name":"A","Probe":"TRUE","Exposes":[{"Name":"M","Type":"Mux","Channels":[""]}]}"#),
     Config(
-        r#"{"Name":"A","Probe":"TRUE","Exposes":[{"Name":"M $bus","Type":"Mux","Channels":[1]}]}"#,
-    ),
-    Config(r#"{"Name":"A","Probe":"TRUE","Exposes":[{"Name":"$","Type":5}]}"#),
-    Config(
-        r#"{"Name":"A","Probe":"TRUE","Exposes":[{"Name":"M","Type":"EEPROM","Channels":[1]}]}"#,
-    ),
-    Config(r#"{"Name":"A","Probe":"TRUE","Exposes":[{"Name":"M","Type":"mux","Channels":5}]}"#),
-    Config(r#"{"Name":"A","Probe":"TRUE","Exposes":[{"Name":"M","Type":"Mux ","Channels":[1]}]}"#),
-    Config(r#"{"Name":"A","Probe":"TRUE","Exposes":[{"Name":"M","Type":"Mux","Channels":["1"]}]}"#),
-    Config(
-        r#"{"Name":"A","Probe":"TRUE","Exposes":[{"Name":"M","Type":"Mux","Channels":["$bus"]}]}"#,
+        r#"{"Name":"A","Probe":"TRUE","Exposes":[{"Name":"M","Type":"Mux","Channels":[" 1"]}]}"#,
     ),
     Config(
-        r#"{"Name":"A","Probe":"TRUE","Exposes":[{"Name":"M","Type":"Mux","Channels":[1,"2",256]}]}"#,
+        r#"{"Name":"A","Probe":"TRUE","Exposes":[{"Name":"M","Type":"Mux","Channels":["-1"]}]}"#,
     ),
     Config(
-        r#"{"Name":"A","Probe":"TRUE","Exposes":[{"Name":"M","Type":"Mux","Channels":[1]},{"Name":"M","Type":"Fan"}]}"#,
+        r#"{"Name":"A","Probe":"TRUE","Exposes":[{"Name":"M","Type":"Mux","Channels":["0000000001"]}]}"#,
+    ),
+    Config(
+        r#"{"Name":"A","Probe":"TRUE","Exposes":[{"Name":"M","Type":"Mux","Channels":["0x"]}]}"#,
+    ),
+    Config(
+        r#"{"Name":"A","Probe":"TRUE","Exposes":[{"Name":"M","Type":"Mux","Channels":["0X1"]}]}"#,
+    ),
+    Config(
+        r#"{"Name":"A","Probe":"TRUE","Exposes":[{"Name":"M","Type":"Mux","Channels":["0x00001"]}]}"#,
+    ),
+    Config(
+        r#"{"Name":"A","Probe":"TRUE","Exposes":[{"Name":"M","Type":"Mux","Channels":["0xg"]}]}"#,
+    ),
+    // text before a substitution, behind it, and another one; a `$` that begins none
+    Config(
+        r#"{"Name":"A","Probe":"TRUE","Exposes":[{"Name":"M","Type":"Mux","Channels":["1$bus"]}]}"#,
+    ),
+    Config(
+        r#"{"Name":"A","Probe":"TRUE","Exposes":[{"Name":"M","Type":"Mux","Channels":["$bus "]}]}"#,
+    ),
+    Config(
+        r#"{"Name":"A","Probe":"TRUE","Exposes":[{"Name":"M","Type":"Mux","Channels":["$bus +1"]}]}"#,
+    ),
+    Config(
+        r#"{"Name":"A","Probe":"TRUE","Exposes":[{"Name":"M","Type":"Mux","Channels":["$bus + 123456"]}]}"#,
+    ),
+    Config(
+        r#"{"Name":"A","Probe":"TRUE","Exposes":[{"Name":"M","Type":"Mux","Channels":["$bus$bus"]}]}"#,
+    ),
+    Config(r#"{"Name":"A","Probe":"TRUE","Exposes":[{"Name":"M","Type":"Mux","Channels":["$"]}]}"#),
+    // words that are unknown, a division by 0, and the index
+    Config(
+        r#"{"Name":"A","Probe":"TRUE","Exposes":[{"Name":"M","Type":"Mux","Channels":["$buses"]}]}"#,
+    ),
+    Config(
+        r#"{"Name":"A","Probe":"TRUE","Exposes":[{"Name":"M","Type":"Mux","Channels":["$bus / 0"]}]}"#,
+    ),
+    Config(
+        r#"{"Name":"A","Probe":"TRUE","Exposes":[{"Name":"M","Type":"Mux","Channels":["$index"]}]}"#,
+    ),
+    Config(
+        r#"{"Name":"A","Probe":"TRUE","Exposes":[{"Name":"M","Type":"Mux","Channels":["$index + 1"]}]}"#,
+    ),
+    // 132 bytes
+    Repeats(
+        r#"{"Name":"A","Probe":"TRUE","Exposes":[{"Name":"M","Type":"Mux","Channels":["$bus"#,
+        " + 1",
+        32,
+        r#""]}]}"#,
+    ),
+    // before a channel that is wrong, and before MATCH_ONE and a pattern that is bad
+    Config(
+        r#"{"Name":"A","Probe":"TRUE","Exposes":[{"Name":"M","Type":"Mux","Channels":["16","x",256,null]}]}"#,
+    ),
+    Config(
+        r#"{"Name":"A","Probe":["xyz.openbmc_project.FruDevice({'BUS': '('})","MATCH_ONE"],
+            "Exposes":[{"Name":"M","Type":"Mux","Channels":["$bus","$index"]}]}"#,
+    ),
+];
+
+// Documents that end with MATCH_ONE and have a channel with a substitution, in any of their exposes.
+const MUX_MATCH_ONE: &[Part] = &[
+    Config(
+        r#"{"Name":"A","Probe":["TRUE","MATCH_ONE"],"Exposes":[{"Name":"M","Type":"Mux","Channels":["$bus"]}]}"#,
+    ),
+    Config(
+        r#"{"Name":"A","Probe":["FALSE","MATCH_ONE"],"Exposes":[{"Name":"M","Type":"Mux","Channels":[1]},
+            {"Name":"x","Type":"Fan"},{"Name":"N","Type":"Mux","Channels":[2,"$address - 60"]}]}"#,
+    ),
+    // before a pattern that is bad
+    Config(
+        r#"{"Name":"A","Probe":["xyz.openbmc_project.FruDevice({'BUS': '('})","MATCH_ONE"],
+            "Exposes":[{"Name":"M","Type":"Mux","Channels":["$bus"]}]}"#,
     ),
 ];
 
 // Documents that are answered alike: how a script of one of them ends, and what is printed.
-const DOCUMENTS: [Row; 5] = [
+const DOCUMENTS: [Row; 6] = [
     (FOUND, Done, ALWAYS_BOARD),
     (WRONG_KINDS, Refused, "line 1 refused WrongKind\n"),
     (MISSING_KEYS, Refused, "line 1 refused MissingKey\n"),
     (OUT_OF_RANGE, Refused, "line 1 refused OutOfRange\n"),
-    (EXPOSE_FORMS, Refused, "line 1 refused ExposeForm\n"),
+    (TEMPLATE_SYNTAX, Refused, "line 1 refused TemplateSyntax\n"),
+    (MUX_MATCH_ONE, Refused, "line 1 refused MuxMatchOne\n"),
 ];
 
 #[test]

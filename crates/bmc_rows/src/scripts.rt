@@ -93,7 +93,11 @@ const REFUSALS: [Row; 1] = [(
         Config("{}"),
         Config(r#"{"Name":""}"#),
         Config(r#"{"Name":"A","Probe":"TRU"}"#),
-        Config(r#"{"Name":"A","Probe":"TRUE","Exposes":[{"Name":"x","Type":"Fan"}]}"#),
+        Config(r#"{"Name":"A","Probe":"TRUE","Exposes":[{"Name":"$x","Type":"Fan"}]}"#),
+        Config(r#"{"Name":"A","Probe":"TRUE","Exposes":[{"Name":"x","Type":"Sensor"}]}"#),
+        Config(
+            r#"{"Name":"A","Probe":["TRUE","MATCH_ONE"],"Exposes":[{"Name":"x","Type":"Mux","Channels":["$bus"]}]}"#,
+        ),
         Config(r#"{"Name":"A","Probe":"xyz.openbmc_project.FruDevice({'BUS': '('})"}"#),
         Config(r#"{"Name":"1","Probe":"TRUE"}"#),
         Config(ALWAYS),
@@ -124,24 +128,26 @@ line 261 refused WrongKind
 line 262 refused MissingKey
 line 263 refused OutOfRange
 line 264 refused ProbeSyntax
-line 265 refused ExposeForm
-line 266 refused PatternSyntax
-line 267 refused DuplicateName
-line 268 refused ConfigLimit
-line 269 refused NotPresent
-line 270 refused FruShort
-line 271 refused FruTooLong
-line 272 refused HeaderVersion
-line 273 refused HeaderChecksum
-line 274 refused AreaOutside Chassis
-line 275 refused AreaVersion Board
-line 276 refused AreaLength Product
-line 277 refused AreaChecksum Chassis
-line 278 refused FieldOutside Board
-line 279 refused NoEnd Product
-line 281 refused Occupied
-line 282 refused ConfigAfterPlug
-line 283 refused ConfigShort
+line 265 refused TemplateSyntax
+line 266 refused ExposeForm
+line 267 refused MuxMatchOne
+line 268 refused PatternSyntax
+line 269 refused DuplicateName
+line 270 refused ConfigLimit
+line 271 refused NotPresent
+line 272 refused FruShort
+line 273 refused FruTooLong
+line 274 refused HeaderVersion
+line 275 refused HeaderChecksum
+line 276 refused AreaOutside Chassis
+line 277 refused AreaVersion Board
+line 278 refused AreaLength Product
+line 279 refused AreaChecksum Chassis
+line 280 refused FieldOutside Board
+line 281 refused NoEnd Product
+line 283 refused Occupied
+line 284 refused ConfigAfterPlug
+line 285 refused ConfigShort
 fru 1 80$
 "#,
 )];
