@@ -37,11 +37,11 @@ MOST_WORDS, MOST_MEMBERS, LONGEST_WANT = 33, 16, 256
 MOST_EXPOSES, MOST_CHANNELS, LONGEST_TEMPLATE, LONGEST_GIVEN = 256, 16, 128, 64
 STRING = re.compile(r'"(?:[^"\\]|\\.)*"?', re.S)
 SURROGATE = re.compile("[\ud800-\udfff]")
-# A substitution of a template, and an operation in it; the words that are no fields; the names of fields; the numbers
-# that a text may be, and a decimal.
+# A substitution of a template, and an operation in it; the words that are no fields, each with the key that has its
+# text; the names of fields; the numbers that a text may be, and a decimal.
 OPERATION = re.compile(r" ([-+*/%]) ([0-9]{1,5})")
 SUBSTITUTION = re.compile(rf"\$([A-Za-z_][A-Za-z0-9_]*)((?:{OPERATION.pattern})*)")
-WORDS = ("bus", "BUS", "address", "ADDRESS", "index")
+WORDS = {"bus": "BUS", "BUS": "BUS", "address": "ADDRESS", "ADDRESS": "ADDRESS", "index": "index"}
 NAMED = {"CHASSIS_TYPE", "BOARD_MANUFACTURE_DATE"} | {f"{front}_{it}" for *_, front, names in AREAS for it in names}
 CUSTOM = re.compile(r"(?:CHASSIS|BOARD|PRODUCT)_INFO_AM([1-9][0-9]{0,3})")
 MOST_CUSTOM = 2040
@@ -327,10 +327,10 @@ def computed(text, operations):
 
 
 def given_by(template, texts):
-    """What a template gives where words stand for these texts, or None."""
+    """What a template gives where keys have these texts, or None."""
     given, at = "", 0
     for it in SUBSTITUTION.finditer(template):
-        text = texts.get(it[1])
+        text = texts.get(WORDS.get(it[1], it[1]))
         if text is not None and it[2]:
             text = computed(text, it[2])
         if text is None:
@@ -450,9 +450,8 @@ def is_wanted(want, text):
 
 
 def texts_at(place, fields):
-    """What words and keys stand for at a place."""
-    bus, address = map(str, place)
-    return {**fields, "BUS": bus, "ADDRESS": address, "bus": bus, "address": address}
+    """The texts of keys at a place."""
+    return {**fields, "BUS": str(place[0]), "ADDRESS": str(place[1])}
 
 
 def match(place, fields, machine):
