@@ -51,12 +51,19 @@ finds_riser = codes "{\"Name\":\"R\",\"Probe\":\"xyz.openbmc_project.FruDevice({
 abbrev pub opens_20 : List ℕ
 opens_20 = codes "{\"Name\":\"M\",\"Probe\":\"TRUE\",\"Exposes\":[{\"Name\":\"X\",\"Type\":\"Mux\",\"Channels\":[20]}]}"
 
--- one whose probe has no word, and one that exposes no multiplexer
+-- one that opens the bus 60 below the address of a FRU that it finds
+abbrev pub opens_below : List ℕ
+opens_below = codes "{\"Name\":\"W\",\"Probe\":\"xyz.openbmc_project.FruDevice({})\",\"Exposes\":[{\"Name\":\"X\",\"Type\":\"Mux\",\"Channels\":[\"$address - 60\"]}]}"
+
+-- one whose probe has no word, one with an expose of a type that is not read, and one with a name that is no template
 abbrev pub no_word : List ℕ
 no_word = codes "{\"Name\":\"A\",\"Probe\":\"TRU\"}"
 
-abbrev pub no_mux : List ℕ
-no_mux = codes "{\"Name\":\"A\",\"Probe\":\"TRUE\",\"Exposes\":[{\"Name\":\"X\",\"Type\":\"Fan\"}]}"
+abbrev pub unread : List ℕ
+unread = codes "{\"Name\":\"A\",\"Probe\":\"TRUE\",\"Exposes\":[{\"Name\":\"X\",\"Type\":\"Sensor\"}]}"
+
+abbrev pub no_template : List ℕ
+no_template = codes "{\"Name\":\"A\",\"Probe\":\"TRUE\",\"Exposes\":[{\"Name\":\"$foo\",\"Type\":\"Fan\"}]}"
 
 abbrev pub newline : List ℕ
 newline = codes "\n"

@@ -9,7 +9,7 @@ use Rattle.cfg_json.specs.declared.config_fault.ConfigFault.{ConfigFault}
 use Rattle.cfg_json.specs.declared.config_fault.ConfigFault.TheVariants as faults
 use Rattle.bmc_report.specs.declared.refusal.Refusal.{Refusal}
 use Rattle.bmc_report.specs.declared.refusal.Refusal.TheVariants.{NotJson, Fraction, MissingKey, WrongKind, OutOfRange, ProbeSyntax, ExposeForm}
-use Rattle.bmc_report.specs.declared.refusal.Refusal.TheVariants.{PatternSyntax, PatternTooLarge, ConfigAfterPlug}
+use Rattle.bmc_report.specs.declared.refusal.Refusal.TheVariants.{TemplateSyntax, MuxMatchOne, PatternSyntax, PatternTooLarge, ConfigAfterPlug}
 use Rattle.bmc_report.specs.declared.refusal.Refusal.TheVariants.{DuplicateName, ConfigLimit, Occupied}
 use Rattle.bmc_report.specs.declared.refusal.Refusal.TheVariants.{FruShort, FruTooLong, HeaderVersion, HeaderChecksum, AreaOutside, AreaVersion}
 use Rattle.bmc_report.specs.declared.refusal.Refusal.TheVariants.{AreaLength, AreaChecksum, FieldOutside, NoEnd, FruLimit, NotPresent}
@@ -39,6 +39,8 @@ config_refusal faults.WrongKind = Some WrongKind
 config_refusal faults.OutOfRange = Some OutOfRange
 config_refusal (faults.ProbeSyntax at) = Some ProbeSyntax
 config_refusal faults.ExposeForm = Some ExposeForm
+config_refusal faults.TemplateSyntax = Some TemplateSyntax
+config_refusal faults.MuxMatchOne = Some MuxMatchOne
 config_refusal (faults.PatternSyntax text) = Some PatternSyntax
 config_refusal (faults.PatternTooLarge text) = Some PatternTooLarge
 config_refusal faults.OutOfMemory = None

@@ -4,7 +4,7 @@ ghost use Rattle.bmc_machine.specs.Meetings.{first_met, met_before};
 ghost use Rattle.bmc_machine.specs.Answers.{answer_of, out};
 ghost use Rattle.bmc_machine.specs.Examples.{riser, riser_fields, chassis, chassis_fields, damaged, plug, unplug, config, fru, refused};
 ghost use Rattle.bmc_machine.specs.Examples.{always_found, never_found, asks_before, asks_behind, finds_any, finds_first, finds_chassis, finds_riser};
-ghost use Rattle.bmc_machine.specs.Examples.{opens_20, no_word, no_mux, three_frus};
+ghost use Rattle.bmc_machine.specs.Examples.{opens_20, opens_below, no_word, unread, no_template, three_frus};
 ghost use Rattle.bmc_machine.specs.Examples.{bus_1_79, bus_1_80, bus_1_81, bus_20_80, place_1_79, place_1_80, place_1_81};
 
 /// What the machine prints for scripts with FRUs, computed from the definitions: a FRU that is listed, two that
@@ -32,15 +32,15 @@ pub fn scripts_with_configs()
     ensures refused { out [] (config (codes "27") always_found ++ config (codes "27") always_found ++ plug bus_20_80 chassis
         ++ config (codes "55") never_found ++ unplug bus_20_80)
         ≡ codes "0 new board \"A\" 1\n" ++ refused (codes "2") (codes "DuplicateName") ++ refused (codes "4") (codes "ConfigAfterPlug") }
-    ensures broken { out [] (config (codes "26") no_word ++ config (codes "65") no_mux)
-        ≡ refused (codes "1") (codes "ProbeSyntax") ++ refused (codes "2") (codes "ExposeForm") }
+    ensures broken { out [] (config (codes "26") no_word ++ config (codes "68") unread ++ config (codes "68") no_template)
+        ≡ refused (codes "1") (codes "ProbeSyntax") ++ refused (codes "2") (codes "ExposeForm") ++ refused (codes "3") (codes "TemplateSyntax") }
     ensures large { out (Accepted ∷ LargePattern (codes "RSR") ∷ []) (config (codes "27") always_found ++ config (codes "83") finds_riser)
         ≡ codes "0 new board \"A\" 1\n" ++ refused (codes "2") (codes "PatternTooLarge") }
 {}
 
 /// What it prints for scripts with boards: one of a chassis by its type, but not on a bus that is not visible; one at the
-/// first FRU alone; one on a bus that a multiplexer opens; and boards that go and come back, each with the index that it
-/// had.
+/// first FRU alone; one on a bus that a multiplexer opens, and one on a bus to which its channel moves; and boards that go
+/// and come back, each with the index that it had.
 pub fn scripts_with_boards()
     ensures found { out [] (config (codes "74") finds_chassis ++ plug bus_1_80 chassis ++ plug bus_1_81 riser ++ plug bus_20_80 chassis
         ++ unplug bus_1_80)
@@ -50,6 +50,8 @@ pub fn scripts_with_boards()
         ++ codes "0 gone board \"F\" 2 at 1 80\n0 new board \"F\" 1 at 1 81\n0 gone board \"F\" 1 at 1 81\n" }
     ensures opened { out [] (config (codes "56") finds_any ++ config (codes "81") opens_20 ++ plug bus_20_80 riser)
         ≡ codes "0 new board \"M\" 1\n0 new board \"F\" 1 at 20 80\n" ++ fru bus_20_80 riser_fields }
+    ensures moved { out [] (config (codes "123") opens_below ++ plug bus_20_80 riser ++ plug bus_1_80 chassis)
+        ≡ codes "0 new board \"W\" 1 at 1 80\n0 new board \"W\" 2 at 20 80\n" ++ fru bus_1_80 chassis_fields ++ fru bus_20_80 riser_fields }
     ensures kept { out [] (config (codes "56") finds_any ++ plug bus_1_81 riser ++ plug bus_1_80 riser ++ unplug bus_1_81 ++ plug bus_1_79 riser
         ++ unplug bus_1_80 ++ unplug bus_1_79 ++ plug bus_1_81 riser ++ unplug bus_1_81)
         ≡ codes "0 new board \"F\" 1 at 1 81\n0 new board \"F\" 2 at 1 80\n0 gone board \"F\" 1 at 1 81\n0 new board \"F\" 3 at 1 79\n"

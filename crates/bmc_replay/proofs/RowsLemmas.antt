@@ -1,5 +1,5 @@
 -- What the found set has of the entries.
-use Rattle.std.proofs.Common.{◌≡◌, ℕ, ◌+◌, ◌<◌, ◌≤◌, List, [], ◌∷◌, map, length, Bool, true, false, not, cond, refl, ap, arith}
+use Rattle.std.proofs.Common.{◌≡◌, ℕ, ◌+◌, ◌<◌, ◌≤◌, List, [], ◌∷◌, map, length, Bool, true, false, not, cond, if◌then◌else◌, refl, ap, arith}
 use Rattle.std.specs.Prelude.{◌||◌}
 use Rattle.std.specs.List.{All}
 use Rattle.std.specs.Ordering.{is_lt, is_eq}
@@ -10,11 +10,13 @@ use Rattle.fru_area.specs.declared.field.Field.{Field}
 use Rattle.probe_lang.specs.Matches.{matches}
 use Rattle.probe_lang.specs.Sights.{Sight, entry_sight}
 use Rattle.probe_lang.specs.declared.rows.Hit.{Hit}
+use Rattle.probe_lang.specs.declared.rows.Channel.{Channel}
 use Rattle.probe_lang.specs.declared.rows.Entry.{Entry}
 use Rattle.probe_lang.specs.declared.pattern_text.Member.{Member}
 use Rattle.probe_lang.specs.Presents as presents
-use Rattle.cfg_json.specs.Configs.{Config}
+use Rattle.cfg_json.specs.Configs.{Config, moving_of}
 use Rattle.match_rows.specs.Matching.{hit_if, pattern_hits, config_hits, entry_of}
+use Rattle.match_rows.specs.Matching.{any_matches, buses_of, channel_to, own_channels, config_channels}
 use Rattle.found_set.specs.Rows as rows
 use Rattle.found_set.specs.Rows.{row_of, sights_of, IsKnown}
 use Rattle.found_set.specs.declared.row.Row.{Row}
@@ -73,8 +75,31 @@ configs_below count number place fields (config ∷ configs) few =
     (patterns_below count number 0 place fields config.patterns (omega (arith, few)))
     (configs_below count (number + 1) place fields configs (omega (arith, few)))
 
+-- ---- and so are its channels
+
+abbrev AreChannelsBelow : ℕ → List Channel → Type 0
+AreChannelsBelow count channels = All (λ (channel : Channel). channel.config < count) channels
+
+buses_below : (count number : ℕ) (buses : List ℕ) → number < count → AreChannelsBelow count (map (channel_to number) buses)
+buses_below count number [] few = All-nil _
+buses_below count number (bus ∷ buses) few =
+    All-cons (λ (channel : Channel). channel.config < count) (channel_to number bus) (map (channel_to number) buses) few (buses_below count number buses few)
+
+own_below : (count number : ℕ) (buses : List ℕ) (is_match : Bool) → number < count
+    → AreChannelsBelow count (if is_match then map (channel_to number) buses else [])
+own_below count number buses true few = buses_below count number buses few
+own_below count number buses false few = All-nil _
+
+channels_below : (count number : ℕ) (place : Place) (fields : List Field) (configs : List Config) → number + length configs ≤ count
+    → AreChannelsBelow count (config_channels place fields number configs)
+channels_below count number place fields [] few = All-nil _
+channels_below count number place fields (config ∷ configs) few =
+    All-append (λ (channel : Channel). channel.config < count) (own_channels place fields number config) (config_channels place fields (number + 1) configs)
+    (own_below count number (buses_of place fields (moving_of config)) (any_matches place fields config) (omega (arith, few)))
+    (channels_below count (number + 1) place fields configs (omega (arith, few)))
+
 pub entry_is_known : (configs : List Config) (place : Place) (fields : List Field) → IsKnown (rules_of configs) (row_of (entry_of configs place fields))
 entry_is_known configs place fields = record {
   hits = configs_below (length (rules_of configs)) 0 place fields configs (omega (arith, length-map configs rule_of));
-  channels = All-nil _;
+  channels = channels_below (length (rules_of configs)) 0 place fields configs (omega (arith, length-map configs rule_of));
 }

@@ -143,6 +143,8 @@ block_answer line past bytes rule refusal maker maker_now gives is = of rule (co
     of faults.OutOfRange read gives is = by_rule faults.OutOfRange read gives.0 is
     of (faults.ProbeSyntax at) read gives is = by_rule (faults.ProbeSyntax at) read gives.0 is
     of faults.ExposeForm read gives is = by_rule faults.ExposeForm read gives.0 is
+    of faults.TemplateSyntax read gives is = by_rule faults.TemplateSyntax read gives.0 is
+    of faults.MuxMatchOne read gives is = by_rule faults.MuxMatchOne read gives.0 is
     of (faults.PatternSyntax text) (Ok config) gives is = ap (refusing line past) (some_same _ _ is)
     of (faults.PatternSyntax text) (Err other) gives is = absurd gives.0
     of (faults.PatternTooLarge text) (Ok config) gives is = ap (refusing line past) (some_same _ _ is)
@@ -179,6 +181,8 @@ unread bytes faults.WrongKind maker maker_now gives none = absurd (cc)
 unread bytes faults.OutOfRange maker maker_now gives none = absurd (cc)
 unread bytes (faults.ProbeSyntax at) maker maker_now gives none = absurd (cc)
 unread bytes faults.ExposeForm maker maker_now gives none = absurd (cc)
+unread bytes faults.TemplateSyntax maker maker_now gives none = absurd (cc)
+unread bytes faults.MuxMatchOne maker maker_now gives none = absurd (cc)
 unread bytes (faults.PatternSyntax text) maker maker_now gives none = absurd (cc)
 unread bytes (faults.PatternTooLarge text) maker maker_now gives none = absurd (cc)
 

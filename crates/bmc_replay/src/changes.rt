@@ -19,8 +19,8 @@ pub(crate) fn fixed_channels<L: Ledger>(
 {
     let mut fixed = Vec::new(alloc);
     for expose in config.exposes() {
-        match &expose.body {
-            Body::Mux(part) => fixed.extend_from_slice(part.fixed.as_slice())?,
+        if let Body::Mux(part) = &expose.body {
+            fixed.extend_from_slice(part.fixed.as_slice())?;
         }
     }
     Ok(Bytes::from(fixed))

@@ -40,6 +40,8 @@ pub fn config_refused(rule: ConfigFault) -> Result<Refusal, OutOfMemory>
         ConfigFault::OutOfRange => Refusal::OutOfRange,
         ConfigFault::ProbeSyntax(_) => Refusal::ProbeSyntax,
         ConfigFault::ExposeForm => Refusal::ExposeForm,
+        ConfigFault::TemplateSyntax => Refusal::TemplateSyntax,
+        ConfigFault::MuxMatchOne => Refusal::MuxMatchOne,
         ConfigFault::PatternSyntax(_) => Refusal::PatternSyntax,
         ConfigFault::PatternTooLarge(_) => Refusal::PatternTooLarge,
         ConfigFault::OutOfMemory => return Err(OutOfMemory),

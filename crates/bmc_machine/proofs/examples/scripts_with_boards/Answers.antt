@@ -20,6 +20,13 @@ use Rattle.bmc_report.specs.Changes.{change_text}
 use Rattle.fru_record.specs.Lookups.{text_named}
 use Rattle.serde_json.proofs.OnLiterals.{serde_json_on_literals}
 use Rattle.cfg_json.specs.Documents.{config_in, config_of}
+use Rattle.tmpl.specs.Chains.{chain_behind}
+use Rattle.tmpl.specs.Operations.{digits as operand_digits, operation_at}
+use Rattle.tmpl.specs.Numbers.{fixed_number}
+use Rattle.tmpl.specs.Words.{field_of, word_of}
+use Rattle.tmpl.specs.Templates.{piece_at, pieces_of, is_template, is_single, uses_index}
+use Rattle.tmpl.specs.Rendering.{rendered, rendered_number}
+use Rattle.cfg_json.specs.Exposes.{body_of}
 use Rattle.probe_lang.specs.Words.{without_spaces, between, found_name, term_of_word}
 use Rattle.probe_lang.specs.Braces.{pattern_in}
 use Rattle.probe_lang.specs.Grammar.{read_from}
@@ -33,9 +40,10 @@ use Rattle.bmc_machine.specs.Answers.{answers, final_list}
 use Rattle.bmc_machine.proofs.examples.scripts_with_boards.Goals as goal
 
 pub returns : goal.returns
-unfolding encode is_utf8 chars digits hex_on_literals without_return line_item whole_block whole_item cut_most cut block_size hex_decoded digits_in number
+unfolding chain_behind operand_digits operation_at fixed_number field_of word_of piece_at pieces_of is_template is_single uses_index rendered rendered_number
+    body_of encode is_utf8 chars digits hex_on_literals without_return line_item whole_block whole_item cut_most cut block_size hex_decoded digits_in number
     place_named plug_of unplug_of words_of command_of header area_at first_field walk raw_fields text_of name_text area_fields area_text refusal_name
     refusal_text quoted field_row fru_row fields_of_area fields_at fields_under record_of change_text text_named serde_json_on_literals config_in config_of
     without_spaces between found_name term_of_word pattern_in read_from matches board_places boards_in boards kept changes_between standing answers
     final_list
-returns c = record { found = refl; first = refl; opened = refl; kept = refl }
+returns c = record { found = refl; first = refl; opened = refl; moved = refl; kept = refl }
