@@ -1,6 +1,7 @@
 -- What the computed examples print.
-use Rattle.std.specs.Prelude.{ℕ, List, [], ◌∷◌, ◌++◌, codes, false, true, Some, None}
+use Rattle.std.specs.Prelude.{ℕ, negsuc, Bool, List, [], ◌∷◌, ◌++◌, codes, replicate, false, true, Some, None}
 use Rattle.bmc_base.specs.Places.{Place}
+use Rattle.bmc_base.specs.declared.milli.Milli.{Milli}
 use Rattle.fru_area.specs.declared.fault.Area.TheVariants as area
 use Rattle.fru_area.specs.declared.field.Field.{Field}
 use Rattle.fru_area.specs.declared.name.FieldName.TheVariants.{BoardPartNumber, Custom}
@@ -17,6 +18,17 @@ new_chassis = change.Board false (codes "Chassis") 1 None
 
 abbrev pub gone_riser : Change
 gone_riser = change.Board true (codes "Riser") 2 (Some (record { bus = 1; address = 80 }))
+
+-- an alarm that went on
+abbrev pub alarm_on : Change
+alarm_on = change.Alarm true (codes "T") 0 true true
+
+-- a twentieth below zero, and eight alarms of which the first and the last are on
+abbrev pub below_zero : Milli
+below_zero = record { 0 = negsuc 49 }
+
+abbrev pub outer_alarms : List Bool
+outer_alarms = true ∷ (replicate 6 false ++ true ∷ [])
 
 -- what a text may hold beside plain bytes: a quote, a backslash, the control characters 00h and 1Fh, 7Fh, and
 -- the character E9h in UTF-8

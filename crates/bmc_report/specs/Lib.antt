@@ -1,6 +1,12 @@
+pub mod BoardRows
+pub mod Boards
 pub mod Changes
 pub mod Examples
+pub mod LogRows
 pub mod Places
 pub mod Quoted
 pub mod Refusals
 pub mod Rows
+pub mod SensorRows
+pub mod Values
+pub mod ZoneRows

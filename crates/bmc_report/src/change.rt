@@ -1,12 +1,8 @@
-ghost use Rattle.std.specs.Prelude.{◌≡◌, ◌++◌, OnOk, string_bytes};
-ghost use Rattle.bmc_report.specs.Changes.{at_text, verb_text, change_text, change_line};
-ghost use Rattle.bmc_report.specs.declared.change.Change.TheVariants.{Board, Item};
+ghost use Rattle.std.specs.Prelude.{◌≡◌};
 
-use crate::decimal::push_decimal;
+use crate::Refusal;
 use crate::live_kind::LiveKind;
-use crate::place::push_place;
-use crate::quoted::push_quoted;
-use bmc_base::{Name, OutOfMemory, Place};
+use bmc_base::{Milli, Name, Place};
 
 /// What an event changed.
 #[derive(Drop)]
@@ -30,6 +26,52 @@ pub enum Change {
         kind: LiveKind,
         /// Its name.
         name: Name,
+    },
+    /// A poller ended to read a sensor that was gone in between, so that nothing was read.
+    Stale {
+        /// The name of the sensor when the poller began.
+        name: Name,
+    },
+    /// A sensor failed, or works again.
+    Failure {
+        /// Whether it failed, and does not work again.
+        failed: bool,
+        /// Its name.
+        name: Name,
+    },
+    /// An alarm of a sensor went on or off.
+    Alarm {
+        /// Whether it went on, and not off.
+        on: bool,
+        /// The name of the sensor.
+        name: Name,
+        /// The position of its limit among those of the sensor, from 0.
+        position: u8,
+        /// Whether it is on at high values, and not at low ones.
+        high: bool,
+        /// Whether it is critical, and not a warning.
+        critical: bool,
+    },
+    /// A fan zone went into failsafe, or is normal again.
+    Zone {
+        /// Whether it went into failsafe, and is not normal again.
+        failsafe: bool,
+        /// Its name.
+        name: Name,
+    },
+    /// The duty of a fan changed.
+    Duty {
+        /// The name of the fan.
+        name: Name,
+        /// Its duty now, in thousandths of a percent.
+        duty: Milli,
+    },
+    /// A FRU was refused. Only a log has such a change.
+    PlugRefused {
+        /// The place of the FRU.
+        place: Place,
+        /// Why it was refused.
+        refusal: Refusal,
     },
 }
 
@@ -55,83 +97,38 @@ impl Change {
                 kind: *kind,
                 name: name.copied(),
             },
+            Change::Stale { name } => Change::Stale {
+                name: name.copied(),
+            },
+            Change::Failure { failed, name } => Change::Failure {
+                failed: *failed,
+                name: name.copied(),
+            },
+            Change::Alarm {
+                on,
+                name,
+                position,
+                high,
+                critical,
+            } => Change::Alarm {
+                on: *on,
+                name: name.copied(),
+                position: *position,
+                high: *high,
+                critical: *critical,
+            },
+            Change::Zone { failsafe, name } => Change::Zone {
+                failsafe: *failsafe,
+                name: name.copied(),
+            },
+            Change::Duty { name, duty } => Change::Duty {
+                name: name.copied(),
+                duty: *duty,
+            },
+            Change::PlugRefused { place, refusal } => Change::PlugRefused {
+                place: *place,
+                refusal: *refusal,
+            },
         }
     }
-}
-
-// Appends where a board is, if it was found by a FRU at a place.
-#[tactic(auto, using(std::proofs::Common::append_assoc))]
-fn push_at(out: &mut String, place: Option<Place>) -> Result<(), OutOfMemory>
-    ensures { OnOk result (string_bytes out.new ≡ string_bytes out.old ++ at_text place) }
-{
-    if let Some(place) = place {
-        out.push_str(" at ")?;
-        push_place(out, place)?;
-    }
-    Ok(())
-}
-
-// What became of a thing.
-fn verb(gone: bool) -> &'static str
-    ensures { result.now ≡ verb_text gone }
-{
-    if gone { "gone" } else { "new" }
-}
-
-// Appends that a board is gone or new.
-#[tactic(auto, using(std::proofs::Common::append_assoc), unfolding(crate::specs::Changes::change_text))]
-fn push_board(
-    out: &mut String,
-    gone: bool,
-    name: &Name,
-    index: u32,
-    place: Option<Place>,
-) -> Result<(), OutOfMemory>
-    ensures { OnOk result (string_bytes out.new ≡ string_bytes out.old ++ change_text (Board gone name.now index place)) }
-{
-    out.push_str(verb(gone))?;
-    out.push_str(" board ")?;
-    push_quoted(out, name.as_str())?;
-    out.push(' ')?;
-    push_decimal(out, u64::from(index))?;
-    push_at(out, place)
-}
-
-// Appends that a live item is gone or new.
-#[tactic(auto, using(std::proofs::Common::append_assoc), unfolding(crate::specs::Changes::change_text))]
-fn push_item(out: &mut String, gone: bool, kind: LiveKind, name: &Name) -> Result<(), OutOfMemory>
-    ensures { OnOk result (string_bytes out.new ≡ string_bytes out.old ++ change_text (Item gone kind name.now)) }
-{
-    out.push_str(verb(gone))?;
-    out.push(' ')?;
-    out.push_str(kind.word())?;
-    out.push(' ')?;
-    push_quoted(out, name.as_str())
-}
-
-// Appends what is printed of a change, without the tick.
-fn push_change_text(out: &mut String, change: &Change) -> Result<(), OutOfMemory>
-    ensures { OnOk result (string_bytes out.new ≡ string_bytes out.old ++ change_text change.now) }
-{
-    match change {
-        Change::Board {
-            gone,
-            name,
-            index,
-            place,
-        } => push_board(out, *gone, name, *index, *place),
-        Change::Item { gone, kind, name } => push_item(out, *gone, *kind, name),
-    }
-}
-
-/// Appends the line that is printed of a change. `tick` counts the ticks before it, of 100 milliseconds each.
-#[tactic(auto, using(std::proofs::Common::append_assoc))]
-pub fn push_change(out: &mut String, tick: u64, change: &Change) -> Result<(), OutOfMemory>
-    ensures { OnOk result (string_bytes out.new ≡ string_bytes out.old ++ change_line tick change.now) }
-{
-    push_decimal(out, tick)?;
-    out.push(' ')?;
-    push_change_text(out, change)?;
-    out.push('\n')?;
-    Ok(())
 }

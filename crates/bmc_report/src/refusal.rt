@@ -1,9 +1,10 @@
-ghost use Rattle.std.specs.Prelude.{◌≡◌, ◌++◌, OnOk, string_bytes};
+ghost use Rattle.std.specs.Prelude.{◌≡◌, ◌++◌, OnOk, IfOk, string_bytes};
 ghost use Rattle.bmc_report.specs.Refusals.{area_text, refusal_name, area_of, area_ending, refusal_text, refused_line};
 
 use crate::decimal::push_decimal;
-use bmc_base::OutOfMemory;
+use bmc_base::{OutOfMemory, Text};
 use fru_area::Area;
+use std::alloc::Global;
 
 /// Why a line is refused. Each variant has the name that is printed. A rule of records that an area breaks has
 /// that area, whose name is printed too.
@@ -172,7 +173,7 @@ fn push_area(out: &mut String, area: Option<Area>) -> Result<(), OutOfMemory>
 // Appends what is printed of a refusal.
 #[inline]
 #[tactic(auto, using(std::proofs::Common::append_assoc), unfolding(crate::specs::Refusals::refusal_text))]
-fn push_refusal(out: &mut String, refusal: Refusal) -> Result<(), OutOfMemory>
+pub(crate) fn push_refusal(out: &mut String, refusal: Refusal) -> Result<(), OutOfMemory>
     ensures { OnOk result (string_bytes out.new ≡ string_bytes out.old ++ refusal_text refusal) }
 {
     out.push_str(refusal.name())?;
@@ -191,4 +192,14 @@ pub fn push_refused_line(out: &mut String, number: u64, refusal: Refusal) -> Res
     push_refusal(out, refusal)?;
     out.push('\n')?;
     Ok(())
+}
+
+/// Returns what is printed of a refusal: its name, and the area if it is a rule of one. Fails only for want of
+/// memory.
+pub fn refusal_text(alloc: Global, refusal: &Refusal) -> Result<Text, OutOfMemory>
+    ensures { IfOk result (λ text. text ≡ refusal_text refusal.now) }
+{
+    let mut out = String::new(alloc);
+    push_refusal(&mut out, *refusal)?;
+    Text::copy(alloc, out.as_str())
 }

@@ -1,0 +1,57 @@
+use crate::{Refusal, push_refused_line, refusal_text};
+use fru_area::Area;
+use std::fmt::Write;
+use std::test::Fail;
+
+#[test]
+fn lines_of_refusals(rt: HostRuntime) -> Result<(), Fail> {
+    let rows = [
+        (Refusal::UnknownCommand, "UnknownCommand"),
+        (Refusal::ConfigTooLong, "ConfigTooLong"),
+        (Refusal::ConfigShort, "ConfigShort"),
+        (Refusal::NotJson, "NotJson"),
+        (Refusal::Fraction, "Fraction"),
+        (Refusal::MissingKey, "MissingKey"),
+        (Refusal::WrongKind, "WrongKind"),
+        (Refusal::OutOfRange, "OutOfRange"),
+        (Refusal::ProbeSyntax, "ProbeSyntax"),
+        (Refusal::ExposeForm, "ExposeForm"),
+        (Refusal::TemplateSyntax, "TemplateSyntax"),
+        (Refusal::MuxMatchOne, "MuxMatchOne"),
+        (Refusal::PatternSyntax, "PatternSyntax"),
+        (Refusal::PatternTooLarge, "PatternTooLarge"),
+        (Refusal::ConfigAfterPlug, "ConfigAfterPlug"),
+        (Refusal::DuplicateName, "DuplicateName"),
+        (Refusal::ConfigLimit, "ConfigLimit"),
+        (Refusal::Occupied, "Occupied"),
+        (Refusal::FruShort, "FruShort"),
+        (Refusal::FruTooLong, "FruTooLong"),
+        (Refusal::HeaderVersion, "HeaderVersion"),
+        (Refusal::HeaderChecksum, "HeaderChecksum"),
+        (Refusal::AreaOutside(Area::Chassis), "AreaOutside Chassis"),
+        (Refusal::AreaVersion(Area::Board), "AreaVersion Board"),
+        (Refusal::AreaLength(Area::Product), "AreaLength Product"),
+        (Refusal::AreaChecksum(Area::Chassis), "AreaChecksum Chassis"),
+        (Refusal::FieldOutside(Area::Board), "FieldOutside Board"),
+        (Refusal::NoEnd(Area::Product), "NoEnd Product"),
+        (Refusal::FruLimit, "FruLimit"),
+        (Refusal::BoardLimit, "BoardLimit"),
+        (Refusal::SensorLimit, "SensorLimit"),
+        (Refusal::ZoneLimit, "ZoneLimit"),
+        (Refusal::FanLimit, "FanLimit"),
+        (Refusal::PidLimit, "PidLimit"),
+        (Refusal::StepLimit, "StepLimit"),
+        (Refusal::NotPresent, "NotPresent"),
+    ];
+    for (refusal, name) in rows {
+        assert_eq!(rt; refusal_text(rt.alloc(), &refusal)?.as_str(), name);
+        for number in ["1", "30", "18446744073709551615"] {
+            let mut out = String::from_str(rt.alloc(), "before")?;
+            push_refused_line(&mut out, number.parse::<u64>()?, refusal)?;
+            let mut line = String::new(rt.alloc());
+            write!(line, "beforeline {number} refused {name}\n")?;
+            assert_eq!(rt; out.as_str(), line.as_str());
+        }
+    }
+    Ok(())
+}
