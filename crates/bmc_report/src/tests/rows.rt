@@ -31,26 +31,41 @@ fn frus(rt: HostRuntime) -> Result<(), Fail> {
 }
 
 #[test]
-fn boards_and_indexes(rt: HostRuntime) -> Result<(), Fail> {
+fn boards(rt: HostRuntime) -> Result<(), Fail> {
     let rows = [
+        ("N", 2, Place::new(1, 79), "board \"N\" 2 at 1 79\n"),
+        ("Any", 1, None, "board \"Any\" 1\n"),
         (
-            "N",
-            2,
-            Place::new(1, 79),
-            "board \"N\" 2 at 1 79\nindex \"N\" 2 at 1 79\n",
-        ),
-        ("Any", 1, None, "board \"Any\" 1\nindex \"Any\" 1\n"),
-        (
-            "a\"\\ \u{0}\u{e9}",
+            "a\"\\\u{e9}",
             u32::MAX,
             Place::new(255, 127),
-            "board \"a\\\"\\\\ \\x00\u{e9}\" 4294967295 at 255 127\nindex \"a\\\"\\\\ \\x00\u{e9}\" 4294967295 at 255 127\n",
+            "board \"a\\\"\\\\\u{e9}\" 4294967295 at 255 127\n",
         ),
     ];
     for (name, index, place, text) in rows {
         let name = Name::new(name)?;
         let mut out = String::new(rt.alloc());
         push_board_row(&mut out, &name, index, place)?;
+        assert_eq!(rt; out.as_str(), text);
+    }
+    Ok(())
+}
+
+#[test]
+fn indexes(rt: HostRuntime) -> Result<(), Fail> {
+    let rows = [
+        ("N", 1, Place::new(1, 82), "index \"N\" 1 at 1 82\n"),
+        ("Box", 1, None, "index \"Box\" 1\n"),
+        (
+            "\u{0}",
+            u32::MAX,
+            Place::new(0, 0),
+            "index \"\\x00\" 4294967295 at 0 0\n",
+        ),
+    ];
+    for (name, index, place, text) in rows {
+        let name = Name::new(name)?;
+        let mut out = String::new(rt.alloc());
         push_index_row(&mut out, &name, index, place)?;
         assert_eq!(rt; out.as_str(), text);
     }
@@ -198,44 +213,44 @@ fn sensors(rt: HostRuntime) -> Result<(), Fail> {
 }
 
 #[test]
-fn zones_and_fans(rt: HostRuntime) -> Result<(), Fail> {
+fn zones(rt: HostRuntime) -> Result<(), Fail> {
     let rows = [
         (
             "Z",
             true,
             Some(Milli(2_000_000)),
-            "zone \"Z\" failsafe 2000.000\nfan \"Z\" 2000.000\n",
+            "zone \"Z\" failsafe 2000.000\n",
         ),
         (
             "Z",
             false,
             Some(Milli(-1_500)),
-            "zone \"Z\" normal -1.500\nfan \"Z\" -1.500\n",
+            "zone \"Z\" normal -1.500\n",
         ),
-        (
-            "Fan 1",
-            false,
-            Some(Milli(100_000)),
-            "zone \"Fan 1\" normal 100.000\nfan \"Fan 1\" 100.000\n",
-        ),
-        (
-            "F",
-            true,
-            None,
-            "zone \"F\" failsafe none\nfan \"F\" none\n",
-        ),
-        (
-            "\\",
-            false,
-            None,
-            "zone \"\\\\\" normal none\nfan \"\\\\\" none\n",
-        ),
+        ("Z", true, None, "zone \"Z\" failsafe none\n"),
+        ("\\", false, None, "zone \"\\\\\" normal none\n"),
     ];
-    for (name, failsafe, number, text) in rows {
+    for (name, failsafe, setpoint, text) in rows {
         let name = Name::new(name)?;
         let mut out = String::new(rt.alloc());
-        push_zone_row(&mut out, &name, failsafe, number)?;
-        push_fan_row(&mut out, &name, number)?;
+        push_zone_row(&mut out, &name, failsafe, setpoint)?;
+        assert_eq!(rt; out.as_str(), text);
+    }
+    Ok(())
+}
+
+#[test]
+fn fans(rt: HostRuntime) -> Result<(), Fail> {
+    let rows = [
+        ("Fan 1", Some(Milli(80_000)), "fan \"Fan 1\" 80.000\n"),
+        ("F", Some(Milli(100_000)), "fan \"F\" 100.000\n"),
+        ("F", Some(Milli(9)), "fan \"F\" 0.009\n"),
+        ("\u{e9}", None, "fan \"\u{e9}\" none\n"),
+    ];
+    for (name, duty, text) in rows {
+        let name = Name::new(name)?;
+        let mut out = String::new(rt.alloc());
+        push_fan_row(&mut out, &name, duty)?;
         assert_eq!(rt; out.as_str(), text);
     }
     Ok(())
