@@ -25,4 +25,5 @@ live_text false = []
 -- the row of an item: its type, its name, the bus and the address that it has, and whether it is live
 unfoldable pub item_row : List ℕ → List ℕ → Option ℕ → Option ℕ → Bool → List ℕ
 item_row kind name bus address live =
-    codes "  " ++ quoted kind ++ codes " " ++ quoted name ++ number_text (codes "bus") bus ++ number_text (codes "address") address ++ live_text live ++ codes "\n"
+    codes "  " ++ quoted kind ++ codes " " ++ quoted name ++ number_text (codes "bus") bus
+    ++ number_text (codes "address") address ++ live_text live ++ codes "\n"

@@ -10,5 +10,5 @@ at_text None = []
 at_text (Some place) = codes " at " ++ place_text place
 
 -- a board: the name of its configuration, its index, and its place
-unfoldable pub board_text : List ℕ → ℕ → Option Place → List ℕ
+abbrev pub board_text : List ℕ → ℕ → Option Place → List ℕ
 board_text name index place = quoted name ++ codes " " ++ decimal index ++ at_text place

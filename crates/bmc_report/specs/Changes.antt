@@ -54,7 +54,8 @@ change_text (change.Item gone kind name) = verb_text gone ++ codes " " ++ kind_t
 change_text (change.Stale name) = codes "stale read " ++ quoted name
 change_text (change.Failure failed name) = failure_text failed ++ codes " sensor " ++ quoted name
 change_text (change.Alarm on name position high critical) =
-    codes "alarm " ++ switch_text on ++ codes " " ++ quoted name ++ codes " " ++ decimal position ++ codes " " ++ side_text high ++ codes " " ++ level_text critical
+    codes "alarm " ++ switch_text on ++ codes " " ++ quoted name ++ codes " " ++ decimal position
+    ++ codes " " ++ side_text high ++ codes " " ++ level_text critical
 change_text (change.Zone failsafe name) = mode_text failsafe ++ codes " zone " ++ quoted name
 change_text (change.Duty name duty) = codes "duty fan " ++ quoted name ++ codes " " ++ milli_text duty.0
 change_text (change.PlugRefused place refusal) = codes "refused plug " ++ place_text place ++ codes " " ++ refusal_text refusal

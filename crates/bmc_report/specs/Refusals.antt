@@ -9,7 +9,8 @@ use Rattle.bmc_report.specs.declared.refusal.Refusal.TheVariants.{TemplateSyntax
 use Rattle.bmc_report.specs.declared.refusal.Refusal.TheVariants.{ConfigAfterPlug, DuplicateName, ConfigLimit, Occupied}
 use Rattle.bmc_report.specs.declared.refusal.Refusal.TheVariants.{FruShort, FruTooLong, HeaderVersion, HeaderChecksum}
 use Rattle.bmc_report.specs.declared.refusal.Refusal.TheVariants.{AreaOutside, AreaVersion, AreaLength, AreaChecksum, FieldOutside, NoEnd}
-use Rattle.bmc_report.specs.declared.refusal.Refusal.TheVariants.{FruLimit, BoardLimit, SensorLimit, ZoneLimit, FanLimit, PidLimit, StepLimit, NotPresent}
+use Rattle.bmc_report.specs.declared.refusal.Refusal.TheVariants.{FruLimit, BoardLimit, SensorLimit, ZoneLimit, FanLimit}
+use Rattle.bmc_report.specs.declared.refusal.Refusal.TheVariants.{PidLimit, StepLimit, NotPresent}
 
 -- the name of an area
 unfoldable pub area_text : Area → List ℕ

@@ -26,4 +26,5 @@ alarms_text alarms = flat_map alarm_text (enumerate_from 0 alarms)
 -- the row of a sensor: its name, value, state and age, and its alarms that are on
 unfoldable pub sensor_row : List ℕ → Option Milli → Bool → Option ℕ → List Bool → List ℕ
 sensor_row name value failed age alarms =
-    codes "sensor " ++ quoted name ++ codes " " ++ value_text value ++ codes " " ++ state_text failed ++ codes " " ++ age_text age ++ alarms_text alarms ++ codes "\n"
+    codes "sensor " ++ quoted name ++ codes " " ++ value_text value ++ codes " " ++ state_text failed ++ codes " " ++ age_text age
+    ++ alarms_text alarms ++ codes "\n"

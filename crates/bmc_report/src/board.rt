@@ -19,7 +19,7 @@ fn push_at(out: &mut String, place: Option<Place>) -> Result<(), OutOfMemory>
 }
 
 // Appends which board it is: the name of its configuration, its index, and its place.
-#[tactic(auto, using(std::proofs::Common::append_assoc), unfolding(crate::specs::Boards::board_text))]
+#[tactic(auto, using(std::proofs::Common::append_assoc))]
 pub(crate) fn push_board(
     out: &mut String,
     name: &Name,
