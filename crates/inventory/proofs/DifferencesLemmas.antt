@@ -85,7 +85,7 @@ left_as number now old here there one other e first second = e ∙ ap₂ (λ (a 
 
 -- ---- each configuration
 
-range_push : (from count : ℕ) → range_with_len from (count + 1) ≡ range_with_len from count ++ (from + count) ∷ []
+pub range_push : (from count : ℕ) → range_with_len from (count + 1) ≡ range_with_len from count ++ (from + count) ∷ []
 range_push from zero = ap (λ n. n ∷ []) (omega arith)
 range_push from (suc count) =
     let next : suc count + 1 ≡ suc (count + 1) = omega arith in

@@ -8,3 +8,11 @@ pub mod DifferencesLemmas
 pub mod OrderLemmas
 pub mod LoneLemmas
 pub mod MergeLemmas
+pub mod ListingLemmas
+pub mod ItemsLemmas
+pub mod LimitsLemmas
+pub mod AscendLemmas
+pub mod IdsLemmas
+pub mod HoldersLemmas
+pub mod LessLemmas
+pub mod InventoriesLemmas

@@ -156,7 +156,7 @@ module _ (here there rest : List (Option Place)) (i : ℕ) (board : Option Place
 
 -- ---- the boards of a moment
 
-entries_ascend : (entries : List Entry) → are_by_place entries ≡ true
+pub entries_ascend : (entries : List Entry) → are_by_place entries ≡ true
     → IsStrictlySortedBy place_cmp (map (λ (sight : Sight). sight.place) (map entry_sight entries))
 unfolding IsStrictlySortedBy
 entries_ascend [] order = tt

@@ -4,3 +4,9 @@ pub mod Differences
 pub mod Keeping
 pub mod Moments
 pub mod Laws
+pub mod Lists
+pub mod Items
+pub mod Limits
+pub mod Orders
+pub mod Holders
+pub mod Inventories

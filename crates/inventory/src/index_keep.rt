@@ -200,6 +200,14 @@ fn index_in_list(list: &IndexSet<Option<Place>>, place: Option<Place>) -> Option
     Some(at as u32 + 1)
 }
 
+// Counts the boards in a list.
+fn count_in_list(list: &IndexSet<Option<Place>>) -> u32
+    requires { length list.now.keys ≤ most_boards }
+    ensures { result ≡ length list.now.keys }
+{
+    list.len() as u32
+}
+
 // Returns the index of a board in the list of its configuration, or the next one.
 #[tactic(auto, using(crate::proofs::KeepingLemmas::next_index_is))]
 fn next_index(list: &IndexSet<Option<Place>>, place: Option<Place>) -> u32
@@ -274,6 +282,18 @@ impl IndexKeep {
             index_in_list(&self.lists[number], key.place)
         } else {
             None
+        }
+    }
+
+    // Counts the boards that are kept of a configuration.
+    pub(crate) fn count(&self, number: u32) -> u32
+        ensures { result ≡ length (kept_of self.now.kept number) }
+    {
+        let number = number as usize;
+        if number < self.lists.len() {
+            count_in_list(&self.lists[number])
+        } else {
+            0
         }
     }
 

@@ -1,13 +1,15 @@
-ghost use Rattle.std.specs.Prelude.{◌≡◌, ◌++◌, ◌≤◌, ℕ, Bool, true, false, ◌&&◌, IsTrue, OnOk, length, map, slice_get};
+ghost use Rattle.std.specs.Prelude.{◌≡◌, ◌++◌, ◌≤◌, ℕ, Bool, true, false, ◌&&◌, IsTrue, OnOk, length, map, slice_get, find, option_map};
 ghost use Rattle.found_set.specs.Marks.{AreMarked, is_marked};
-ghost use Rattle.probe_lang.specs.Presents.{unboxed, are_by_place, holds_place, with_entry, without_entry};
+ghost use Rattle.probe_lang.specs.Presents.{unboxed, is_entry_at, are_by_place, holds_place, with_entry, without_entry};
 ghost use Rattle.probe_lang.specs.Sights.{entry_sight, has_config};
 ghost use Rattle.inventory.specs.Boards.{hit_places};
+ghost use Rattle.inventory.specs.Items.{entry_fields};
 ghost use Rattle.inventory.specs.Moments.{hits_in, AreSeenAlike};
 
 use crate::hits::{are_seen_alike, first_hit, is_hit, push_hits};
 use bmc_base::{OutOfMemory, Place};
 use found_set::Facts;
+use fru_record::FruRecord;
 use match_rows::count_before;
 use probe_lang::Entry;
 use std::marker::Model;
@@ -32,6 +34,20 @@ impl<'a> Model for Moment<'a> {
     ghost view = { λ m. record { facts = m.facts; entries = unboxed m.before.now ++ unboxed m.plus.now ++ unboxed m.behind.now } };
 
     ghost invariant = { λ m. IsTrue (are_by_place (unboxed m.before.now ++ unboxed m.plus.now ++ unboxed m.behind.now)) };
+}
+
+// Borrows the entry at a place, if there is one, among entries that are by place.
+fn entry_at(entries: &[Box<Entry>], place: Place) -> Option<&Entry>
+    requires { IsTrue (are_by_place (unboxed entries.now)) }
+    ensures { option_map (λ entry. entry.now) result ≡ find (is_entry_at place) (unboxed entries.now) }
+{
+    let stored = entries.get(count_before(entries, place))?;
+    let entry: &Entry = stored;
+    if entry.place == place {
+        Some(entry)
+    } else {
+        None
+    }
 }
 
 impl<'a> Moment<'a> {
@@ -131,6 +147,22 @@ impl<'a> Moment<'a> {
             return plus;
         }
         first_hit(self.behind, &self.facts, number)
+    }
+
+    // Borrows the record of the FRU at a place, if there is one.
+    pub(crate) fn fru(&self, place: Place) -> Option<&FruRecord>
+        ensures { option_map (λ fru. fru.now) result ≡ entry_fields self.now.entries place }
+    {
+        let before = entry_at(self.before, place);
+        if let Some(entry) = before {
+            return Some(&entry.fru);
+        }
+        let plus = entry_at(self.plus, place);
+        if let Some(entry) = plus {
+            return Some(&entry.fru);
+        }
+        let entry = entry_at(self.behind, place)?;
+        Some(&entry.fru)
     }
 
     // Counts the FRUs.

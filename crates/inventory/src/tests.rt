@@ -1,6 +1,15 @@
 use crate::lone::{push_key, swap_beside};
-use crate::{BoardKey, BoardKeys, IndexKeep};
-use bmc_base::Place;
+use crate::{
+    Board, BoardKey, BoardKeys, IndexKeep, InventoryFault, Moment, check_limits, list_all,
+    list_items,
+};
+use bmc_base::{Name, Place, Silent, Steps};
+use cfg_json::{Config, Item, ItemPart, MOST_CONFIGS, Shelf};
+use found_set::{Facts, FoundSet};
+use fru_record::FruRecord;
+use match_rows::{Rows, make};
+use pat_gate::RegexMaker;
+use probe_lang::Probe;
 use std::alloc::Global;
 use std::process::Abort;
 use std::test::Fail;
@@ -139,4 +148,215 @@ fn key_if(bus: Option<u32>) -> Option<BoardKey> {
         Some(bus) => Some(key(2, bus)),
         None => None,
     }
+}
+
+// A board area at byte 8: ACM, RSR1, S1 and two empty fields.
+const BOARD: &[u8; 32] =
+    b"\x01\x00\x00\x01\x00\x00\x00\xFE\x01\x03\x00\x00\x00\x00\xC3ACM\xC4RSR1\xC2S1\xC0\xC0\xC1\x00\x00\xF5";
+
+// Reads a configuration.
+fn config_of(alloc: Global, document: &str) -> Result<Config<Silent>, Fail> {
+    let mut maker = RegexMaker::new(alloc);
+    Ok(Config::read(alloc, document.as_bytes(), &mut maker)?)
+}
+
+// Plugs the record at address 80 of each of these buses.
+fn rows_of(alloc: Global, shelf: &Shelf<Silent>, buses: &[u32]) -> Result<Rows, Fail> {
+    let mut rows = Rows::new(alloc)?;
+    for bus in buses {
+        let Some(place) = Place::new(*bus, 80) else {
+            return Err(Fail::from("no bus"));
+        };
+        let fru = FruRecord::decode(alloc, BOARD)?;
+        let entry = make(alloc, place, fru, shelf, &mut Steps::new(Silent))?;
+        let entry = Box::new(alloc, entry)?;
+        rows.reserve(alloc)?;
+        if rows.entry(entry.place).is_none() {
+            rows.plug(entry);
+        }
+    }
+    Ok(rows)
+}
+
+// What is found where the first configuration is.
+fn first_found(alloc: Global) -> Result<Facts, Fail> {
+    let (probe, _) = Probe::parse(alloc, &["TRUE"])?;
+    let mut set = FoundSet::new(alloc)?;
+    let name = Name::new("A")?;
+    if set.number(&name).is_some() {
+        return Err(Fail::from("the name is not new"));
+    }
+    let next = set.prepare_config(alloc, name, &probe, &[], &mut Steps::new(Silent))?;
+    set.commit(next);
+    Ok(set.facts())
+}
+
+// A fan, a zone whose name asks for a record, a multiplexer whose name asks for a place, and an expose of another type.
+const EXPOSES: &str = r#"{"Name":"A","Probe":"TRUE","Exposes":[
+    {"Name":"Fan $index","Type":"Fan"},
+    {"Name":"$BOARD_PRODUCT_NAME zone","Type":"Pid.Zone","MinThermalOutput":30,"FailSafePercent":70},
+    {"Name":"Mux $bus","Type":"Mux","Channels":[20,"$bus + 20","$bus * 200","$bus - 2"]},
+    {"Name":"Plain","Type":"Other"}]}"#;
+
+// An item: its configuration, the bus of its place, if it has one, its expose, its name, and what it has by its type.
+const ITEMS: [&str; 9] = [
+    "0 Some(1) 0 Fan 3 fan",
+    "0 Some(1) 1 RSR1 zone zone 30.000 70.000",
+    // one channel leads below bus 0
+    "0 Some(1) 2 Mux 1 mux [20] [21, 200]",
+    "0 Some(1) 3 Plain passive",
+    // here is no record, and one channel leads beyond bus 255
+    "0 Some(2) 0 Fan 4 fan",
+    "0 Some(2) 2 Mux 2 mux [20] [22, 0]",
+    "0 Some(2) 3 Plain passive",
+    // here is no place
+    "0 None 0 Fan 7 fan",
+    "0 None 3 Plain passive",
+];
+
+// What an item has by its type.
+fn part_text(alloc: Global, part: &ItemPart) -> Result<String, Fail> {
+    Ok(match part {
+        ItemPart::Fan => String::from_str(alloc, "fan")?,
+        ItemPart::Zone(setting) => {
+            format!(in alloc; "zone {} {}", setting.min_thermal, setting.failsafe)?
+        }
+        ItemPart::Mux(mux) => {
+            format!(in alloc;
+                "mux {:?} {:?}",
+                mux.fixed.as_slice(),
+                mux.moving.as_slice()
+            )?
+        }
+        ItemPart::Passive => String::from_str(alloc, "passive")?,
+    })
+}
+
+fn item_text(alloc: Global, item: &Item) -> Result<String, Fail> {
+    let bus = match item.id.place {
+        Some(place) => Some(place.bus()),
+        None => None,
+    };
+    let part = part_text(alloc, &item.part)?;
+    Ok(format!(in alloc;
+        "{} {bus:?} {} {} {part}",
+        item.id.config,
+        item.id.expose,
+        item.name.as_str()
+    )?)
+}
+
+// A board of a configuration on a bus, with this index.
+fn board(config: u32, bus: u32, index: u32) -> Board {
+    Board {
+        key: key(config, bus),
+        index,
+    }
+}
+
+fn assert_items(rt: &impl Abort, alloc: Global, items: &[Item]) -> Result<(), Fail> {
+    assert_eq!(rt; items.len(), ITEMS.len());
+    for (item, wanted) in items.iter().zip(ITEMS) {
+        assert_eq!(rt; item_text(alloc, item)?.as_str(), wanted);
+    }
+    Ok(())
+}
+
+// Puts a configuration behind the others, if its name is new.
+fn add(shelf: &mut Shelf<Silent>, alloc: Global, document: &str) -> Result<(), Fail> {
+    let config = config_of(alloc, document)?;
+    if shelf.len() >= MOST_CONFIGS || shelf.position(&config.name()).is_some() {
+        return Err(Fail::from("the name is not new"));
+    }
+    shelf.add(alloc, config)?;
+    Ok(())
+}
+
+#[test]
+fn boards_have_items(rt: HostRuntime) -> Result<(), Fail> {
+    let mut shelf = Shelf::new(rt.alloc())?;
+    let plus = config_of(rt.alloc(), EXPOSES)?;
+    let rows = rows_of(rt.alloc(), &shelf, &[1])?;
+    let moment = Moment::of(first_found(rt.alloc())?, rows.entries());
+    let boards = [
+        board(0, 1, 3),
+        board(0, 2, 4),
+        board(9, 1, 1),
+        board(0, NOWHERE, 7),
+    ];
+    let items = list_items(rt.alloc(), &shelf, Some(&plus), &boards, &moment)?;
+    assert_items(&rt, rt.alloc(), &items)?;
+    add(&mut shelf, rt.alloc(), EXPOSES)?;
+    let items = list_items(rt.alloc(), &shelf, None, &boards, &moment)?;
+    assert_items(&rt, rt.alloc(), &items)
+}
+
+// So many boards of a configuration.
+fn boards_of(alloc: Global, config: u32, count: usize) -> Result<Vec<Board>, Fail> {
+    let mut boards = Vec::with_capacity(alloc, count)?;
+    for _ in 0..count {
+        boards.push(board(config, NOWHERE, 1))?;
+    }
+    Ok(boards)
+}
+
+// A configuration of a zone and four fans, one of a fan, and one without exposes.
+const ZONE: &str =
+    r#"{"Name":"Z","Probe":"TRUE","Exposes":[{"Name":"F","Type":"Fan"},{"Name":"F","Type":"Fan"},
+    {"Name":"Z $bus","Type":"Pid.Zone","MinThermalOutput":30,"FailSafePercent":70},
+    {"Name":"F","Type":"Fan"},{"Name":"F","Type":"Fan"}]}"#;
+
+const FAN: &str = r#"{"Name":"F","Probe":"TRUE","Exposes":[{"Name":"F $bus","Type":"Fan"}]}"#;
+
+const BARE: &str = r#"{"Name":"B","Probe":"TRUE"}"#;
+
+#[test]
+fn limits_are_passed_one_above(rt: HostRuntime) -> Result<(), Fail> {
+    let rows = [
+        (0, 32, None),
+        (0, 33, Some(InventoryFault::ZoneLimit)),
+        (1, 128, None),
+        (1, 129, Some(InventoryFault::FanLimit)),
+        (2, 1024, None),
+        (2, 1025, Some(InventoryFault::BoardLimit)),
+        // the boards come first
+        (0, 1025, Some(InventoryFault::BoardLimit)),
+        // no configuration has this number
+        (3, 1024, None),
+        (3, 1025, Some(InventoryFault::BoardLimit)),
+    ];
+    let mut shelf = Shelf::new(rt.alloc())?;
+    add(&mut shelf, rt.alloc(), ZONE)?;
+    add(&mut shelf, rt.alloc(), FAN)?;
+    let plus = config_of(rt.alloc(), BARE)?;
+    for (config, count, fault) in rows {
+        let boards = boards_of(rt.alloc(), config, count)?;
+        assert_eq!(rt;
+            check_limits(&shelf, Some(&plus), &boards).err(),
+            fault,
+            "{config} {count}"
+        );
+    }
+    Ok(())
+}
+
+// A configuration that is found by the FRUs at address 80.
+const RISER: &str = r#"{"Name":"A","Probe":"xyz.openbmc_project.FruDevice({'ADDRESS': 80})"}"#;
+
+#[test]
+fn boards_come_with_their_indexes(rt: HostRuntime) -> Result<(), Fail> {
+    let mut shelf = Shelf::new(rt.alloc())?;
+    add(&mut shelf, rt.alloc(), RISER)?;
+    let plus = config_of(rt.alloc(), BARE)?;
+    if shelf.len() >= MOST_CONFIGS {
+        return Err(Fail::from("there are too many"));
+    }
+    let rows = rows_of(rt.alloc(), &shelf, &[3, 1, 2])?;
+    let moment = Moment::of(first_found(rt.alloc())?, rows.entries());
+    let mut keep = IndexKeep::new(rt.alloc())?;
+    keep.extend(rt.alloc(), &[key(0, 2), key(0, 9)])?;
+    let boards = list_all(rt.alloc(), &shelf, Some(&plus), &keep, &moment)?;
+    let wanted = [board(0, 1, 3), board(0, 2, 1), board(0, 3, 4)];
+    assert_eq!(rt; boards.as_slice(), wanted.as_slice());
+    Ok(())
 }

@@ -1,0 +1,107 @@
+-- What the boards of one moment expose: their items, and which of them are live.
+use Rattle.std.specs.Prelude.{ℕ, ◌+◌, Bool, true, false, not, ◌==◌, ◌&&◌, bytes_eq, List, [], ◌∷◌, map, filter, filter_map, find, Option, Some, None, option_map}
+use Rattle.std.specs.Prelude.{option_and_then, slice_get}
+use Rattle.std.specs.Option.{option_eq, unwrap_or}
+use Rattle.std.specs.List.{flat_map, list_any, enumerate_from}
+use Rattle.bmc_base.specs.Places.{Place, place_eq, last_bus}
+use Rattle.fru_area.specs.declared.field.Field.{Field}
+use Rattle.probe_lang.specs.declared.rows.Entry.{Entry}
+use Rattle.probe_lang.specs.Presents.{is_entry_at}
+use Rattle.tmpl.specs.Rendering.{rendered, rendered_number}
+use Rattle.cfg_json.specs.Configs.{Config}
+use Rattle.cfg_json.specs.declared.expose.Expose.{Expose}
+use Rattle.cfg_json.specs.declared.expose.Body.{Body}
+use Rattle.cfg_json.specs.declared.expose.Body.TheVariants as bodies
+use Rattle.cfg_json.specs.declared.item.ItemId.{ItemId}
+use Rattle.cfg_json.specs.declared.item.Item.{Item}
+use Rattle.cfg_json.specs.declared.item.ItemPart.{ItemPart}
+use Rattle.cfg_json.specs.declared.item.ItemPart.TheVariants as parts
+use Rattle.inventory.specs.declared.board.Board.{Board}
+use Rattle.inventory.specs.declared.family.Family.{Family}
+use Rattle.inventory.specs.declared.family.Family.TheVariants as families
+
+-- the exposes of the configuration with this number
+abbrev pub exposes_of : List Config → ℕ → List Expose
+exposes_of configs number = unwrap_or (option_map (λ (config : Config). config.exposes) (slice_get configs number)) []
+
+-- what a body is at a board with this place, the fields of the record there, and this index
+abbrev pub part_of : Option Place → Option (List Field) → ℕ → Body → ItemPart
+part_of place fields index bodies.Fan = parts.Fan
+part_of place fields index (bodies.Zone setting) = parts.Zone setting
+part_of place fields index (bodies.Mux part) =
+    parts.Mux (record {
+      fixed = part.fixed;
+      moving = filter_map (λ template. rendered_number place fields index template last_bus) part.moving;
+    })
+part_of place fields index bodies.Passive = parts.Passive
+
+-- the fields of the record at the place of a board, where each place has these
+abbrev pub board_fields : (Place → Option (List Field)) → Board → Option (List Field)
+board_fields fields_at board = option_and_then fields_at board.key.place
+
+-- the fields of the record of the entry at a place, if there is one
+abbrev pub entry_fields : List Entry → Place → Option (List Field)
+entry_fields entries place = option_map (λ (entry : Entry). entry.fru) (find (is_entry_at place) entries)
+
+-- the item of an expose, by its position, at a board with these fields; there is none where the name of the expose has no rendering there
+abbrev pub rendered_item : Board → Option (List Field) → ℕ × Expose → Option Item
+rendered_item board fields (position, expose) =
+    option_map (λ name. record {
+      id = record { config = board.key.config; place = board.key.place; expose = position };
+      name = name;
+      part = part_of board.key.place fields board.index expose.body;
+    }) (rendered board.key.place fields board.index expose.name)
+
+-- the items of these exposes at a board with these fields
+abbrev pub rendered_items : Board → Option (List Field) → List Expose → List Item
+rendered_items board fields exposes = filter_map (rendered_item board fields) (enumerate_from 0 exposes)
+
+-- the items of a board
+abbrev pub board_items : List Config → (Place → Option (List Field)) → Board → List Item
+board_items configs fields_at board = rendered_items board (board_fields fields_at board) (exposes_of configs board.key.config)
+
+-- the items of boards
+unfoldable pub items : List Config → (Place → Option (List Field)) → List Board → List Item
+items configs fields_at boards = flat_map (board_items configs fields_at) boards
+
+-- the family of an item, in which names are given once
+abbrev pub family_of : ItemPart → Option Family
+family_of parts.Fan = Some families.Fan
+family_of (parts.Zone setting) = Some families.Zone
+family_of (parts.Mux part) = None
+family_of parts.Passive = None
+
+abbrev pub family_eq : Family → Family → Bool
+family_eq families.Fan families.Fan = true
+family_eq families.Zone families.Zone = true
+family_eq families.Fan families.Zone = false
+family_eq families.Zone families.Fan = false
+
+-- whether an item is of a family and has a name
+abbrev pub has_name : Family → List ℕ → Item → Bool
+has_name family name item = option_eq family_eq (family_of item.part) (Some family) && bytes_eq item.name name
+
+-- the holder of a name in a family: the first item that has it
+abbrev pub holder : List Item → Family → List ℕ → Option Item
+holder items family name = find (has_name family name) items
+
+-- whether two ids are one
+abbrev pub id_eq : ItemId → ItemId → Bool
+id_eq id other = id.config == other.config && option_eq place_eq id.place other.place && id.expose == other.expose
+
+-- whether this is the item with an id
+abbrev pub is_item : ItemId → Option Item → Bool
+is_item id None = false
+is_item id (Some item) = id_eq item.id id
+
+-- an item is live where it holds its name; one without a family never is
+abbrev pub is_live : List Item → Item → Bool
+is_live items item = unwrap_or (option_map (λ family. is_item item.id (holder items family item.name)) (family_of item.part)) false
+
+-- the items that are live
+unfoldable pub live : List Item → List Item
+live items = filter (is_live items) items
+
+-- the items that are here and not there
+unfoldable pub items_less : List Item → List Item → List Item
+items_less here there = filter (λ item. not (list_any (λ other. id_eq other.id item.id) there)) here

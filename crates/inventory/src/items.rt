@@ -1,0 +1,153 @@
+ghost use Rattle.std.specs.Prelude.{◌≡◌, ◌++◌, filter_map, option_map, option_to_list, IfOk, OnOk};
+ghost use Rattle.bmc_base.specs.Places.{last_bus};
+ghost use Rattle.tmpl.specs.Rendering.{fields_of, rendered_number};
+ghost use Rattle.inventory.specs.Items.{board_fields, entry_fields, exposes_of, items, part_of, rendered_item, rendered_items};
+
+use crate::configs::config_at;
+use crate::{Board, Moment};
+use bmc_base::{Bytes, Ledger, OutOfMemory};
+use cfg_json::{Body, Config, Expose, Item, ItemId, ItemPart, MuxItem, MuxPart, Shelf};
+use fru_record::FruRecord;
+use std::alloc::Global;
+use tmpl::{Rendered, Spot, Template};
+
+// The greatest bus.
+const LAST_BUS: u32 = 255;
+
+// Returns the buses that templates give at a spot; one that gives none is left out.
+fn render_buses(
+    alloc: Global,
+    templates: &[Template],
+    spot: &Spot<'_>,
+) -> Result<Bytes, OutOfMemory>
+    ensures { IfOk result (λ buses. buses ≡ filter_map
+        (λ template. rendered_number spot.now.place (fields_of spot.now.fru) spot.now.index template last_bus) templates.now) }
+{
+    let mut buses = Vec::new(alloc);
+    for template in templates {
+        if let Some(bus) = template.render_number(spot, LAST_BUS) {
+            buses.push(bus as u8)?;
+        }
+    }
+    Ok(Bytes::from(buses))
+}
+
+// Renders a multiplexer at a spot.
+fn render_mux(alloc: Global, part: &MuxPart, spot: &Spot<'_>) -> Result<MuxItem, OutOfMemory>
+    ensures fixed { IfOk result (λ mux. mux.fixed ≡ part.now.fixed) }
+    ensures moving { IfOk result (λ mux. mux.moving ≡ filter_map
+        (λ template. rendered_number spot.now.place (fields_of spot.now.fru) spot.now.index template last_bus) part.now.moving) }
+{
+    Ok(MuxItem {
+        fixed: Bytes::copy(alloc, part.fixed.as_slice())?,
+        moving: render_buses(alloc, part.moving.as_slice(), spot)?,
+    })
+}
+
+// Renders the body of an expose at a spot.
+fn render_part(alloc: Global, body: &Body, spot: &Spot<'_>) -> Result<ItemPart, OutOfMemory>
+    ensures { IfOk result (λ part. part ≡ part_of spot.now.place (fields_of spot.now.fru) spot.now.index body.now) }
+{
+    match body {
+        Body::Fan => Ok(ItemPart::Fan),
+        Body::Zone(setting) => Ok(ItemPart::Zone(*setting)),
+        Body::Mux(part) => Ok(ItemPart::Mux(render_mux(alloc, part, spot)?)),
+        Body::Passive => Ok(ItemPart::Passive),
+    }
+}
+
+// Renders an expose, with its position among those of its configuration, at a board with this record. There is no item
+// where its name has no rendering.
+fn render_item(
+    alloc: Global,
+    board: &Board,
+    position: u32,
+    expose: &Expose,
+    fru: Option<&FruRecord>,
+) -> Result<Option<Item>, OutOfMemory>
+    ensures { IfOk result (λ item. item ≡ rendered_item board.now (fields_of fru.entry) (position, expose.now)) }
+{
+    let spot = Spot {
+        place: board.key.place,
+        fru,
+        index: board.index,
+    };
+    let Rendered::Given(name) = expose.name.render(&spot) else {
+        return Ok(None);
+    };
+    let part = render_part(alloc, &expose.body, &spot)?;
+    let id = ItemId {
+        config: board.key.config,
+        place: board.key.place,
+        expose: position,
+    };
+    Ok(Some(Item { id, name, part }))
+}
+
+// Returns a position as items have it. A configuration has at most 256 exposes, so each fits.
+fn position_of(position: usize) -> Result<u32, OutOfMemory>
+    ensures { IfOk result (λ number. number ≡ position) }
+{
+    u32::try_from(position).map_err(|_| OutOfMemory)
+}
+
+// Appends the items of these exposes at a board with this record.
+pub(crate) fn append_items(
+    alloc: Global,
+    items: &mut Vec<Item>,
+    board: &Board,
+    exposes: &[Expose],
+    fru: Option<&FruRecord>,
+) -> Result<(), OutOfMemory>
+    ensures { OnOk result (items.new.items ≡ items.old.items ++ rendered_items board.now (fields_of fru.entry) exposes.now) }
+{
+    for (position, expose) in exposes.iter().enumerate() {
+        let number = position_of(position)?;
+        if let Some(item) = render_item(alloc, board, number, expose, fru)? {
+            items.push(item)?;
+        }
+    }
+    Ok(())
+}
+
+// Borrows the exposes of a configuration; there are none where no configuration has the number.
+fn exposes_at<'s, L: Ledger>(
+    shelf: &'s Shelf<L>,
+    plus: Option<&'s Config<L>>,
+    number: u32,
+) -> &'s [Expose]
+    ensures { result.now ≡ exposes_of (shelf.now ++ option_to_list (option_map (λ config. config.now) plus.entry)) number }
+{
+    match config_at(shelf, plus, number as usize) {
+        Some(config) => config.exposes(),
+        None => &[],
+    }
+}
+
+// Borrows the record at the place of a board, if there is one.
+fn record_at<'m>(moment: &'m Moment<'_>, board: &Board) -> Option<&'m FruRecord>
+    ensures { fields_of result ≡ board_fields (entry_fields moment.now.entries) board.now }
+{
+    moment.fru(board.key.place?)
+}
+
+/// Lists the items of boards at a moment, by board and then in the order of the exposes: each expose whose name has a
+/// rendering at the board. The shelf has the configurations; one more may be accepted now, with their count for its
+/// number. A board of any other configuration has no items.
+pub fn list_items<L: Ledger>(
+    alloc: Global,
+    shelf: &Shelf<L>,
+    plus: Option<&Config<L>>,
+    boards: &[Board],
+    moment: &Moment<'_>,
+) -> Result<Vec<Item>, OutOfMemory>
+    ensures { let all = shelf.now ++ option_to_list (option_map (λ config. config.now) plus.entry) in
+        IfOk result (λ list. list.items ≡ items all (entry_fields moment.now.entries) boards.now) }
+{
+    let mut items = Vec::new(alloc);
+    for board in boards {
+        let exposes = exposes_at(shelf, plus, board.key.config);
+        append_items(alloc, &mut items, board, exposes, record_at(moment, board))?;
+    }
+    Ok(items)
+}
