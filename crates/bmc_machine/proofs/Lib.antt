@@ -5,3 +5,8 @@ pub mod RefusalLemmas
 pub mod PositionLemmas
 pub mod MeetingLemmas
 pub mod TiesLemmas
+pub mod ItemLemmas
+pub mod NameLemmas
+pub mod PresentLemmas
+pub mod MadeLemmas
+pub mod StayLemmas

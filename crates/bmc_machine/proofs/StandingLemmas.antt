@@ -32,7 +32,7 @@ abbrev pub places : List Fru → List Place
 places frus = map (λ fru. fru.place) frus
 
 -- a plug that is accepted found its place free
-free_place : (past : List Step) (place : Place) (bytes : List ℕ) → refusal_of (standing past) (Plug place bytes) ≡ None
+pub free_place : (past : List Step) (place : Place) (bytes : List ℕ) → refusal_of (standing past) (Plug place bytes) ≡ None
     → is_present (standing past).frus place ≡ false
 free_place past place bytes accepted = by (is_present (standing past).frus place) _ accepted
   where

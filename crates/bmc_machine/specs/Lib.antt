@@ -2,6 +2,7 @@ pub mod Standings
 pub mod Boards
 pub mod Histories
 pub mod Indexes
+pub mod Names
 pub mod Meetings
 pub mod Refusals
 pub mod Changes

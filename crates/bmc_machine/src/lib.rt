@@ -4,6 +4,7 @@
 mod examples;
 mod histories;
 mod indexes;
+mod items;
 mod verdicts;
 
 pub use examples::{boards_were_met, scripts_with_boards, scripts_with_configs, scripts_with_frus};
@@ -12,4 +13,5 @@ pub use histories::{
     refused_plugs_are_idle,
 };
 pub use indexes::{indexes_are_kept, indexes_count};
+pub use items::{items_differ, items_stay};
 pub use verdicts::verdicts_decide;

@@ -141,8 +141,8 @@ const FAULTS: [(&str, &str); 67] = [
     ),
 ];
 
-// The members of an expose, and the first rule that they break.
-const EXPOSES: [(&str, &str); 66] = [
+// The members of an expose, and the first rule that they break: names and types.
+const EXPOSES: [(&str, &str); 30] = [
     (r#""Type":"Mux","Channels":[1]"#, "MissingKey"),
     (r#""Name":5,"Type":"Mux","Channels":[1]"#, "WrongKind"),
     (r#""Name":null,"Type":"Mux","Channels":[1]"#, "WrongKind"),
@@ -175,7 +175,23 @@ const EXPOSES: [(&str, &str); 66] = [
     (r#""Name":"M","Type":"Sensor""#, "ExposeForm"),
     (r#""Name":"M","Type":"Pid","Class":5"#, "ExposeForm"),
     (r#""Name":"M","Type":"Stepwise""#, "ExposeForm"),
-    // zones
+    // the first rule counts
+    (r#""Name":"$foo","Type":5"#, "TemplateSyntax"),
+    (r#""Name":5,"Type":5,"Channels":5"#, "WrongKind"),
+    (r#""Name":"","Type":5"#, "OutOfRange"),
+    (r#""Name":"M","Type":"Sensor","Channels":5"#, "ExposeForm"),
+    (
+        r#""Name":"M","Type":"Mux","Channels":[1,"$foo",256]"#,
+        "TemplateSyntax",
+    ),
+    (
+        r#""Name":"M","Type":"Mux","Channels":[256,"$foo",null]"#,
+        "OutOfRange",
+    ),
+];
+
+// The members of a zone.
+const ZONES: [(&str, &str); 15] = [
     (r#""Name":"Z","Type":"Pid.Zone""#, "MissingKey"),
     (
         r#""Name":"Z","Type":"Pid.Zone","MinThermalOutput":0"#,
@@ -233,7 +249,10 @@ const EXPOSES: [(&str, &str); 66] = [
         r#""Name":"Z","Type":"Pid.Zone","MinThermalOutput":0,"FailSafePercent":"-0.001""#,
         "OutOfRange",
     ),
-    // the channels of a multiplexer
+];
+
+// The channels of a multiplexer.
+const CHANNELS: [(&str, &str); 21] = [
     (r#""Name":"M","Type":"Mux""#, "MissingKey"),
     (r#""Name":"M","Type":"Mux","Channels":null"#, "WrongKind"),
     (r#""Name":"M","Type":"Mux","Channels":1"#, "WrongKind"),
@@ -291,19 +310,6 @@ const EXPOSES: [(&str, &str); 66] = [
         r#""Name":"M","Type":"Mux","Channels":["$bus / 0"]"#,
         "TemplateSyntax",
     ),
-    // the first rule counts
-    (r#""Name":"$foo","Type":5"#, "TemplateSyntax"),
-    (r#""Name":5,"Type":5,"Channels":5"#, "WrongKind"),
-    (r#""Name":"","Type":5"#, "OutOfRange"),
-    (r#""Name":"M","Type":"Sensor","Channels":5"#, "ExposeForm"),
-    (
-        r#""Name":"M","Type":"Mux","Channels":[1,"$foo",256]"#,
-        "TemplateSyntax",
-    ),
-    (
-        r#""Name":"M","Type":"Mux","Channels":[256,"$foo",null]"#,
-        "OutOfRange",
-    ),
 ];
 
 // Documents whose probe ends with MATCH_ONE, or does not, with a channel that moves with the place, or without.
@@ -343,14 +349,32 @@ fn first_rules(rt: HostRuntime) -> Result<(), Fail> {
     Ok(())
 }
 
+// Asserts the fault of a document with an expose of these members.
+fn assert_members(rt: &impl Abort, alloc: Global, members: &str, fault: &str) -> Result<(), Fail> {
+    let document = format!(in alloc; r#"{{"Name":"A","Probe":"TRUE","Exposes":[{{{members}}}]}}"#)?;
+    assert_fault(rt, alloc, document.as_str(), fault)
+}
+
 #[test]
 fn first_rules_of_exposes(rt: HostRuntime) -> Result<(), Fail> {
-    let alloc = rt.alloc();
     for (members, fault) in EXPOSES {
-        let document = format!(in alloc;
-            r#"{{"Name":"A","Probe":"TRUE","Exposes":[{{{members}}}]}}"#
-        )?;
-        assert_fault(&rt, alloc, document.as_str(), fault)?;
+        assert_members(&rt, rt.alloc(), members, fault)?;
+    }
+    Ok(())
+}
+
+#[test]
+fn first_rules_of_zones(rt: HostRuntime) -> Result<(), Fail> {
+    for (members, fault) in ZONES {
+        assert_members(&rt, rt.alloc(), members, fault)?;
+    }
+    Ok(())
+}
+
+#[test]
+fn first_rules_of_channels(rt: HostRuntime) -> Result<(), Fail> {
+    for (members, fault) in CHANNELS {
+        assert_members(&rt, rt.alloc(), members, fault)?;
     }
     Ok(())
 }

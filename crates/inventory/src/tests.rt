@@ -272,30 +272,44 @@ fn add(shelf: &mut Shelf<Silent>, alloc: Global, document: &str) -> Result<(), F
     Ok(())
 }
 
-#[test]
-fn boards_have_items(rt: HostRuntime) -> Result<(), Fail> {
-    let mut shelf = Shelf::new(rt.alloc())?;
-    let plus = config_of(rt.alloc(), EXPOSES)?;
-    let rows = rows_of(rt.alloc(), &shelf, &[1])?;
-    let moment = Moment::of(first_found(rt.alloc())?, rows.entries());
-    let boards = [
+// The boards whose items are listed: at a record, at a place without one, of no configuration, and without a place.
+fn listed_boards() -> [Board; 4] {
+    [
         board(0, 1, 3),
         board(0, 2, 4),
         board(9, 1, 1),
         board(0, NOWHERE, 7),
-    ];
-    let items = list_items(rt.alloc(), &shelf, Some(&plus), &boards, &moment)?;
-    assert_items(&rt, rt.alloc(), &items)?;
-    add(&mut shelf, rt.alloc(), EXPOSES)?;
-    let items = list_items(rt.alloc(), &shelf, None, &boards, &moment)?;
-    assert_items(&rt, rt.alloc(), &items)
+    ]
+}
+
+// Lists the items of these boards, where the configuration is accepted now.
+fn items_of(alloc: Global, rows: &Rows, facts: Facts) -> Result<Vec<Item>, Fail> {
+    let shelf = Shelf::new(alloc)?;
+    let plus = config_of(alloc, EXPOSES)?;
+    let moment = Moment::of(facts, rows.entries());
+    let items = list_items(alloc, &shelf, Some(&plus), &listed_boards(), &moment)?;
+    Ok(items)
+}
+
+#[test]
+fn boards_have_items(rt: HostRuntime) -> Result<(), Fail> {
+    let alloc = rt.alloc();
+    let rows = rows_of(alloc, &Shelf::new(alloc)?, &[1])?;
+    let items = items_of(alloc, &rows, first_found(alloc)?)?;
+    assert_items(&rt, alloc, &items)
 }
 
 // So many boards of a configuration.
 fn boards_of(alloc: Global, config: u32, count: usize) -> Result<Vec<Board>, Fail> {
     let mut boards = Vec::with_capacity(alloc, count)?;
     for _ in 0..count {
-        boards.push(board(config, NOWHERE, 1))?;
+        boards.push(Board {
+            key: BoardKey {
+                config,
+                place: None,
+            },
+            index: 1,
+        })?;
     }
     Ok(boards)
 }
@@ -310,32 +324,37 @@ const FAN: &str = r#"{"Name":"F","Probe":"TRUE","Exposes":[{"Name":"F $bus","Typ
 
 const BARE: &str = r#"{"Name":"B","Probe":"TRUE"}"#;
 
+// Configurations, how many boards they have, and the limit that these pass.
+const LIMITS: [(u32, usize, Option<InventoryFault>); 9] = [
+    (0, 32, None),
+    (0, 33, Some(InventoryFault::ZoneLimit)),
+    (1, 128, None),
+    (1, 129, Some(InventoryFault::FanLimit)),
+    (2, 1024, None),
+    (2, 1025, Some(InventoryFault::BoardLimit)),
+    // the boards come first
+    (0, 1025, Some(InventoryFault::BoardLimit)),
+    // no configuration has this number
+    (3, 1024, None),
+    (3, 1025, Some(InventoryFault::BoardLimit)),
+];
+
+// A shelf with the first two of the configurations.
+fn limited_shelf(alloc: Global) -> Result<Shelf<Silent>, Fail> {
+    let mut shelf = Shelf::new(alloc)?;
+    add(&mut shelf, alloc, ZONE)?;
+    add(&mut shelf, alloc, FAN)?;
+    Ok(shelf)
+}
+
 #[test]
 fn limits_are_passed_one_above(rt: HostRuntime) -> Result<(), Fail> {
-    let rows = [
-        (0, 32, None),
-        (0, 33, Some(InventoryFault::ZoneLimit)),
-        (1, 128, None),
-        (1, 129, Some(InventoryFault::FanLimit)),
-        (2, 1024, None),
-        (2, 1025, Some(InventoryFault::BoardLimit)),
-        // the boards come first
-        (0, 1025, Some(InventoryFault::BoardLimit)),
-        // no configuration has this number
-        (3, 1024, None),
-        (3, 1025, Some(InventoryFault::BoardLimit)),
-    ];
-    let mut shelf = Shelf::new(rt.alloc())?;
-    add(&mut shelf, rt.alloc(), ZONE)?;
-    add(&mut shelf, rt.alloc(), FAN)?;
+    let shelf = limited_shelf(rt.alloc())?;
     let plus = config_of(rt.alloc(), BARE)?;
-    for (config, count, fault) in rows {
+    for (config, count, fault) in LIMITS {
         let boards = boards_of(rt.alloc(), config, count)?;
-        assert_eq!(rt;
-            check_limits(&shelf, Some(&plus), &boards).err(),
-            fault,
-            "{config} {count}"
-        );
+        let passed = check_limits(&shelf, Some(&plus), &boards).err();
+        assert_eq!(rt; passed, fault, "{config} {count}");
     }
     Ok(())
 }
