@@ -1,3 +1,7 @@
+ghost use Rattle.std.specs.Prelude.{◌≡◌, ◌≤◌, ◌^◌, true, length, IfOk};
+ghost use Rattle.std.specs.Ordering.{is_lt};
+ghost use Rattle.inventory.specs.Orders.{id_cmp, AreById};
+
 use crate::{Family, Holders, ItemList, Live, push_less};
 use bmc_base::{Milli, Name, Place};
 use cfg_json::{Item, ItemId, ItemPart, ZoneSetting};
@@ -33,13 +37,46 @@ fn item(row: Row<'_>) -> Result<Item, Fail> {
     })
 }
 
+// Whether an item comes before another.
+fn is_before(id: &ItemId, other: &ItemId) -> bool
+    ensures { result ≡ is_lt (id_cmp id.now other.now) }
+{
+    id.config
+        .cmp(&other.config)
+        .then(id.place.cmp(&other.place))
+        .then(id.expose.cmp(&other.expose))
+        .is_lt()
+}
+
+// Whether each item comes before the next.
+fn ascend(items: &[Item]) -> bool
+    ensures { result ≡ true → AreById items.now }
+{
+    if items.is_empty() {
+        return true;
+    }
+    for i in 0..items.len() - 1 {
+        if !is_before(&items[i].id, &items[i + 1].id) {
+            return false;
+        }
+    }
+    true
+}
+
 // The items of these rows, which ascend by id.
-fn items(alloc: Global, rows: &[Row<'_>]) -> Result<ItemList, Fail> {
+fn items(alloc: Global, rows: &[Row<'_>]) -> Result<ItemList, Fail>
+    ensures order { IfOk result (λ items. AreById items) }
+    ensures few { IfOk result (λ items. length items ≤ 2 ^ 32) }
+{
     let mut items = ItemList::new(alloc);
     for row in rows {
         items.push(alloc, item(*row)?)?;
     }
-    Ok(items)
+    if items.as_slice().len() <= 100 && ascend(items.as_slice()) {
+        Ok(items)
+    } else {
+        Err(Fail::from("the rows do not ascend"))
+    }
 }
 
 // Names that occur twice: in one family, in both, and at an item of no family.
@@ -53,6 +90,7 @@ const ROWS: [Row<'static>; 6] = [
 ];
 
 // The live items are at these positions, and the names are held at those.
+#[tactic(auto, using(crate::proofs::IdsLemmas::ascending_ids))]
 fn assert_held(
     rt: &impl Abort,
     alloc: Global,
@@ -95,6 +133,7 @@ fn the_first_item_holds_its_name(rt: HostRuntime) -> Result<(), Fail> {
 }
 
 // These rows are of the live items that are in the first list and not in the second.
+#[tactic(auto, using(crate::proofs::IdsLemmas::ascending_ids, crate::proofs::IdsLemmas::live_ascend))]
 fn assert_less(
     rt: &impl Abort,
     alloc: Global,
