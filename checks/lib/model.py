@@ -17,6 +17,7 @@ LONGEST = 9000
 LONGEST_BLOCK = 262_144
 MOST_CONFIGS = 256
 MOST_FRUS = 256
+MOST_BOARDS = 1024
 DEEPEST = 127
 CONFIG = re.compile(rb"config ([0-9]{1,9})")
 PLUG = re.compile(rb"plug ([0-9]{1,9}) ([0-9]{1,9}) ((?:[0-9A-Fa-f]{2})+)")
@@ -48,14 +49,21 @@ MOST_CUSTOM = 2040
 NUMBER = re.compile(r"[0-9]{1,9}|0x[0-9A-Fa-f]{1,4}")
 DECIMAL = re.compile(r"(-?)([0-9]{1,10})(?:\.([0-9]{1,3}))?")
 NOT_READ = ("Sensor", "Pid", "Stepwise")
+# The families of items that are live: the type of their exposes, their word, how many exposes there are at most over
+# all boards, and the refusal of one more.
+FAMILIES = [("Pid.Zone", "zone", 32, "ZoneLimit"), ("Fan", "fan", 128, "FanLimit")]
 END = 0xC1
 ENGLISH = (0, 25)
 BCD_PLUS = "0123456789 -.:,_"
 # The buses below this one are root buses.
 ROOTS = 16
 # A configuration: its name; its operands, each with the operator before it; whether it ends with MATCH_ONE; what its
-# patterns want, each by key; the buses that it opens, and the templates of its channels that move.
-Config = namedtuple("Config", "name words match_one wants opens moves")
+# patterns want, each by key; the buses that it opens, and the templates of its moving channels; and its exposes.
+Config = namedtuple("Config", "name words match_one wants opens moves exposes")
+# An expose: the template of its name, its type, and its channels.
+Expose = namedtuple("Expose", "name kind channels")
+# A live item: the board and the position of its expose, which make it the same item, and its word and name.
+Item = namedtuple("Item", "board at word name")
 
 
 class Broken(Exception):
@@ -69,11 +77,12 @@ class Members(list):
 class Machine:
     """What stands: the FRUs that are present by place, the configurations, and whether a FRU was plugged. For each
     configuration the places at which each of its patterns matches, the buses to which its channels lead from a place,
-    and the indexes of all boards it ever had, by place."""
+    and the indexes of all boards it ever had, by place. The boards, and the live items."""
 
     def __init__(self):
         self.present, self.configs, self.plugged = {}, [], False
         self.matched, self.led, self.had = [], [], []
+        self.boards, self.live = [], []
 
 
 def demand(rule, holds):
@@ -342,14 +351,14 @@ def given_by(template, texts):
 
 
 def led_by(template, texts):
-    """The bus to which a channel that moves leads, or None."""
+    """The bus to which a moving channel leads, or None."""
     given = given_by(template, texts)
     number = int(given) if given and re.fullmatch("[0-9]{1,10}", given) else 256
     return number if number <= 255 else None
 
 
 def channel_of(value):
-    """The bus to which a fixed channel leads, or the template of one that moves."""
+    """The bus to which a fixed channel leads, or the template of a moving one."""
     demand("WrongKind", isinstance(value, str) or type(value) is int)
     if isinstance(value, str):
         single = SUBSTITUTION.fullmatch(value)
@@ -377,20 +386,24 @@ def check_decimal(expose, key, least, most):
     demand("OutOfRange", 1000 * least <= value <= 1000 * most)
 
 
-def channels_of(expose):
-    """The channels of an expose, of which only a multiplexer has some."""
+def channels_of(mux):
+    """The channels of a multiplexer."""
+    channels = member(mux, "Channels", list)
+    demand("OutOfRange", 1 <= len(channels) <= MOST_CHANNELS)
+    return [channel_of(it) for it in channels]
+
+
+def expose_of(expose):
+    """An expose, of which only a multiplexer has channels."""
     demand("WrongKind", isinstance(expose, dict))
-    check_template(text_in(expose, "Name", LONGEST_TEMPLATE))
+    name = text_in(expose, "Name", LONGEST_TEMPLATE)
+    check_template(name)
     kind = text_in(expose, "Type", 64)
     demand("ExposeForm", kind not in NOT_READ)
     if kind == "Pid.Zone":
         check_decimal(expose, "MinThermalOutput", -1_000_000, 1_000_000)
         check_decimal(expose, "FailSafePercent", 0, 100)
-    if kind != "Mux":
-        return []
-    channels = member(expose, "Channels", list)
-    demand("OutOfRange", 1 <= len(channels) <= MOST_CHANNELS)
-    return [channel_of(it) for it in channels]
+    return Expose(name, kind, channels_of(expose) if kind == "Mux" else [])
 
 
 def texts_of(probe):
@@ -421,11 +434,12 @@ def config_of(block):
     words, match_one, wants = probe_of(texts_of(member(document, "Probe", (str, list))))
     exposes = member(document, "Exposes", list) if "Exposes" in document else []
     demand("OutOfRange", len(exposes) <= MOST_EXPOSES)
-    channels = [channel for it in exposes for channel in channels_of(it)]
+    exposes = [expose_of(it) for it in exposes]
+    channels = [channel for it in exposes for channel in it.channels]
     opens, moves = ({it for it in channels if isinstance(it, kind)} for kind in (int, str))
     demand("MuxMatchOne", not (match_one and moves))
     wants = [{key: with_pattern(want) for key, want in it.items()} for it in wants]
-    return Config(name, words, match_one, wants, opens, moves)
+    return Config(name, words, match_one, wants, opens, moves, exposes)
 
 
 def config(size, block, machine):
@@ -436,10 +450,16 @@ def config(size, block, machine):
     demand("ConfigAfterPlug", not machine.plugged)
     demand("DuplicateName", found.name not in [it.name for it in machine.configs])
     demand("ConfigLimit", len(machine.configs) < MOST_CONFIGS)
-    machine.configs.append(found)
-    machine.matched.append([set() for _ in found.wants])
-    machine.led.append({})
-    machine.had.append({})
+    of_each = [(machine.configs, found), (machine.matched, [set() for _ in found.wants])]
+    of_each += [(machine.led, {}), (machine.had, {})]
+    for those, new in of_each:
+        those.append(new)
+    try:
+        settle(machine)
+    except Broken:
+        for those, _ in of_each:
+            those.pop()
+        raise
 
 
 def is_wanted(want, text):
@@ -471,13 +491,25 @@ def plug(place, record, machine):
     fields = fields_of(record)
     demand("FruLimit", len(machine.present) < MOST_FRUS)
     machine.present[place] = fields
+    match(place, fields, machine)
+    try:
+        settle(machine)
+    except Broken:
+        forget(place, machine)
+        raise
     machine.plugged = True
-    match(place, machine.present[place], machine)
 
 
 def unplug(place, machine):
     """Takes the FRU at a place away."""
-    demand("NotPresent", machine.present.pop(place, None) is not None)
+    demand("NotPresent", place in machine.present)
+    forget(place, machine)
+    settle(machine)
+
+
+def forget(place, machine):
+    """Takes away what is known of a place."""
+    del machine.present[place]
     for places in (it for matched in machine.matched for it in matched):
         places.discard(place)
     for led in machine.led:
@@ -530,6 +562,38 @@ def boards_of(machine):
     return boards
 
 
+def settle(machine):
+    """Takes note of the boards that stand now, whose number and exposes are limited."""
+    boards = boards_of(machine)
+    demand("BoardLimit", len(boards) <= MOST_BOARDS)
+    kinds = [it.kind for number, _ in boards for it in machine.configs[number].exposes]
+    for kind, _, most, rule in FAMILIES:
+        demand(rule, kinds.count(kind) <= most)
+    machine.boards = boards
+
+
+def texts_of_board(board, machine):
+    """The texts of keys at a board."""
+    number, place = board
+    texts = texts_at(place, machine.present[place]) if place else {}
+    return {**texts, "index": str(machine.had[number][place])}
+
+
+def live_of(machine):
+    """The live items in their order: of each family the first with each name."""
+    live, held = [], set()
+    words = {kind: word for kind, word, *_ in FAMILIES}
+    for board in machine.boards:
+        exposes = [(at, it) for at, it in enumerate(machine.configs[board[0]].exposes) if it.kind in words]
+        texts = texts_of_board(board, machine) if exposes else {}
+        for at, expose in exposes:
+            word, name = words[expose.kind], given_by(expose.name, texts)
+            if name and (word, name) not in held:
+                held.add((word, name))
+                live.append(Item(board, at, word, name))
+    return live
+
+
 def board_line(change, board, machine):
     """The line of a board that is new or gone."""
     number, place = board
@@ -537,16 +601,23 @@ def board_line(change, board, machine):
     return f"0 {change} board {quoted(machine.configs[number].name)} {machine.had[number][place]}{where}"
 
 
-def changed(before, machine):
-    """The lines of the boards that stood before and are gone, and then of those that are new."""
-    after = boards_of(machine)
-    for number, place in after:
+def only_in(here, there):
+    """What is here and not there."""
+    there = set(there)
+    return [it for it in here if it not in there]
+
+
+def changed(boards, live, machine):
+    """The lines of the boards that stood before and are gone, and of those that are new; then those of live items."""
+    for number, place in machine.boards:
         # The index of a board is its number among all that its configuration ever had.
         machine.had[number].setdefault(place, len(machine.had[number]) + 1)
-    lines = []
-    for change, here, there in (("gone", before, set(after)), ("new", after, set(before))):
-        lines += [board_line(change, it, machine) for it in here if it not in there]
-    return lines, after
+    machine.live = live_of(machine)
+    turns = [("gone", boards, machine.boards), ("new", machine.boards, boards)]
+    lines = [board_line(change, it, machine) for change, here, there in turns for it in only_in(here, there)]
+    turns = [("gone", live, machine.live), ("new", machine.live, live)]
+    items = [(change, it) for change, here, there in turns for it in only_in(here, there)]
+    return lines + [f"0 {change} {it.word} {quoted(it.name)}" for change, it in items]
 
 
 def without_return(line):
@@ -588,15 +659,15 @@ def items_of(script):
 
 def replay(script):
     """What is printed for a script, and the status."""
-    machine, printed, status, boards = Machine(), [], 0, []
+    machine, printed, status = Machine(), [], 0
     for number, (line, size, block) in enumerate(items_of(script), 1):
+        boards, live = machine.boards, machine.live
         refusal = refusal_of(line, size, block, machine)
         if refusal:
             printed.append(f"line {number} refused {refusal}")
             status = 1
-        elif machine.configs:
-            lines, boards = changed(boards, machine)
-            printed += lines
+        elif machine.boards is not boards:
+            printed += changed(boards, live, machine)
     present = machine.present
     printed += [row(place, present[place]) for place in sorted(present)]
     return "".join(it + "\n" for it in printed).encode(), status

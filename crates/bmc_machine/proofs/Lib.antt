@@ -10,3 +10,5 @@ pub mod NameLemmas
 pub mod PresentLemmas
 pub mod MadeLemmas
 pub mod StayLemmas
+pub mod FewerLemmas
+pub mod LimitLemmas

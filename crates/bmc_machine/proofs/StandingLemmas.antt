@@ -21,7 +21,7 @@ use Rattle.bmc_report.specs.declared.refusal.Refusal.{Refusal}
 use Rattle.bmc_report.specs.declared.refusal.Refusal.TheVariants.{Occupied}
 use Rattle.bmc_machine.specs.Standings.{Fru, is_at, is_present, put, without}
 use Rattle.bmc_machine.specs.Histories.{Step, Configure, Plug, RefusedPlug, Unplug, after_step, standing}
-use Rattle.bmc_machine.specs.Refusals.{record_refusal, plug_refusal, most_frus, refusal_of, IsLegalStep, IsLegal}
+use Rattle.bmc_machine.specs.Refusals.{record_refusal, plug_refusal, ◌or_else◌, refusal_by_limit, most_frus, refusal_of, IsLegalStep, IsLegal}
 use Rattle.inventory.proofs.BoardLemmas.{place_cmp_eq}
 use Rattle.inventory.proofs.ListLemmas.{all_weaker, ascending_filter}
 
@@ -100,19 +100,26 @@ no_refusal bytes (rules.AreaChecksum area) is none = absurd (cc)
 no_refusal bytes (rules.FieldOutside area) is none = absurd (cc)
 no_refusal bytes (rules.NoEnd area) is none = absurd (cc)
 
+none_first : (first later : Option Refusal) → (first or_else later) ≡ None → first ≡ None
+none_first None later none = refl
+none_first (Some refusal) later none = absurd (cc)
+
 -- a plug that is accepted found room
 room_before : (past : List Step) (place : Place) (bytes : List ℕ) → refusal_of (standing past) (Plug place bytes) ≡ None
     → length (standing past).frus < most_frus
 room_before past place bytes accepted =
     by (is_present (standing past).frus place) (record_of bytes) refl (nat_le most_frus (length (standing past).frus)) refl accepted
   where
+    by_limit : Option Refusal
+    by_limit = refusal_by_limit (after_step (standing past) (Plug place bytes))
+
     by : (present : Bool) (read : Result (List Field) FruFault) → record_of bytes ≡ read
         → (is_full : Bool) → nat_le most_frus (length (standing past).frus) ≡ is_full
-        → cond present (Some Occupied) (plug_refusal is_full read) ≡ None → length (standing past).frus < most_frus
+        → cond present (Some Occupied) (plug_refusal is_full read or_else by_limit) ≡ None → length (standing past).frus < most_frus
     by true read is is_full told none = absurd (cc)
     by false (Ok fields) is true told none = absurd (cc)
     by false (Ok fields) is false told none = grind (arith, nat_tests, told)
-    by false (Err rule) is is_full told none = absurd (no_refusal bytes rule is none)
+    by false (Err rule) is is_full told none = absurd (no_refusal bytes rule is (none_first (record_refusal rule) by_limit none))
 
 length_put : (fru : Fru) (frus : List Fru) → length (put fru frus) ≡ suc (length frus)
 length_put fru [] = refl

@@ -20,6 +20,10 @@ chassis_fields = codes " CHASSIS_TYPE=\"23\" CHASSIS_PART_NUMBER=\"P1\" CHASSIS_
 abbrev pub damaged : List ℕ
 damaged = codes "01000001040000FA010300000000C341434DC452535231C25331C0C0C10000F5010100C10000003E"
 
+-- a record without areas
+abbrev pub bare : List ℕ
+bare = codes "01000000000000FF"
+
 -- a configuration that is always found, and one that its operators never find
 abbrev pub always_found : List ℕ
 always_found = codes "{\"Name\":\"A\",\"Probe\":\"TRUE\"}"
@@ -54,6 +58,10 @@ opens_20 = codes "{\"Name\":\"M\",\"Probe\":\"TRUE\",\"Exposes\":[{\"Name\":\"X\
 -- one that opens the bus 60 below the address of a FRU that it finds
 abbrev pub opens_below : List ℕ
 opens_below = codes "{\"Name\":\"W\",\"Probe\":\"xyz.openbmc_project.FruDevice({})\",\"Exposes\":[{\"Name\":\"X\",\"Type\":\"Mux\",\"Channels\":[\"$address - 60\"]}]}"
+
+-- one with a fan at each FRU, with the address of the FRU in its name
+abbrev pub names_fans : List ℕ
+names_fans = codes "{\"Name\":\"F\",\"Probe\":\"xyz.openbmc_project.FruDevice({})\",\"Exposes\":[{\"Name\":\"Fan $address - 79\",\"Type\":\"Fan\"}]}"
 
 -- one whose probe has no word, one with an expose of a type that is not read, and one with a name that is no template
 abbrev pub no_word : List ℕ
@@ -93,6 +101,9 @@ bus_1_81 = codes "1 81"
 
 abbrev pub bus_1_79 : List ℕ
 bus_1_79 = codes "1 79"
+
+abbrev pub bus_2_79 : List ℕ
+bus_2_79 = codes "2 79"
 
 -- a bus that is visible where a configuration opens it
 abbrev pub bus_20_80 : List ℕ

@@ -1,5 +1,6 @@
 -- Why an item is refused.
-use Rattle.std.specs.Prelude.{ℕ, ◌≡◌, ⊤, Bool, nat_le, is_some, if◌then◌else◌, List, [], ◌∷◌, length, Option, Some, None, Result, Ok, Err}
+use Rattle.std.specs.Prelude.{ℕ, ◌≡◌, ⊤, Bool, nat_le, is_some, if◌then◌else◌, List, [], ◌∷◌, length, Option, Some, None, option_map}
+use Rattle.std.specs.Prelude.{Result, Ok, Err}
 use Rattle.fru_area.specs.declared.field.Field.{Field}
 use Rattle.fru_area.specs.declared.fault.FruFault.{FruFault}
 use Rattle.fru_area.specs.declared.fault.FruFault.TheVariants as rules
@@ -12,9 +13,14 @@ use Rattle.bmc_report.specs.declared.refusal.Refusal.TheVariants.{NotJson, Fract
 use Rattle.bmc_report.specs.declared.refusal.Refusal.TheVariants.{TemplateSyntax, MuxMatchOne, PatternSyntax, PatternTooLarge, ConfigAfterPlug}
 use Rattle.bmc_report.specs.declared.refusal.Refusal.TheVariants.{DuplicateName, ConfigLimit, Occupied}
 use Rattle.bmc_report.specs.declared.refusal.Refusal.TheVariants.{FruShort, FruTooLong, HeaderVersion, HeaderChecksum, AreaOutside, AreaVersion}
-use Rattle.bmc_report.specs.declared.refusal.Refusal.TheVariants.{AreaLength, AreaChecksum, FieldOutside, NoEnd, FruLimit, NotPresent}
+use Rattle.bmc_report.specs.declared.refusal.Refusal.TheVariants.{AreaLength, AreaChecksum, FieldOutside, NoEnd, FruLimit}
+use Rattle.bmc_report.specs.declared.refusal.Refusal.TheVariants.{BoardLimit, ZoneLimit, FanLimit, NotPresent}
+use Rattle.inventory.specs.Limits.{passed_limit}
+use Rattle.inventory.specs.declared.fault.InventoryFault.{InventoryFault}
+use Rattle.inventory.specs.declared.fault.InventoryFault.TheVariants as limits
 use Rattle.bmc_machine.specs.Standings.{Standing, is_present}
-use Rattle.bmc_machine.specs.Histories.{Step, Configure, Plug, RefusedPlug, Unplug, standing}
+use Rattle.bmc_machine.specs.Boards.{board_keys}
+use Rattle.bmc_machine.specs.Histories.{Step, Configure, Plug, RefusedPlug, Unplug, standing, after_step}
 
 -- the refusal by a rule that bytes break to be a record; want of memory is no rule
 abbrev pub record_refusal : FruFault → Option Refusal
@@ -54,16 +60,32 @@ abbrev pub plug_refusal : Bool → Result (List Field) FruFault → Option Refus
 plug_refusal is_full (Ok fields) = if is_full then Some FruLimit else None
 plug_refusal is_full (Err rule) = record_refusal rule
 
+-- the refusal by a limit of the inventory
+abbrev pub limit_refusal : InventoryFault → Refusal
+limit_refusal limits.BoardLimit = BoardLimit
+limit_refusal limits.ZoneLimit = ZoneLimit
+limit_refusal limits.FanLimit = FanLimit
+
+-- the refusal where this would stand: by the first limit that its boards pass
+abbrev pub refusal_by_limit : Standing → Option Refusal
+refusal_by_limit after = option_map limit_refusal (passed_limit after.configs (board_keys after))
+
+-- the first refusal that applies
+infixr 5 ◌or_else◌
+abbrev pub ◌or_else◌ : Option Refusal → Option Refusal → Option Refusal
+(Some refusal) or_else later = Some refusal
+None or_else later = later
+
 -- why a step is refused where this stands, or none
 abbrev pub refusal_of : Standing → Step → Option Refusal
 refusal_of now (Configure config) =
     if now.plugged then Some ConfigAfterPlug
     else if is_some (number_of now.configs config.name) then Some DuplicateName
     else if nat_le most_configs (length now.configs) then Some ConfigLimit
-    else None
+    else refusal_by_limit (after_step now (Configure config))
 refusal_of now (Plug place bytes) =
     if is_present now.frus place then Some Occupied
-    else plug_refusal (nat_le most_frus (length now.frus)) (record_of bytes)
+    else plug_refusal (nat_le most_frus (length now.frus)) (record_of bytes) or_else refusal_by_limit (after_step now (Plug place bytes))
 refusal_of now (RefusedPlug place bytes refusal) = None
 refusal_of now (Unplug place) = if is_present now.frus place then None else Some NotPresent
 

@@ -2,10 +2,10 @@ ghost use Rattle.std.specs.Prelude.{◌≡◌, ◌++◌, ◌∷◌, [], codes, t
 ghost use Rattle.cfg_json.specs.Verdicts.{Accepted, LargePattern};
 ghost use Rattle.bmc_machine.specs.Meetings.{first_met, met_before};
 ghost use Rattle.bmc_machine.specs.Answers.{answer_of, out};
-ghost use Rattle.bmc_machine.specs.Examples.{riser, riser_fields, chassis, chassis_fields, damaged, plug, unplug, config, fru, refused};
+ghost use Rattle.bmc_machine.specs.Examples.{riser, riser_fields, chassis, chassis_fields, damaged, bare, plug, unplug, config, fru, refused};
 ghost use Rattle.bmc_machine.specs.Examples.{always_found, never_found, asks_before, asks_behind, finds_any, finds_first, finds_chassis, finds_riser};
-ghost use Rattle.bmc_machine.specs.Examples.{opens_20, opens_below, no_word, unread, no_template, three_frus};
-ghost use Rattle.bmc_machine.specs.Examples.{bus_1_79, bus_1_80, bus_1_81, bus_20_80, place_1_79, place_1_80, place_1_81};
+ghost use Rattle.bmc_machine.specs.Examples.{opens_20, opens_below, names_fans, no_word, unread, no_template, three_frus};
+ghost use Rattle.bmc_machine.specs.Examples.{bus_1_79, bus_1_80, bus_1_81, bus_2_79, bus_20_80, place_1_79, place_1_80, place_1_81};
 
 /// What the machine prints for scripts with FRUs, computed from the definitions: a FRU that is listed, two that
 /// are listed by place, a damaged record, a comment and a carriage return, and what is refused first.
@@ -56,6 +56,15 @@ pub fn scripts_with_boards()
         ++ unplug bus_1_80 ++ unplug bus_1_79 ++ plug bus_1_81 riser ++ unplug bus_1_81)
         ≡ codes "0 new board \"F\" 1 at 1 81\n0 new board \"F\" 2 at 1 80\n0 gone board \"F\" 1 at 1 81\n0 new board \"F\" 3 at 1 79\n"
         ++ codes "0 gone board \"F\" 2 at 1 80\n0 gone board \"F\" 3 at 1 79\n0 new board \"F\" 1 at 1 81\n0 gone board \"F\" 1 at 1 81\n" }
+{}
+
+/// What it prints for a script with items: a fan at each FRU, of which two have one name, so that the second is live once
+/// the first is gone.
+pub fn scripts_with_items()
+    ensures { out [] (config (codes "110") names_fans ++ plug bus_1_80 bare ++ plug bus_1_79 bare ++ plug bus_2_79 bare ++ unplug bus_1_79)
+        ≡ codes "0 new board \"F\" 1 at 1 80\n0 new fan \"Fan 1\"\n0 new board \"F\" 2 at 1 79\n0 new fan \"Fan 0\"\n"
+        ++ codes "0 new board \"F\" 3 at 2 79\n0 gone board \"F\" 2 at 1 79\n0 gone fan \"Fan 0\"\n0 new fan \"Fan 0\"\n"
+        ++ fru bus_1_80 [] ++ fru bus_2_79 [] }
 {}
 
 /// When boards were first met, of FRUs at three places: the second behind the first, and the third after the second is

@@ -7,11 +7,14 @@ mod indexes;
 mod items;
 mod verdicts;
 
-pub use examples::{boards_were_met, scripts_with_boards, scripts_with_configs, scripts_with_frus};
+pub use examples::{
+    boards_were_met, scripts_with_boards, scripts_with_configs, scripts_with_frus,
+    scripts_with_items,
+};
 pub use histories::{
     frus_are_few, frus_by_place, histories_are_legal, refused_items_are_idle,
     refused_plugs_are_idle,
 };
 pub use indexes::{indexes_are_kept, indexes_count};
-pub use items::{items_differ, items_stay};
+pub use items::{items_differ, items_stay, limits_hold};
 pub use verdicts::verdicts_decide;

@@ -2,7 +2,8 @@
 use Rattle.std.proofs.Common.{◌≡◌, ℕ, arith, List, [], ◌∷◌, ◌++◌, map, length, not, cond, ◌+◌, ◌≤◌, Bool, true, false, Option, Some, None, Result}
 use Rattle.std.proofs.Common.{Ok, Err, refl, ap, ap₂, sym, subst, ◌∙◌, find}
 use Rattle.std.specs.List.{position_or_len}
-use Rattle.std.specs.Prelude.{is_some, nat_lt, bytes_eq, IsSomeAnd, IfSome, OnErr, ◌||◌, ◌==◌}
+use Rattle.std.specs.Result.{IsErrAnd}
+use Rattle.std.specs.Prelude.{is_some, nat_lt, bytes_eq, IsSomeAnd, IfSome, IfOk, OnErr, ◌||◌, ◌==◌}
 use Rattle.std.proofs.lemmas.List.FromFn.{get_or-map-range_with_len}
 use Rattle.std.proofs.lemmas.Bool.{eqb-true}
 use Rattle.std.proofs.lemmas.List.{map-append, length-map, length-append}
@@ -42,6 +43,14 @@ use Rattle.bmc_replay.proofs.RowsLemmas.{rows_sights, rows_hold, rows_with, rows
 pub on_err : {T E P : Type 0} (result : Result T E) → P → OnErr result P
 on_err (Ok value) fact = tt
 on_err (Err fault) fact = fact
+
+pub not_ok : {T E : Type 0} (P : T → Type 0) (Q : E → Type 0) (result : Result T E) → IsErrAnd result Q → IfOk result P
+not_ok P Q (Ok value) fails = absurd fails
+not_ok P Q (Err fault) fails = tt
+
+pub if_ok_more : {T E : Type 0} (P Q : T → Type 0) (result : Result T E) → ((value : T) → P value → Q value) → IfOk result P → IfOk result Q
+if_ok_more P Q (Ok value) more fact = more value fact
+if_ok_more P Q (Err fault) more fact = tt
 
 -- ---- what the set asks for
 
@@ -138,51 +147,58 @@ marked_by held rules sights same =
     subst (λ (held : Facts). IsMarkedBy held (is_found rules sights) (is_reached rules sights)) (sym same)
     (record { found = are_marked (is_found rules sights); reach = are_marked (is_reached rules sights) })
 
-boards_same : (configs : List Config) (moment : Moment) (entries : List Entry) → moment.entries ≡ busy entries → (number : ℕ)
-    → boards_at configs (is_found (rules_of configs) (map entry_sight (busy entries))) (is_reached (rules_of configs) (map entry_sight (busy entries)))
-    moment number
-    ≡ boards_in configs (map entry_sight entries) number
+-- a moment has what is found and reachable where these FRUs are present, and those of them that are busy
+pub record IsSeen (configs : List Config) (entries : List Entry) (moment : Moment) : Type 0 where
+  pub marked : IsMarkedBy moment.facts (is_found (rules_of configs) (map entry_sight (busy entries)))
+      (is_reached (rules_of configs) (map entry_sight (busy entries)))
+  pub works : moment.entries ≡ busy entries
+
+pub seen : (configs : List Config) (entries : List Entry) (moment : Moment) (rules : List Rule) (set_rows : List Row)
+    → moment.facts ≡ facts rules (sights_of set_rows) → rules ≡ rules_of configs → set_rows ≡ map row_of (busy entries) → moment.entries ≡ busy entries
+    → IsSeen configs entries moment
+seen configs entries moment rules set_rows facts_are same rows_same entries_are = record {
+  marked = marked_by moment.facts (rules_of configs) (map entry_sight (busy entries))
+      (facts_are ∙ ap₂ (λ (rules : List Rule) (set_rows : List Row). facts rules (sights_of set_rows)) same rows_same
+      ∙ ap (facts (rules_of configs)) (rows_sights (busy entries)));
+  works = entries_are;
+}
+
+-- its boards are those of all FRUs that are present
+pub boards_seen : (configs : List Config) (entries : List Entry) (moment : Moment) → IsSeen configs entries moment
+    → boards_at configs (is_found (rules_of configs) (map entry_sight (busy entries))) (is_reached (rules_of configs) (map entry_sight (busy entries))) moment
+    ≡ boards_in configs (map entry_sight entries)
 unfolding boards_in
-boards_same configs moment entries same number = at_busy (busy entries) same ∙ busy_boards configs entries number
+boards_seen configs entries moment shows = λ i number. at number i
   where
-    at_busy : (there : List Entry) → moment.entries ≡ there
+    at_busy : (there : List Entry) → moment.entries ≡ there → (number : ℕ)
         → boards_at configs (is_found (rules_of configs) (map entry_sight there)) (is_reached (rules_of configs) (map entry_sight there)) moment number
         ≡ boards_in configs (map entry_sight there) number
-    at_busy there same =
+    at_busy there same number =
         ap (λ (entries : List Entry). boards_at configs (is_found (rules_of configs) (map entry_sight there))
         (is_reached (rules_of configs) (map entry_sight there)) (record { facts = moment.facts; entries = entries }) number) same
 
-facts_same : (held : Facts) (configs : List Config) (rules : List Rule) (set_rows : List Row) (entries : List Entry) → held ≡ facts rules (sights_of set_rows)
-    → rules ≡ rules_of configs → set_rows ≡ map row_of (busy entries)
-    → held ≡ facts (rules_of configs) (map entry_sight (busy entries))
-facts_same held configs rules set_rows entries is same rows_same =
-    is ∙ ap₂ (λ (rules : List Rule) (set_rows : List Row). facts rules (sights_of set_rows)) same rows_same
-    ∙ ap (facts (rules_of configs)) (rows_sights (busy entries))
+    at : (number : ℕ)
+        → boards_at configs (is_found (rules_of configs) (map entry_sight (busy entries)))
+        (is_reached (rules_of configs) (map entry_sight (busy entries))) moment number
+        ≡ boards_in configs (map entry_sight entries) number
+    at number = at_busy (busy entries) shows.works number ∙ busy_boards configs entries number
 
--- what comparing the two moments gives, over what is known at each
-pub difference_is : (configs configs_after : List Config) (before behind : Moment) (rules rules_behind : List Rule) (entries entries_after : List Entry)
-    (set_rows rows_behind : List Row) (gone new : List BoardKey)
-    → rules ≡ rules_of configs → set_rows ≡ map row_of (busy entries) → before.facts ≡ facts rules (sights_of set_rows) → before.entries ≡ busy entries
-    → rules_behind ≡ rules_of configs_after → rows_behind ≡ map row_of (busy entries_after) → behind.facts ≡ facts rules_behind (sights_of rows_behind)
-    → behind.entries ≡ busy entries_after
+-- what comparing the two moments gives, over the FRUs that are present at each
+pub difference_is : (configs configs_after : List Config) (before behind : Moment) (entries entries_after : List Entry) (gone new : List BoardKey)
+    → IsSeen configs entries before → IsSeen configs_after entries_after behind
     → ((found reach found_after reach_after : ℕ → Bool) → IsMarkedBy before.facts found reach → IsMarkedBy behind.facts found_after reach_after
     → (gone ≡ keys_left (length configs) (boards_at configs found reach before) (boards_at configs_after found_after reach_after behind))
     × (new ≡ keys_left (length configs_after) (boards_at configs_after found_after reach_after behind) (boards_at configs found reach before)))
     → IsDifference (length configs) (length configs_after) (boards_in configs (map entry_sight entries))
     (boards_in configs_after (map entry_sight entries_after))
     gone new
-difference_is configs configs_after before behind rules rules_behind entries entries_after set_rows rows_behind gone new same rows_same facts_are entries_are
-    same_after rows_after facts_after entries_behind differs =
-    let both = differs _ _ _ _
-    (marked_by before.facts (rules_of configs) (map entry_sight (busy entries))
-    (facts_same before.facts configs rules set_rows entries facts_are same rows_same))
-    (marked_by behind.facts (rules_of configs_after) (map entry_sight (busy entries_after))
-    (facts_same behind.facts configs_after rules_behind rows_behind entries_after facts_after same_after rows_after)) in
+difference_is configs configs_after before behind entries entries_after gone new was is differs =
+    let both = differs _ _ _ _ was.marked is.marked in
+    let here = boards_seen configs entries before was in
+    let there = boards_seen configs_after entries_after behind is in
     record {
-      those_gone = both.0 ∙ ap₂ (keys_left (length configs)) (λ i number. boards_same configs before entries entries_are number i)
-          (λ i number. boards_same configs_after behind entries_after entries_behind number i);
-      those_new = both.1 ∙ ap₂ (keys_left (length configs_after)) (λ i number. boards_same configs_after behind entries_after entries_behind number i)
-          (λ i number. boards_same configs before entries entries_are number i);
+      those_gone = both.0 ∙ ap₂ (keys_left (length configs)) here there;
+      those_new = both.1 ∙ ap₂ (keys_left (length configs_after)) there here;
     }
 
 -- the keys that are told have configurations

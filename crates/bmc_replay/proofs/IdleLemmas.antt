@@ -1,10 +1,11 @@
 -- FRUs without hits and channels change nothing that is found, reachable or a board.
 use Rattle.std.proofs.Common.{◌≡◌, ℕ, ◌+◌, List, [], ◌∷◌, ◌++◌, map, length, Bool, true, false, cond, not, ◌==◌, ◌&&◌, ◌||◌, nat_eq, Option}
-use Rattle.std.proofs.Common.{append_assoc, arith}
+use Rattle.std.proofs.Common.{append_assoc, filter_map, subst, arith}
 use Rattle.std.proofs.Common.{refl, ap, ap₂, sym, ◌∙◌, inl}
 use Rattle.std.specs.Prelude.{slice_get, option_map}
-use Rattle.std.specs.List.{list_any, flat_map, range_with_len}
+use Rattle.std.specs.List.{AllByRecursion, list_any, flat_map, range_with_len}
 use Rattle.std.specs.Option.{unwrap_or}
+use Rattle.std.proofs.lemmas.Bool.{or_left, or_right}
 use Rattle.std.proofs.lemmas.Bool.Decides.{nat_tests}
 use Rattle.bmc_base.specs.Places.{Place}
 use Rattle.probe_lang.specs.Sights.{Sight, entry_sight, has_hit, has_config, has_channel}
@@ -12,6 +13,7 @@ use Rattle.probe_lang.specs.declared.rows.Entry.{Entry}
 use Rattle.probe_lang.specs.declared.rows.Hit.{Hit}
 use Rattle.probe_lang.specs.declared.rows.Channel.{Channel}
 use Rattle.cfg_json.specs.Configs.{Config}
+use Rattle.cfg_json.specs.declared.item.Item.{Item}
 use Rattle.found_set.specs.Marks.{is_marked}
 use Rattle.found_set.specs.Found.{Rule, found_from, found, matched_by, on_buses, is_root, roots, moves_to, opens, is_reached, is_found}
 use Rattle.fru_rows.specs.Idle.{is_idle, busy}
@@ -19,11 +21,16 @@ use Rattle.inventory.specs.Boards.{boards_in, board_places, places_or_none, rule
 use Rattle.inventory.specs.Indexes.{kept_of, except, with_boards}
 use Rattle.inventory.specs.Differences.{key_of}
 use Rattle.inventory.specs.Moments.{IsAmong, AreSeenAlike}
+use Rattle.inventory.specs.Items.{entry_fields, items, id_eq, items_less, live}
+use Rattle.inventory.specs.Lists.{keys_of, board_list}
 use Rattle.inventory.proofs.BoardLemmas.{pass_all, except_none}
+use Rattle.inventory.proofs.IdsLemmas.{id_itself}
+use Rattle.inventory.proofs.ListLemmas.{filter_none}
 use Rattle.inventory.proofs.MomentsLemmas.{hits_stay}
 use Rattle.inventory.specs.declared.board.BoardKey.{BoardKey}
-use Rattle.bmc_machine.specs.Changes.{changes_between, board_change}
-use Rattle.bmc_replay.specs.States.{View, view_boards, Moves}
+use Rattle.bmc_report.specs.declared.change.Change.{Change}
+use Rattle.bmc_machine.specs.Changes.{changes_between, board_change, item_change}
+use Rattle.bmc_replay.specs.States.{View, view_boards, view_items, Moves}
 
 empties : (hits : List Hit) (channels : List Channel) → (length hits == 0 && length channels == 0) ≡ true → (hits ≡ []) × (channels ≡ [])
 empties [] [] none = (refl, refl)
@@ -169,19 +176,46 @@ no_keys boards boards_after same (number ∷ numbers) =
     (ap (λ (there : List (Option Place)). except (has_board there) (boards number)) (same number) ∙ except_self (boards number))
     (no_keys boards boards_after same numbers)
 
+-- an item is among those with it
+holds_item : (item : Item) (front back : List Item) → list_any (λ (other : Item). id_eq other.id item.id) (front ++ item ∷ back) ≡ true
+holds_item item [] back = or_left _ _ (id_itself item.id)
+holds_item item (other ∷ front) back = or_right _ _ (holds_item item front back)
+
+-- no item is left over of those that are there too
+pub less_self : (all : List Item) → items_less all all ≡ []
+unfolding items_less
+less_self all = filter_none _ all (each [] all)
+  where
+    each : (front back : List Item)
+        → AllByRecursion (λ (item : Item). not (list_any (λ (other : Item). id_eq other.id item.id) (front ++ back)) ≡ false) back
+    each front [] = tt
+    each front (item ∷ back) =
+        (ap not (holds_item item front back),
+        subst (λ (all : List Item). AllByRecursion (λ (item : Item). not (list_any (λ (other : Item). id_eq other.id item.id) all) ≡ false) back)
+        (append_assoc front (item ∷ []) back) (each (front ++ item ∷ []) back))
+
+no_changes : (a b c d : List Change) → a ≡ [] → b ≡ [] → c ≡ [] → d ≡ [] → a ++ b ++ c ++ d ≡ []
+no_changes a b c d no_a no_b no_c no_d = λ i. no_a i ++ no_b i ++ no_c i ++ no_d i
+
 -- where all boards are the same there are no changes
-pub idle_moves : (old new : View) → new.configs ≡ old.configs → ((number : ℕ) → view_boards new number ≡ view_boards old number) → new.kept ≡ old.kept
-    → new.changes ≡ [] → Moves old new
+pub idle_moves : (old new : View) → new.configs ≡ old.configs → busy new.entries ≡ busy old.entries
+    → ((number : ℕ) → view_boards new number ≡ view_boards old number) → new.kept ≡ old.kept → new.changes ≡ [] → Moves old new
 unfolding changes_between
-idle_moves old new configs same kept none = record {
+idle_moves old new configs works same kept none = record {
   kept = λ number.
       ap (λ (lists : List (List (Option Place))). kept_of lists number) kept
       ∙ sym (ap (with_boards (kept_of old.kept number)) (ap (except (has_board (view_boards old number))) (same number)
       ∙ except_self (view_boards old number)));
   changes =
       none
-      ∙ sym (ap₂ (λ (gone fresh : List BoardKey). map (board_change true old.configs (kept_of old.kept)) gone
-      ++ map (board_change false new.configs (kept_of new.kept)) fresh)
-      (no_keys (view_boards old) (view_boards new) same (range_with_len 0 (length old.configs)))
-      (no_keys (view_boards new) (view_boards old) (λ number. sym (same number)) (range_with_len 0 (length new.configs))));
+      ∙ sym (no_changes _ _ _ _
+      (ap (map (board_change true old.configs (kept_of old.kept))) (no_keys (view_boards old) (view_boards new) same (range_with_len 0 (length old.configs))))
+      (ap (map (board_change false new.configs (kept_of new.kept)))
+      (no_keys (view_boards new) (view_boards old) (λ number. sym (same number)) (range_with_len 0 (length new.configs))))
+      (ap (filter_map (item_change true)) (ap (items_less (live (view_items old))) (ap live items_same) ∙ less_self (live (view_items old))))
+      (ap (filter_map (item_change false)) (ap (items_less (live (view_items new))) (sym (ap live items_same)) ∙ less_self (live (view_items new)))));
 }
+  where
+    items_same : view_items new ≡ view_items old
+    items_same =
+        λ i. items (configs i) (entry_fields (works i)) (board_list (kept_of (kept i)) (keys_of (length (configs i)) (λ number. same number i)))

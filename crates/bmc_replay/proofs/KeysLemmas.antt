@@ -1,7 +1,7 @@
 -- The boards that go and those that are new, by configuration.
 use Rattle.std.proofs.Common.{◌≡◌, ℕ, zero, suc, ◌+◌, ◌<◌, ◌≤◌, List, [], ◌∷◌, ◌++◌, map, filter, length, Bool, true, false, cond, nat_eq, Option}
 use Rattle.std.proofs.Common.{refl, ap, ap₂, sym}
-use Rattle.std.proofs.Common.{◌∙◌, arith, append-nil, option_map}
+use Rattle.std.proofs.Common.{◌∙◌, arith, append-nil, filter_map, option_map}
 use Rattle.std.specs.Prelude.{nat_lt, ◌≢◌}
 use Rattle.std.specs.Option.{unwrap_or}
 use Rattle.std.specs.List.{flat_map, range_with_len}
@@ -13,22 +13,24 @@ use Rattle.std.proofs.lemmas.Option.{slice_get_past}
 use Rattle.bmc_base.specs.Places.{Place}
 use Rattle.probe_lang.specs.Sights.{Sight}
 use Rattle.cfg_json.specs.Configs.{Config}
+use Rattle.cfg_json.specs.declared.item.Item.{Item}
 use Rattle.found_set.specs.Found.{is_found, is_reached}
 use Rattle.inventory.specs.Boards.{boards_in, board_places, config_places, rules_of, has_board}
 use Rattle.inventory.specs.Indexes.{kept_of, except, with_boards, index_in}
 use Rattle.inventory.specs.Differences.{key_of, keys_left, places_of}
+use Rattle.inventory.specs.Items.{items_less, live}
 use Rattle.inventory.specs.declared.board.BoardKey.{BoardKey}
 use Rattle.bmc_report.specs.declared.change.Change.{Change}
 use Rattle.bmc_report.specs.declared.change.Change.TheVariants.{Board}
 use Rattle.bmc_machine.specs.Boards.{name_of}
-use Rattle.bmc_machine.specs.Changes.{board_change, boards_left, changes_between}
-use Rattle.bmc_replay.specs.States.{View, view_boards, view_inventory, Moves}
+use Rattle.bmc_machine.specs.Changes.{board_change, boards_left, item_change, changes_between}
+use Rattle.bmc_replay.specs.States.{View, view_boards, view_items, view_inventory, Moves}
 use Rattle.bmc_replay.specs.Changes.{IsDifference, AreWithin, Tells}
 
 -- ---- the places of one configuration
 
 -- the keys of the configurations from this number on, of each by this list
-abbrev keys_by : (ℕ → List (Option Place)) → ℕ → ℕ → List BoardKey
+abbrev pub keys_by : (ℕ → List (Option Place)) → ℕ → ℕ → List BoardKey
 keys_by places from count = flat_map (λ each. map (key_of each) (places each)) (range_with_len from count)
 
 module _ (number : ℕ) where
@@ -107,7 +109,7 @@ within_own number count [] few = All-nil _
 within_own number count (place ∷ places) few = All-cons (λ (key : BoardKey). key.config < count) (key_of number place)
     (map (key_of number) places) few (within_own number count places few)
 
-within_by : (places : ℕ → List (Option Place)) (from n count : ℕ) → from + n ≤ count → AreWithin (keys_by places from n) count
+pub within_by : (places : ℕ → List (Option Place)) (from n count : ℕ) → from + n ≤ count → AreWithin (keys_by places from n) count
 within_by places from zero count few = All-nil _
 within_by places from (suc n) count few =
     All-append (λ (key : BoardKey). key.config < count) (map (key_of from) (places from)) (keys_by places (from + 1) n)
@@ -130,27 +132,44 @@ name_front (config ∷ configs) more zero few = refl
 name_front (config ∷ configs) more (suc number) few = name_front configs more number (omega (arith, few))
 
 -- where there is no configuration there is no board
-no_boards : (configs : List Config) (sights : List Sight) (number : ℕ) → length configs ≤ number → boards_in configs sights number ≡ []
+pub no_boards : (configs : List Config) (sights : List Sight) (number : ℕ) → length configs ≤ number → boards_in configs sights number ≡ []
 unfolding boards_in board_places
 no_boards configs sights number few =
     ap (λ (config : Option Config). unwrap_or (option_map (config_places (is_found (rules_of configs) sights)
     (is_reached (rules_of configs) sights) sights number)
     config) []) (slice_get_past configs number few)
 
--- what was staged is taken over
-pub moves : (old new : View) (more : List Config) (gone fresh : List BoardKey) (kept kept_now : List (List (Option Place))) (changes : List Change)
+-- what was staged is kept
+pub keeps : (old new : View) (gone fresh : List BoardKey) (kept kept_now : List (List (Option Place))) (told : List Change)
+    → IsDifference (length old.configs) (length new.configs) (view_boards old) (view_boards new) gone fresh
+    → ((number : ℕ) → kept_of kept number ≡ kept_of old.kept number) → Tells new.configs gone fresh kept kept_now told → new.kept ≡ kept_now
+    → (number : ℕ)
+    → kept_of new.kept number ≡ with_boards (kept_of old.kept number) (except (has_board (view_boards old number)) (view_boards new number))
+keeps old new gone fresh kept kept_now told differs same tells kept_are number =
+    ap (λ (lists : List (List (Option Place))). kept_of lists number) kept_are ∙ tells.all_kept number
+    ∙ ap₂ with_boards (same number)
+    (ap (places_of number) differs.those_new ∙ places_left number (length new.configs) (view_boards new) (view_boards old)
+    (λ few. no_boards new.configs _ number few))
+
+-- what was staged is taken over, and the live items that go and come are told behind it
+pub moves : (old new : View) (more : List Config) (gone fresh : List BoardKey) (kept kept_now : List (List (Option Place))) (told : List Change)
+    (before after gone_items fresh_items : List Item)
     → new.configs ≡ old.configs ++ more → IsDifference (length old.configs) (length new.configs) (view_boards old) (view_boards new) gone fresh
-    → ((number : ℕ) → kept_of kept number ≡ kept_of old.kept number) → Tells new.configs gone fresh kept kept_now changes
-    → new.kept ≡ kept_now → new.changes ≡ changes → Moves old new
+    → ((number : ℕ) → kept_of kept number ≡ kept_of old.kept number) → Tells new.configs gone fresh kept kept_now told → new.kept ≡ kept_now
+    → live before ≡ live (view_items old) → live after ≡ live (view_items new)
+    → gone_items ≡ items_less (live before) (live after) → fresh_items ≡ items_less (live after) (live before)
+    → new.changes ≡ told ++ filter_map (item_change true) gone_items ++ filter_map (item_change false) fresh_items → Moves old new
 unfolding changes_between
-moves old new more gone fresh kept kept_now changes configs differs same tells keeps told = record {
-  kept = λ number.
-      ap (λ (lists : List (List (Option Place))). kept_of lists number) keeps ∙ tells.all_kept number
-      ∙ ap₂ with_boards (same number)
-      (ap (places_of number) differs.those_new ∙ places_left number (length new.configs) (view_boards new) (view_boards old)
-      (λ few. no_boards new.configs _ number few));
-  changes = told ∙ tells.told ∙ ap₂ (λ (front back : List Change). front ++ back) gone_changes fresh_changes;
-}
+moves old new more gone fresh kept kept_now told before after gone_items fresh_items configs differs same tells kept_are was is gone_are fresh_are changes =
+  record {
+    kept = keeps old new gone fresh kept kept_now told differs same tells kept_are;
+    changes =
+        changes ∙ ap₂ (λ (front back : List Change). front ++ back)
+        (ap₂ (λ (front back : List Change). front ++ back)
+        (tells.told ∙ ap₂ (λ (front back : List Change). front ++ back) gone_changes fresh_changes)
+        (ap (filter_map (item_change true)) (gone_are ∙ ap₂ items_less was is)))
+        (ap (filter_map (item_change false)) (fresh_are ∙ ap₂ items_less is was));
+  }
   where
     gone_changes : map (board_change true new.configs (kept_of kept)) gone ≡ boards_left true (view_inventory old) (view_inventory new)
     gone_changes =
@@ -166,4 +185,4 @@ moves old new more gone fresh kept kept_now changes configs differs same tells k
     fresh_changes : map (board_change false new.configs (kept_of kept_now)) fresh ≡ boards_left false (view_inventory new) (view_inventory old)
     fresh_changes =
         ap₂ (λ (kept : List (List (Option Place))) (keys : List BoardKey). map (board_change false new.configs (kept_of kept)) keys)
-        (sym keeps) differs.those_new
+        (sym kept_are) differs.those_new

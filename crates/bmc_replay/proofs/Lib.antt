@@ -5,9 +5,12 @@ pub mod ChangesLemmas
 pub mod KeysLemmas
 pub mod BusyLemmas
 pub mod IdleLemmas
+pub mod ItemsLemmas
 pub mod RowsLemmas
 pub mod EventsLemmas
 pub mod RunsLemmas
 pub mod GatheringLemmas
 pub mod Along
 pub mod ReasonsLemmas
+pub mod StockLemmas
+pub mod GrowthLemmas

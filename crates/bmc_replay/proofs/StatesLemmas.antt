@@ -1,27 +1,38 @@
 -- What is known stands for a history, before a step and after it.
 use Rattle.std.proofs.Common.{◌≡◌, ℕ, List, [], ◌∷◌, ◌++◌, map, Bool, true, false, not, cond, Option, Some, None, refl, ap, ap₂, sym, subst, ◌∙◌}
+use Rattle.std.proofs.Common.{find, length}
+use Rattle.std.specs.Prelude.{option_map}
+use Rattle.std.specs.List.Sorted.{IsStrictlySortedBy}
+use Rattle.std.specs.Ordering.{is_eq}
 use Rattle.std.specs.Option.{option_eq}
-use Rattle.bmc_base.specs.Places.{Place, place_eq}
+use Rattle.bmc_base.specs.Places.{Place, place_eq, place_cmp}
+use Rattle.probe_lang.specs.Presents.{is_entry_at}
 use Rattle.probe_lang.specs.Sights.{Sight, entry_sight}
+use Rattle.probe_lang.specs.declared.rows.Entry.{Entry}
 use Rattle.cfg_json.specs.Configs.{Config}
 use Rattle.match_rows.proofs.MatchingLemmas.{entry_sight_is}
 use Rattle.inventory.specs.Boards.{boards_in, has_board}
 use Rattle.inventory.specs.Indexes.{kept_of, except, with_boards}
+use Rattle.inventory.specs.Items.{entry_fields, items, live}
+use Rattle.inventory.specs.Limits.{passed_limit}
+use Rattle.inventory.specs.Lists.{keys_of, board_list}
 use Rattle.inventory.proofs.BoardLemmas.{all_pass}
 use Rattle.inventory.proofs.IndexesLemmas.{with_boards_distinct}
 use Rattle.inventory.proofs.ListLemmas.{distinct_filter}
 use Rattle.bmc_report.specs.declared.refusal.Refusal.{Refusal}
-use Rattle.bmc_machine.specs.Standings.{Fru, Standing, fields_of}
-use Rattle.bmc_machine.specs.Boards.{sights_of, boards}
+use Rattle.bmc_machine.specs.Standings.{Fru, Standing, is_at, fields_of}
+use Rattle.bmc_machine.specs.Boards.{sights_of, boards, board_keys, fields_at}
 use Rattle.bmc_machine.specs.Histories.{Step, Configure, Plug, RefusedPlug, Unplug, standing}
-use Rattle.bmc_machine.specs.Indexes.{kept}
-use Rattle.bmc_machine.specs.Refusals.{refusal_of, IsLegalStep, IsLegal}
+use Rattle.bmc_machine.specs.Indexes.{kept, boards_now, items_now, live_now}
+use Rattle.bmc_machine.specs.Refusals.{limit_refusal, refusal_by_limit, refusal_of, IsLegalStep, IsLegal}
 use Rattle.bmc_machine.specs.Changes.{inventory, changes_between}
 use Rattle.bmc_machine.specs.Answers.{past_refused}
 use Rattle.bmc_machine.proofs.IndexLemmas.{kept_next, kept_now, kept_idle}
 use Rattle.bmc_machine.proofs.MeetingLemmas.{boards_differ}
-use Rattle.bmc_replay.specs.States.{View, no_view, fru_entry, view_boards, view_inventory, Stands, Moves}
+use Rattle.bmc_machine.proofs.StandingLemmas.{places, frus_ascend}
+use Rattle.bmc_replay.specs.States.{View, no_view, fru_entry, view_boards, view_items, view_inventory, view_refusal, Stands, Moves}
 use Rattle.bmc_replay.specs.Steps.{Accepts, Tries}
+use Rattle.bmc_replay.proofs.ItemsLemmas.{AreByPlace, busy_items}
 
 pub stands_none : Stands no_view []
 unfolding standing kept IsLegal
@@ -42,11 +53,62 @@ boards_are view now configs entries number =
     ap₂ (λ (configs : List Config) (sights : List Sight). boards_in configs sights number) configs
     (ap (map entry_sight) entries ∙ entry_sights now.configs now.frus)
 
-inventory_is : (view : View) (past : List Step) → view.configs ≡ (standing past).configs
-    → ((number : ℕ) → view_boards view number ≡ boards (standing past) number) → ((number : ℕ) → kept_of view.kept number ≡ kept past number)
-    → view_inventory view ≡ inventory past
-inventory_is view past configs same held =
-    λ i. record { configs = configs i; boards = λ number. same number i; kept = λ number. held number i }
+-- the fields that are known at a place are those of the FRU there
+fields_are : (configs : List Config) (frus : List Fru) → entry_fields (map (fru_entry configs) frus) ≡ fields_at frus
+fields_are configs frus = λ i place. at frus place i
+  where
+    at : (frus : List Fru) (place : Place) → entry_fields (map (fru_entry configs) frus) place ≡ fields_at frus place
+    at [] place = refl
+    at (fru ∷ frus) place = by (is_eq (place_cmp place fru.place)) (at frus place)
+      where
+        by : (here : Bool) → entry_fields (map (fru_entry configs) frus) place ≡ fields_at frus place
+            → option_map (λ (entry : Entry). entry.fru) (cond here (Some (fru_entry configs fru)) (find (is_entry_at place) (map (fru_entry configs) frus)))
+            ≡ option_map fields_of (cond here (Some fru) (find (is_at place) frus))
+        by true rest = refl
+        by false rest = rest
+
+entry_places : (configs : List Config) (frus : List Fru) → map (λ (entry : Entry). entry.place) (map (fru_entry configs) frus) ≡ places frus
+entry_places configs [] = refl
+entry_places configs (fru ∷ frus) = ap (λ (later : List Place). fru.place ∷ later) (entry_places configs frus)
+
+-- what is known of the FRUs comes by place
+known_by_place : (view : View) (past : List Step) → IsLegal past → view.entries ≡ map (fru_entry (standing past).configs) (standing past).frus
+    → AreByPlace view.entries
+known_by_place view past legal entries =
+    subst (λ (places : List Place). IsStrictlySortedBy place_cmp places)
+    (sym (ap (map (λ (entry : Entry). entry.place)) entries ∙ entry_places (standing past).configs (standing past).frus)) (frus_ascend past legal)
+
+module _ (view : View) (past : List Step) (legal : IsLegal past) (configs : view.configs ≡ (standing past).configs)
+    (entries : view.entries ≡ map (fru_entry (standing past).configs) (standing past).frus)
+    (same : (number : ℕ) → view_boards view number ≡ boards (standing past) number)
+    (held : (number : ℕ) → kept_of view.kept number ≡ kept past number) where
+  -- what the boards expose is what those of a scan do
+  items_are : view_items view ≡ items_now past
+  unfolding items_now boards_now board_keys
+  items_are =
+      busy_items view.configs (kept_of view.kept) (length view.configs) view.entries (known_by_place view past legal entries)
+      ∙ (λ i. items (configs i) (fields i) (board_list (λ number. held number i) (keys_of (length (configs i)) (λ number. same number i))))
+    where
+      fields : entry_fields view.entries ≡ fields_at (standing past).frus
+      fields = ap entry_fields entries ∙ fields_are (standing past).configs (standing past).frus
+
+  inventory_is : view_inventory view ≡ inventory past
+  unfolding live_now
+  inventory_is = λ i. record {
+    configs = configs i;
+    boards = λ number. same number i;
+    kept = λ number. held number i;
+    live = live (items_are i);
+  }
+
+-- the limit that the boards would pass is that of a scan
+pub limit_is : (view : View) (now : Standing) → view.configs ≡ now.configs → view.entries ≡ map (fru_entry now.configs) now.frus
+    → refusal_by_limit now ≡ view_refusal view
+unfolding board_keys
+limit_is view now configs entries = sym (λ i. option_map limit_refusal (passed_limit (configs i) (keys_of (length (configs i)) (λ number. same number i))))
+  where
+    same : (number : ℕ) → view_boards view number ≡ boards now number
+    same = boards_are view now configs entries
 
 -- ---- what is kept
 
@@ -96,7 +158,8 @@ accepted old new past step stood reason legal configs entries plugged moves =
       stands = record { legal = (stood.legal, legal); configs = configs; entries = entries; plugged = plugged; kept = held };
       told =
           moves.changes
-          ∙ ap₂ changes_between (inventory_is old past stood.configs before stood.kept) (inventory_is new (step ∷ past) configs after held);
+          ∙ ap₂ changes_between (inventory_is old past stood.legal stood.configs stood.entries before stood.kept)
+          (inventory_is new (step ∷ past) (stood.legal, legal) configs entries after held);
     }
 
 -- a state that stands does so also without its last changes

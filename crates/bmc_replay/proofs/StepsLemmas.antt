@@ -17,11 +17,11 @@ use Rattle.match_rows.specs.Matching.{entry_of}
 use Rattle.bmc_report.specs.declared.refusal.Refusal.{Refusal}
 use Rattle.bmc_report.specs.declared.refusal.Refusal.TheVariants.{ConfigAfterPlug, DuplicateName, ConfigLimit, Occupied, FruLimit, NotPresent}
 use Rattle.bmc_machine.specs.Standings.{Fru, fields_in, put, without, is_present}
-use Rattle.bmc_machine.specs.Histories.{Step, Configure, Plug, Unplug, standing}
-use Rattle.bmc_machine.specs.Refusals.{record_refusal, plug_refusal, most_frus, refusal_of}
-use Rattle.bmc_replay.specs.States.{View, fru_entry, Stands, Moves}
-use Rattle.bmc_replay.specs.Steps.{AddsFru, RemovesFru, Tries}
-use Rattle.bmc_replay.proofs.StatesLemmas.{accepted, refused}
+use Rattle.bmc_machine.specs.Histories.{Step, Configure, Plug, Unplug, after_step, standing}
+use Rattle.bmc_machine.specs.Refusals.{record_refusal, plug_refusal, most_frus, refusal_by_limit, ◌or_else◌, refusal_of}
+use Rattle.bmc_replay.specs.States.{View, fru_entry, view_refusal, Stands, Moves}
+use Rattle.bmc_replay.specs.Steps.{AddsFru, AddsUnless, with_fru, RemovesFru, Tries}
+use Rattle.bmc_replay.proofs.StatesLemmas.{limit_is, accepted, refused}
 
 -- ---- FRUs and their entries
 
@@ -65,15 +65,19 @@ is_known view past place held stood is =
 abbrev is_full : List Step → Bool
 is_full past = nat_le most_frus (length (standing past).frus)
 
-abbrev refused_bytes : List Step → List ℕ → Option Refusal
-refused_bytes past bytes = plug_refusal (is_full past) (record_of bytes)
+-- the refusal by a limit that the boards would pass after a plug
+abbrev over : List Step → Place → List ℕ → Option Refusal
+over past place bytes = refusal_by_limit (after_step (standing past) (Plug place bytes))
+
+abbrev refused_bytes : List Step → Place → List ℕ → Option Refusal
+refused_bytes past place bytes = plug_refusal (is_full past) (record_of bytes) or_else over past place bytes
 
 -- a place that is held is refused
 pub occupied : (old new : View) (place : Place) (bytes : List ℕ) → holds_place old.entries place ≡ true → new ≡ record old { changes = [] }
     → Tries old (Plug place bytes) (Some Occupied) new
 occupied old new place bytes held left =
     refused old new (Plug place bytes) Occupied
-    (λ past stood. ap (λ (there : Bool). cond there (Some Occupied) (refused_bytes past bytes)) (is_known old past place true stood held)) left
+    (λ past stood. ap (λ (there : Bool). cond there (Some Occupied) (refused_bytes past place bytes)) (is_known old past place true stood held)) left
 
 -- a fault that is a rule's is what reading gives
 breaks_by : {X : Type 0} (rule : FruFault) (refusal : Refusal) (read : Result X FruFault) → record_refusal rule ≡ Some refusal → GivesFault rule read
@@ -96,8 +100,9 @@ pub broken : (old new : View) (place : Place) (bytes : List ℕ) (rule : FruFaul
     → Tries old (Plug place bytes) (Some refusal) new
 broken old new place bytes rule refusal free breaks is left =
     refused old new (Plug place bytes) refusal
-    (λ past stood. ap (λ (there : Bool). cond there (Some Occupied) (refused_bytes past bytes)) (is_known old past place false stood free)
-    ∙ ap (plug_refusal (is_full past)) (breaks_by rule refusal (record_of bytes) is breaks) ∙ is) left
+    (λ past stood. ap (λ (there : Bool). cond there (Some Occupied) (refused_bytes past place bytes)) (is_known old past place false stood free)
+    ∙ ap (λ (first : Option Refusal). first or_else over past place bytes)
+    (ap (plug_refusal (is_full past)) (breaks_by rule refusal (record_of bytes) is breaks) ∙ is)) left
 
 -- as many FRUs are known as stand
 known_full : (view : View) (past : List Step) (full : Bool) → Stands view past → nat_le most_frus (length view.entries) ≡ full → is_full past ≡ full
@@ -111,30 +116,61 @@ pub frus_full : (old new : View) (place : Place) (bytes : List ℕ) (fields : Li
     → Tries old (Plug place bytes) (Some FruLimit) new
 frus_full old new place bytes fields free whole full left =
     refused old new (Plug place bytes) FruLimit
-    (λ past stood. ap (λ (there : Bool). cond there (Some Occupied) (refused_bytes past bytes)) (is_known old past place false stood free)
-    ∙ ap (plug_refusal (is_full past)) whole
-    ∙ ap (λ (full : Bool). plug_refusal full (Ok fields)) (known_full old past true stood full)) left
+    (λ past stood. ap (λ (there : Bool). cond there (Some Occupied) (refused_bytes past place bytes)) (is_known old past place false stood free)
+    ∙ ap (λ (first : Option Refusal). first or_else over past place bytes)
+    (ap (plug_refusal (is_full past)) whole ∙ ap (λ (full : Bool). plug_refusal full (Ok fields)) (known_full old past true stood full))) left
+
+-- what is known with a FRU whose record is whole
+known_with : (old : View) (past : List Step) (place : Place) (bytes : List ℕ) (fields : List Field) → Stands old past → record_of bytes ≡ Ok fields
+    → with_entry (entry_of old.configs place fields) old.entries
+    ≡ map (fru_entry (standing past).configs) (put (record { place = place; bytes = bytes }) (standing past).frus)
+known_with old past place bytes fields stood whole =
+    ap (λ (configs : List Config). with_entry (entry_of configs place fields) old.entries) stood.configs
+    ∙ ap (λ (entries : List Entry). with_entry (entry_of (standing past).configs place fields) entries) stood.entries
+    ∙ ap (λ (read : Result (List Field) FruFault). with_entry (entry_of (standing past).configs place (fields_in read))
+    (map (fru_entry (standing past).configs) (standing past).frus)) (sym whole)
+    ∙ put_is (standing past).configs (record { place = place; bytes = bytes }) (standing past).frus
+
+-- a FRU whose record is whole is refused by a limit alone
+by_limit : (old : View) (past : List Step) (place : Place) (bytes : List ℕ) (fields : List Field) → Stands old past → holds_place old.entries place ≡ false
+    → record_of bytes ≡ Ok fields → nat_le most_frus (length old.entries) ≡ false
+    → refusal_of (standing past) (Plug place bytes) ≡ over past place bytes
+by_limit old past place bytes fields stood free whole room =
+    ap (λ (there : Bool). cond there (Some Occupied) (refused_bytes past place bytes)) (is_known old past place false stood free)
+    ∙ ap (λ (first : Option Refusal). first or_else over past place bytes)
+    (ap (plug_refusal (is_full past)) whole ∙ ap (λ (full : Bool). plug_refusal full (Ok fields)) (known_full old past false stood room))
 
 -- a FRU is added whose record is whole
-pub plugged : (old new : View) (place : Place) (bytes : List ℕ) (fields : List Field) → holds_place old.entries place ≡ false
+plugged : (old new : View) (place : Place) (bytes : List ℕ) (fields : List Field) → holds_place old.entries place ≡ false
     → record_of bytes ≡ Ok fields → nat_le most_frus (length old.entries) ≡ false → AddsFru place fields old new → Tries old (Plug place bytes) None new
 unfolding standing
 plugged old new place bytes fields free whole room adds = record {
   tried = λ past stood.
-      let fru : Fru = record { place = place; bytes = bytes } in
+      let configs = adds.configs ∙ stood.configs in
+      let entries = adds.entries ∙ known_with old past place bytes fields stood whole in
       let reason : refusal_of (standing past) (Plug place bytes) ≡ None =
-      ap (λ (there : Bool). cond there (Some Occupied) (refused_bytes past bytes)) (is_known old past place false stood free)
-      ∙ ap (plug_refusal (is_full past)) whole ∙ ap (λ (full : Bool). plug_refusal full (Ok fields)) (known_full old past false stood room) in
-      accepted old new past (Plug place bytes) stood reason reason (adds.configs ∙ stood.configs)
-      (adds.entries
-      ∙ ap (λ (configs : List Config). with_entry (entry_of configs place fields) old.entries) stood.configs
-      ∙ ap (λ (entries : List Entry). with_entry (entry_of (standing past).configs place fields) entries) stood.entries
-      ∙ ap (λ (read : Result (List Field) FruFault). with_entry (entry_of (standing past).configs place (fields_in read))
-      (map (fru_entry (standing past).configs) (standing past).frus)) (sym whole)
-      ∙ put_is (standing past).configs fru (standing past).frus)
-      adds.plugged adds.moves;
+      by_limit old past place bytes fields stood free whole room
+      ∙ limit_is new (after_step (standing past) (Plug place bytes)) configs entries ∙ adds.fits in
+      accepted old new past (Plug place bytes) stood reason reason configs entries adds.plugged adds.moves;
   left = tt;
 }
+
+-- or its boards would pass a limit
+over_limit : (old new : View) (place : Place) (bytes : List ℕ) (fields : List Field) (refusal : Refusal) → holds_place old.entries place ≡ false
+    → record_of bytes ≡ Ok fields → nat_le most_frus (length old.entries) ≡ false → view_refusal (with_fru old place fields) ≡ Some refusal
+    → new ≡ record old { changes = [] } → Tries old (Plug place bytes) (Some refusal) new
+over_limit old new place bytes fields refusal free whole room is left =
+    refused old new (Plug place bytes) refusal
+    (λ past stood. by_limit old past place bytes fields stood free whole room
+    ∙ limit_is (with_fru old place fields) (after_step (standing past) (Plug place bytes)) stood.configs
+    (known_with old past place bytes fields stood whole) ∙ is) left
+
+pub plugged_unless : (refusal : Option Refusal) (old new : View) (place : Place) (bytes : List ℕ) (fields : List Field)
+    → holds_place old.entries place ≡ false → record_of bytes ≡ Ok fields → nat_le most_frus (length old.entries) ≡ false
+    → AddsUnless refusal place fields old new → Tries old (Plug place bytes) refusal new
+plugged_unless None old new place bytes fields free whole room adds = plugged old new place bytes fields free whole room adds
+plugged_unless (Some refusal) old new place bytes fields free whole room tries =
+    over_limit old new place bytes fields refusal free whole room tries.0 tries.1
 
 -- ---- unplugs
 
@@ -160,29 +196,36 @@ unplugged old new place held removes = record {
 -- ---- configurations
 
 -- why a configuration is refused where this stands
-abbrev by_tests : Bool → Bool → Bool → Option Refusal
-by_tests after_plug duplicate full = cond after_plug (Some ConfigAfterPlug) (cond duplicate (Some DuplicateName) (cond full (Some ConfigLimit) None))
+abbrev by_tests : Bool → Bool → Bool → Option Refusal → Option Refusal
+by_tests after_plug duplicate full limit =
+    cond after_plug (Some ConfigAfterPlug) (cond duplicate (Some DuplicateName) (cond full (Some ConfigLimit) limit))
+
+-- the refusal by a limit that the boards would pass with one more
+abbrev over_with : List Step → Config → Option Refusal
+over_with past config = refusal_by_limit (after_step (standing past) (Configure config))
 
 tests_are : (view : View) (past : List Step) (config : Config) → Stands view past
     → refusal_of (standing past) (Configure config)
     ≡ by_tests view.plugged (is_some (number_of view.configs config.name)) (nat_le most_configs (length view.configs))
+    (over_with past config)
 tests_are view past config stood =
-    ap₂ (λ (plugged : Bool) (configs : List Config). by_tests plugged (is_some (number_of configs config.name)) (nat_le most_configs (length configs)))
-    (sym stood.plugged) (sym stood.configs)
+    ap₂ (λ (plugged : Bool) (configs : List Config). by_tests plugged (is_some (number_of configs config.name)) (nat_le most_configs (length configs))
+    (over_with past config)) (sym stood.plugged) (sym stood.configs)
 
 pub after_plug : (old new : View) (config : Config) → old.plugged ≡ true → new ≡ record old { changes = [] }
     → Tries old (Configure config) (Some ConfigAfterPlug) new
 after_plug old new config is left =
     refused old new (Configure config) ConfigAfterPlug
     (λ past stood. tests_are old past config stood
-    ∙ ap (λ (test : Bool). by_tests test (is_some (number_of old.configs config.name)) (nat_le most_configs (length old.configs))) is) left
+    ∙ ap (λ (test : Bool). by_tests test (is_some (number_of old.configs config.name)) (nat_le most_configs (length old.configs))
+    (over_with past config)) is) left
 
 pub duplicate : (old new : View) (config : Config) → old.plugged ≡ false → is_some (number_of old.configs config.name) ≡ true
     → new ≡ record old { changes = [] } → Tries old (Configure config) (Some DuplicateName) new
 duplicate old new config is_new has left =
     refused old new (Configure config) DuplicateName
     (λ past stood. tests_are old past config stood ∙ ap₂ (λ (plugged named : Bool). by_tests plugged named
-    (nat_le most_configs (length old.configs))) is_new has)
+    (nat_le most_configs (length old.configs)) (over_with past config)) is_new has)
     left
 
 pub full : (old new : View) (config : Config) → old.plugged ≡ false → is_some (number_of old.configs config.name) ≡ false
@@ -190,28 +233,51 @@ pub full : (old new : View) (config : Config) → old.plugged ≡ false → is_s
 full old new config is_new other many left =
     refused old new (Configure config) ConfigLimit
     (λ past stood. tests_are old past config stood
-    ∙ ap₂ (λ (plugged named : Bool). by_tests plugged named (nat_le most_configs (length old.configs))) is_new other
-    ∙ ap (by_tests false false) many) left
+    ∙ ap₂ (λ (plugged named : Bool). by_tests plugged named (nat_le most_configs (length old.configs)) (over_with past config)) is_new other
+    ∙ ap (λ (full : Bool). by_tests false false full (over_with past config)) many) left
 
 no_frus : (configs : List Config) (frus : List Fru) (entries : List Entry) → entries ≡ [] → entries ≡ map (fru_entry configs) frus → frus ≡ []
 no_frus configs [] entries none same = refl
 no_frus configs (fru ∷ frus) entries none same = absurd (let no = sym none ∙ same in cc)
 
+-- a configuration that comes before any FRU is refused by a limit alone
+config_by_limit : (old : View) (past : List Step) (config : Config) → Stands old past → old.plugged ≡ false → number_of old.configs config.name ≡ None
+    → nat_le most_configs (length old.configs) ≡ false → refusal_of (standing past) (Configure config) ≡ over_with past config
+config_by_limit old past config stood never other few =
+    tests_are old past config stood
+    ∙ ap₂ (λ (plugged named : Bool). by_tests plugged named (nat_le most_configs (length old.configs)) (over_with past config)) never (ap is_some other)
+    ∙ ap (λ (full : Bool). by_tests false false full (over_with past config)) few
+
+-- no FRU is known with one more either
+none_with : (old : View) (past : List Step) (config : Config) → Stands old past → old.entries ≡ []
+    → old.entries ≡ map (fru_entry ((standing past).configs ++ config ∷ [])) (standing past).frus
+none_with old past config stood none =
+    none ∙ sym (ap (map (fru_entry ((standing past).configs ++ config ∷ [])))
+    (no_frus (standing past).configs (standing past).frus old.entries none stood.entries))
+
 -- a configuration is accepted while no FRU is present
 pub configured : (old new : View) (config : Config) → old.plugged ≡ false → old.entries ≡ [] → number_of old.configs config.name ≡ None
     → nat_le most_configs (length old.configs) ≡ false → new.configs ≡ old.configs ++ config ∷ [] → new.entries ≡ old.entries → new.plugged ≡ old.plugged
-    → Moves old new → Tries old (Configure config) None new
+    → view_refusal new ≡ None → Moves old new → Tries old (Configure config) None new
 unfolding standing
-configured old new config never none other few configs entries same moves = record {
+configured old new config never none other few configs entries same fits moves = record {
   tried = λ past stood.
+      let configs_are = configs ∙ ap (λ (configs : List Config). configs ++ config ∷ []) stood.configs in
+      let entries_are = entries ∙ none_with old past config stood none in
       let reason : refusal_of (standing past) (Configure config) ≡ None =
-      tests_are old past config stood
-      ∙ ap₂ (λ (plugged named : Bool). by_tests plugged named (nat_le most_configs (length old.configs))) never (ap is_some other)
-      ∙ ap (by_tests false false) few in
-      let empty : (standing past).frus ≡ [] = no_frus (standing past).configs (standing past).frus old.entries none stood.entries in
-      accepted old new past (Configure config) stood reason reason
-      (configs ∙ ap (λ (configs : List Config). configs ++ config ∷ []) stood.configs)
-      (entries ∙ none ∙ sym (ap (map (fru_entry ((standing past).configs ++ config ∷ []))) empty))
-      (same ∙ stood.plugged) moves;
+      config_by_limit old past config stood never other few
+      ∙ limit_is new (after_step (standing past) (Configure config)) configs_are entries_are ∙ fits in
+      accepted old new past (Configure config) stood reason reason configs_are entries_are (same ∙ stood.plugged) moves;
   left = tt;
 }
+
+-- or the boards would pass a limit with it
+pub config_over_limit : (old new : View) (config : Config) (refusal : Refusal) → old.plugged ≡ false → old.entries ≡ []
+    → number_of old.configs config.name ≡ None → nat_le most_configs (length old.configs) ≡ false
+    → view_refusal (record old { configs = old.configs ++ config ∷ [] }) ≡ Some refusal → new ≡ record old { changes = [] }
+    → Tries old (Configure config) (Some refusal) new
+config_over_limit old new config refusal never none other few is left =
+    refused old new (Configure config) refusal
+    (λ past stood. config_by_limit old past config stood never other few
+    ∙ limit_is (record old { configs = old.configs ++ config ∷ [] }) (after_step (standing past) (Configure config))
+    (ap (λ (configs : List Config). configs ++ config ∷ []) stood.configs) (none_with old past config stood none) ∙ is) left

@@ -7,3 +7,4 @@ pub mod Gathering
 pub mod Outside
 pub mod Statuses
 pub mod Stops
+pub mod ItemSteps

@@ -9,14 +9,24 @@ use Rattle.bmc_machine.specs.Histories.{Step, standing}
 use Rattle.bmc_machine.specs.Refusals.{refusal_of}
 use Rattle.bmc_machine.specs.Changes.{changes}
 use Rattle.bmc_machine.specs.Answers.{past_refused}
-use Rattle.bmc_replay.specs.States.{View, Stands, Moves}
+use Rattle.bmc_replay.specs.States.{View, view_refusal, Stands, Moves}
 
 -- a FRU with these fields was added at a place
 pub record AddsFru (place : Place) (fields : List Field) (old new : View) : Type 0 where
   pub configs : new.configs ≡ old.configs
   pub entries : new.entries ≡ with_entry (entry_of old.configs place fields) old.entries
   pub plugged : new.plugged ≡ true
+  pub fits : view_refusal new ≡ None
   pub moves : Moves old new
+
+-- what would be known with a FRU with these fields at a place
+abbrev pub with_fru : View → Place → List Field → View
+with_fru view place fields = record view { entries = with_entry (entry_of view.configs place fields) view.entries; plugged = true }
+
+-- a FRU was added, or its boards would pass a limit
+abbrev pub AddsUnless : Option Refusal → Place → List Field → View → View → Type 0
+AddsUnless None place fields old new = AddsFru place fields old new
+AddsUnless (Some refusal) place fields old new = (view_refusal (with_fru old place fields) ≡ Some refusal) × (new ≡ record old { changes = [] })
 
 -- the FRU at a place was taken away
 pub record RemovesFru (place : Place) (old new : View) : Type 0 where

@@ -1,10 +1,11 @@
 ghost use Rattle.std.specs.Prelude.{◌≡◌, Some, None, IfOk, OnErr};
-ghost use Rattle.bmc_machine.specs.Refusals.{record_refusal, config_refusal};
+ghost use Rattle.bmc_machine.specs.Refusals.{record_refusal, config_refusal, limit_refusal};
 
 use bmc_base::OutOfMemory;
 use bmc_report::Refusal;
 use cfg_json::ConfigFault;
 use fru_area::FruFault;
+use inventory::InventoryFault;
 
 /// The refusal by a rule that bytes break to be a record; want of memory is no rule.
 pub fn record_refused(rule: FruFault) -> Result<Refusal, OutOfMemory>
@@ -47,4 +48,15 @@ pub fn config_refused(rule: ConfigFault) -> Result<Refusal, OutOfMemory>
         ConfigFault::OutOfMemory => return Err(OutOfMemory),
     };
     Ok(refusal)
+}
+
+/// The refusal by a limit of the inventory.
+pub fn limit_refused(fault: InventoryFault) -> Refusal
+    ensures { result ≡ limit_refusal fault }
+{
+    match fault {
+        InventoryFault::BoardLimit => Refusal::BoardLimit,
+        InventoryFault::ZoneLimit => Refusal::ZoneLimit,
+        InventoryFault::FanLimit => Refusal::FanLimit,
+    }
 }

@@ -4,17 +4,20 @@ ghost use Rattle.bmc_replay.specs.States.{no_view, IsSame};
 ghost use Rattle.probe_lang.specs.Presents.{holds_place, is_entry_at};
 ghost use Rattle.match_rows.specs.Matching.{entry_of};
 ghost use Rattle.fru_rows.specs.Idle.{is_idle};
-ghost use Rattle.bmc_replay.specs.Steps.{AddsFru, RemovesFru, Tries};
+ghost use Rattle.bmc_replay.specs.Steps.{AddsUnless, RemovesFru, Tries};
 
-use crate::changes::{fixed_channels, stage_changes, tell_changes};
-use crate::refusing::record_refused;
+use crate::changes::{
+    compare_items, count_boards, fixed_channels, stage_changes, step_items, take_items,
+    tell_changes, tell_items,
+};
+use crate::refusing::{limit_refused, record_refused};
 use bmc_base::{Ledger, OutOfMemory, Place, Steps};
 use bmc_report::{Change, Refusal};
 use cfg_json::{Config, MOST_CONFIGS, Shelf};
 use found_set::FoundSet;
 use fru_record::FruRecord;
 use fru_rows::{Entries, FruRows, is_idle};
-use inventory::{IndexKeep, Moment, difference, difference_by};
+use inventory::{IndexKeep, Inventory, Moment, Totals, difference, difference_by};
 use match_rows::make;
 use probe_lang::Entry;
 use std::alloc::Global;
@@ -32,6 +35,8 @@ pub struct State<L: Ledger> {
     rows: FruRows,
     set: FoundSet<L>,
     keep: IndexKeep,
+    totals: Totals,
+    inventory: Inventory,
     plugged: bool,
     changes: Vec<Change>,
 }
@@ -56,11 +61,14 @@ impl<L: Ledger> State<L> {
         let rows = FruRows::new(alloc)?;
         let set = FoundSet::new(alloc)?;
         let keep = IndexKeep::new(alloc)?;
+        let inventory = Inventory::new(alloc)?;
         Ok(State {
             shelf,
             rows,
             set,
             keep,
+            totals: Totals::none(),
+            inventory,
             plugged: false,
             changes: Vec::new(alloc),
         })
@@ -119,10 +127,20 @@ impl<L: Ledger> State<L> {
         let before = Moment::of(self.set.facts(), self.rows.busy());
         let after = Moment::of(next.facts(), self.rows.busy());
         let difference = difference(alloc, &self.shelf, Some(&config), &before, &after)?;
-        let gone = stage_changes(alloc, difference, &mut self.keep, &mut self.changes)?;
+        let counted = self.totals.after(&self.shelf, Some(&config), &difference);
+        let totals = match counted {
+            Ok(totals) => totals,
+            Err(fault) => return Ok(self.refuse(limit_refused(fault))),
+        };
+        let listed = Inventory::list(alloc, &self.shelf, Some(&config), &self.keep, &after)?;
+        let items = compare_items(alloc, &self.inventory, listed)?;
+        let gone = stage_changes(alloc, difference, &items, &mut self.keep, &mut self.changes)?;
         self.shelf.add(alloc, config)?;
         self.set.commit(next);
+        self.totals = totals;
         tell_changes(&self.shelf, &mut self.keep, &gone, &mut self.changes);
+        tell_items(&items, &mut self.changes);
+        take_items(items, &mut self.inventory);
         Ok(None)
     }
 
@@ -146,8 +164,7 @@ impl<L: Ledger> State<L> {
                 if self.rows.len() >= MOST_FRUS {
                     return Ok(self.refuse(Refusal::FruLimit));
                 }
-                self.add_fru(alloc, place, fru, steps)?;
-                Ok(None)
+                self.add_fru(alloc, place, fru, steps)
             }
             Err(rule) => {
                 let refusal = record_refused(rule)?;
@@ -156,16 +173,16 @@ impl<L: Ledger> State<L> {
         }
     }
 
-    // Adds a FRU at a place that is free.
+    // Adds a FRU at a place that is free, or returns the refusal by the limit that its boards would pass.
     fn add_fru(
         &mut self,
         alloc: Global,
         place: Place,
         fru: FruRecord,
         steps: &mut Steps<L>,
-    ) -> Result<(), OutOfMemory>
+    ) -> Result<Option<Refusal>, OutOfMemory>
         requires { holds_place self.old.entries place ≡ false }
-        ensures ok { OnOk result (AddsFru place fru self.old self.new) }
+        ensures ok { IfOk result (λ refusal. AddsUnless refusal place fru self.old self.new) }
         ensures same { OnErr result (IsSame self.old self.new) }
     {
         let made = make(alloc, place, fru, &self.shelf, steps)?;
@@ -177,20 +194,21 @@ impl<L: Ledger> State<L> {
         self.rows.plug(boxed);
         self.plugged = true;
         self.changes.clear();
-        Ok(())
+        Ok(None)
     }
 
-    // Adds the entry of a FRU with hits or channels at a place that is free.
+    // Adds the entry of a FRU with hits or channels at a place that is free, or returns the refusal by the limit that
+    // its boards would pass.
     fn add_busy(
         &mut self,
         alloc: Global,
         boxed: Box<Entry>,
         steps: &mut Steps<L>,
-    ) -> Result<(), OutOfMemory>
+    ) -> Result<Option<Refusal>, OutOfMemory>
         requires free { holds_place self.old.entries boxed.value.place ≡ false }
         requires known { boxed.value ≡ entry_of self.old.configs boxed.value.place boxed.value.fru }
         requires busy { is_idle boxed.value ≡ false }
-        ensures ok { OnOk result (AddsFru boxed.value.place boxed.value.fru self.old self.new) }
+        ensures ok { IfOk result (λ refusal. AddsUnless refusal boxed.value.place boxed.value.fru self.old self.new) }
         ensures same { OnErr result (IsSame self.old self.new) }
     {
         self.rows.reserve(alloc)?;
@@ -199,12 +217,28 @@ impl<L: Ledger> State<L> {
         let before = Moment::of(self.set.facts(), self.rows.busy());
         let after = Moment::with(next.facts(), self.rows.busy(), &boxed);
         let difference = difference_by(alloc, &self.shelf, entry, &before, &after)?;
-        let gone = stage_changes(alloc, difference, &mut self.keep, &mut self.changes)?;
+        let counted = count_boards(self.totals, &self.shelf, &difference);
+        let totals = match counted {
+            Ok(totals) => totals,
+            Err(fault) => return Ok(self.refuse(limit_refused(fault))),
+        };
+        let items = step_items(
+            alloc,
+            &self.shelf,
+            &self.keep,
+            &self.inventory,
+            &difference,
+            &after,
+        )?;
+        let gone = stage_changes(alloc, difference, &items, &mut self.keep, &mut self.changes)?;
         self.set.commit(next);
         self.rows.plug(boxed);
         self.plugged = true;
+        self.totals = totals;
         tell_changes(&self.shelf, &mut self.keep, &gone, &mut self.changes);
-        Ok(())
+        tell_items(&items, &mut self.changes);
+        take_items(items, &mut self.inventory);
+        Ok(None)
     }
 
     /// Takes away the FRU at a place, or returns why that is refused. No pattern is matched. For want of memory
@@ -248,10 +282,27 @@ impl<L: Ledger> State<L> {
         let before = Moment::of(self.set.facts(), self.rows.busy());
         let after = Moment::without(next.facts(), self.rows.busy(), place);
         let difference = difference_by(alloc, &self.shelf, entry, &before, &after)?;
-        let gone = stage_changes(alloc, difference, &mut self.keep, &mut self.changes)?;
+        let counted = count_boards(self.totals, &self.shelf, &difference);
+        // Where a FRU is taken away no more boards pass a limit.
+        let totals = match counted {
+            Ok(totals) => totals,
+            Err(_) => unreachable!(),
+        };
+        let items = step_items(
+            alloc,
+            &self.shelf,
+            &self.keep,
+            &self.inventory,
+            &difference,
+            &after,
+        )?;
+        let gone = stage_changes(alloc, difference, &items, &mut self.keep, &mut self.changes)?;
         self.set.commit(next);
         self.rows.unplug(place);
+        self.totals = totals;
         tell_changes(&self.shelf, &mut self.keep, &gone, &mut self.changes);
+        tell_items(&items, &mut self.changes);
+        take_items(items, &mut self.inventory);
         Ok(())
     }
 }

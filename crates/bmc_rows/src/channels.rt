@@ -3,7 +3,7 @@ use crate::play::{Row, play_rows};
 use bmc_replay::Status::Done;
 use std::test::Fail;
 
-// Multiplexers whose channels move: of each board record, and of FRUs at address 112 alone.
+// Multiplexers with moving channels: of each board record, and of FRUs at address 112 alone.
 const RISER: &str =
     r#"{"Name":"W","Probe":"xyz.openbmc_project.FruDevice({'BOARD_PRODUCT_NAME': '^RSR1$'})",
     "Exposes":[{"Name":"Slot $bus","Type":"Mux","Channels":["$address - 60"]}]}"#;
@@ -266,6 +266,6 @@ fru 21 1
 ];
 
 #[test]
-fn channels_that_move(rt: HostRuntime) -> Result<(), Fail> {
+fn moving_channels(rt: HostRuntime) -> Result<(), Fail> {
     play_rows(&rt, rt.alloc(), &SCRIPTS)
 }

@@ -35,18 +35,27 @@ const FOUND: &[Part] = &[
     Config(
         r#"{"Name":"A","Probe":"TRUE","Exposes":[{"Name":"$","Type":"x"},{"Name":"$ 5$5 $é","Type":"x"},{"Name":"$bus /0 / x","Type":"x"}]}"#,
     ),
-    // a name of 65 bytes, which never gives a text
+    // a fan whose name never gives a text: 65 bytes
     Repeats(
         r#"{"Name":"A","Probe":"TRUE","Exposes":[{"Type":"Fan","Name":""#,
         "a",
         65,
         r#""}]}"#,
     ),
-    // fans of one name, of which other members are not read
+];
+
+// Those with fans of one name, of which other members are not read.
+const FANS: &[Part] = &[
     Config(
         r#"{"Name":"A","Probe":"TRUE","Exposes":[{"Name":"F","Type":"Fan","Channels":[256]},{"Name":"F","Type":"Fan"}]}"#,
     ),
-    // zones: numbers and texts at the ends of their ranges
+    Config(
+        r#"{"Type":"Board","Exposes":[{"Type":"Fan","MinThermalOutput":null,"Name":"F"}],"Probe":["TRUE"],"Name":"A"}"#,
+    ),
+];
+
+// Those with zones of one name: numbers and texts at the ends of their ranges.
+const ZONES: &[Part] = &[
     Config(
         r#"{"Name":"A","Probe":"TRUE","Exposes":[{"Name":"Z","Type":"Pid.Zone","MinThermalOutput":-1000000,"FailSafePercent":0}]}"#,
     ),
@@ -195,8 +204,10 @@ const EXPOSE_FORMS: &[Part] = &[
 ];
 
 // Documents that are answered alike: how a script of one of them ends, and what is printed.
-const DOCUMENTS: [Row; 6] = [
+const DOCUMENTS: [Row; 8] = [
     (FOUND, Done, ALWAYS_BOARD),
+    (FANS, Done, "0 new board \"A\" 1\n0 new fan \"F\"\n"),
+    (ZONES, Done, "0 new board \"A\" 1\n0 new zone \"Z\"\n"),
     (MISSING_KEYS, Refused, "line 1 refused MissingKey\n"),
     (WRONG_KINDS, Refused, "line 1 refused WrongKind\n"),
     (OUT_OF_RANGE, Refused, "line 1 refused OutOfRange\n"),

@@ -4,6 +4,8 @@
 #[cfg(test)]
 mod blocks;
 #[cfg(test)]
+mod board_limits;
+#[cfg(test)]
 mod boards;
 #[cfg(test)]
 mod channels;
@@ -13,6 +15,8 @@ mod documents;
 mod exposes;
 #[cfg(test)]
 mod faults;
+#[cfg(test)]
+mod items;
 #[cfg(test)]
 mod limits;
 #[cfg(test)]

@@ -6,7 +6,8 @@ use Rattle.serde_json.specs.Data.{Data}
 use Rattle.serde_json.specs.declared.value.Value.{Value}
 use Rattle.cfg_json.specs.declared.config_fault.ConfigFault.{ConfigFault}
 use Rattle.cfg_json.specs.declared.config_fault.ConfigFault.TheVariants.{NotJson, Fraction, MissingKey, WrongKind, OutOfRange}
-use Rattle.cfg_json.specs.declared.config_fault.ConfigFault.TheVariants.{ProbeSyntax, ExposeForm, TemplateSyntax, MuxMatchOne, PatternSyntax, PatternTooLarge, OutOfMemory}
+use Rattle.cfg_json.specs.declared.config_fault.ConfigFault.TheVariants.{ProbeSyntax, ExposeForm, TemplateSyntax, MuxMatchOne, PatternSyntax}
+use Rattle.cfg_json.specs.declared.config_fault.ConfigFault.TheVariants.{PatternTooLarge, OutOfMemory}
 use Rattle.cfg_json.specs.Readings.{Gives, GivesFault, GivesList}
 
 -- a fault that a part gives for sure

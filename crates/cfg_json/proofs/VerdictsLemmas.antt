@@ -8,7 +8,8 @@ use Rattle.cfg_json.specs.Readings.{GivesConfig, HasText}
 use Rattle.cfg_json.specs.Verdicts.{Accepted, BadPattern, LargePattern, TiedToReading, large_in, verdict_of}
 use Rattle.cfg_json.specs.declared.config_fault.ConfigFault.{ConfigFault}
 use Rattle.cfg_json.specs.declared.config_fault.ConfigFault.TheVariants.{NotJson, Fraction, MissingKey, WrongKind, OutOfRange}
-use Rattle.cfg_json.specs.declared.config_fault.ConfigFault.TheVariants.{ProbeSyntax, ExposeForm, TemplateSyntax, MuxMatchOne, PatternSyntax, PatternTooLarge, OutOfMemory}
+use Rattle.cfg_json.specs.declared.config_fault.ConfigFault.TheVariants.{ProbeSyntax, ExposeForm, TemplateSyntax, MuxMatchOne, PatternSyntax}
+use Rattle.cfg_json.specs.declared.config_fault.ConfigFault.TheVariants.{PatternTooLarge, OutOfMemory}
 
 same_list : (old new : Maker) → new ≡ old → new.refused ≡ old.refused ++ []
 same_list old new same = ap (λ (maker : Maker). maker.refused) same ∙ sym (append-nil old.refused)

@@ -1,5 +1,6 @@
 -- One configuration more, over those before it.
-use Rattle.std.proofs.Common.{◌≡◌, ℕ, zero, suc, ◌+◌, ◌<◌, ◌≤◌, Bool, true, false, ◌&&◌, bytes_eq, nat_lt, List, [], ◌∷◌, ◌++◌, length, get_or, set, take, drop, replicate, refl, ap, ap₂, sym, ◌∙◌, arith, append-nil, append_assoc}
+use Rattle.std.proofs.Common.{◌≡◌, ℕ, zero, suc, ◌+◌, ◌<◌, ◌≤◌, Bool, true, false, ◌&&◌, bytes_eq, nat_lt, List, [], ◌∷◌, ◌++◌, length, get_or, set}
+use Rattle.std.proofs.Common.{take, drop, replicate, refl, ap, ap₂, sym, ◌∙◌, arith, append-nil, append_assoc}
 use Rattle.std.specs.List.{list_all, list_any}
 use Rattle.std.proofs.lemmas.List.{drop_more, take_more_set, length-append, length-take-le, length-map}
 use Rattle.std.proofs.Math.Seq.{take-append_seam, get_or-append_seam}

@@ -69,4 +69,5 @@ all_near rules rows none c p =
 
 -- facts tell by their marks
 pub reach_marked : (rules : List Rule) (sights : List Sight) (now : Facts) → now ≡ facts rules sights → AreMarked now.reach (is_reached rules sights)
-reach_marked rules sights now is = λ n small. ap (λ (f : Facts). is_marked f.reach n) is ∙ get_or-map-range_with_len (is_reached rules sights) 0 256 n n false small (omega arith)
+reach_marked rules sights now is =
+    λ n small. ap (λ (f : Facts). is_marked f.reach n) is ∙ get_or-map-range_with_len (is_reached rules sights) 0 256 n n false small (omega arith)

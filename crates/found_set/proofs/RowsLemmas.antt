@@ -1,5 +1,6 @@
 -- Rows by place: with one more, and without one.
-use Rattle.std.proofs.Common.{◌≡◌, ◌∙◌, ℕ, suc, ◌+◌, ◌-◌, ◌≤◌, ◌<◌, Bool, true, false, cond, not, ◌&&◌, ◌||◌, List, [], ◌∷◌, ◌++◌, length, get_or, take, drop, Some, None, refl, nat_lt, ap, ap₂, sym, arith}
+use Rattle.std.proofs.Common.{◌≡◌, ◌∙◌, ℕ, suc, ◌+◌, ◌-◌, ◌≤◌, ◌<◌, Bool, true, false, cond, not, ◌&&◌, ◌||◌, List, [], ◌∷◌, ◌++◌, length, get_or}
+use Rattle.std.proofs.Common.{take, drop, Some, None, refl, nat_lt, ap, ap₂, sym, arith}
 use Rattle.std.specs.Prelude.{position, filter}
 use Rattle.std.specs.List.{list_all, list_any, insert, remove, position_or_len}
 use Rattle.std.specs.Ordering.{is_lt, is_eq, ordering_reverse}

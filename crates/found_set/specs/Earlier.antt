@@ -1,5 +1,6 @@
 -- What an earlier pass found, and where that still holds.
-use Rattle.std.specs.Prelude.{ℕ, ◌≡◌, ◌<◌, ◌≤◌, Bool, false, not, ◌&&◌, ◌||◌, if◌then◌else◌, nat_lt, bytes_eq, Option, Some, None, List, length, take, get_or, position}
+use Rattle.std.specs.Prelude.{ℕ, ◌≡◌, ◌<◌, ◌≤◌, Bool, false, not, ◌&&◌, ◌||◌, if◌then◌else◌, nat_lt, bytes_eq, Option, Some, None, List, length, take}
+use Rattle.std.specs.Prelude.{get_or, position}
 use Rattle.std.proofs.Math.Bool.{beq}
 use Rattle.probe_lang.specs.Values.{value, most_patterns}
 use Rattle.probe_lang.specs.declared.word.Word.{Word}

@@ -1,5 +1,6 @@
 -- The holders of names among items, one item after another.
-use Rattle.std.proofs.Common.{◌≡◌, ◌∙◌, ℕ, zero, suc, ◌+◌, ◌<◌, Bool, true, false, cond, ◌&&◌, List, [], ◌∷◌, ◌++◌, length, take, map, filter, Option, Some, None, option_map, slice_get, refl, sym, ap, ap₂, subst, arith, true≢false}
+use Rattle.std.proofs.Common.{◌≡◌, ◌∙◌, ℕ, zero, suc, ◌+◌, ◌<◌, Bool, true, false, cond, ◌&&◌, List, [], ◌∷◌, ◌++◌, length, take, map, filter, Option}
+use Rattle.std.proofs.Common.{Some, None, option_map, slice_get, refl, sym, ap, ap₂, subst, arith, true≢false}
 use Rattle.std.specs.Prelude.{bytes_eq, find, filter_map}
 use Rattle.std.specs.Option.{is_some, option_or, option_eq, unwrap_or}
 use Rattle.std.specs.List.{AllByRecursion, IsDistinct, cons_option}
@@ -282,7 +283,8 @@ module _ (items : List Item) (item : Item) where
           (λ other name has. at_own item family of_family (λ family name. is_some (position_of holders family name)) other name has ∙ held)
         where
           has_holder : is_some (holder items family item.name) ≡ true
-          has_holder = some_alike (position_of holders family item.name) (holder items family item.name) (slice_get items) (are.position family item.name) ∙ held
+          has_holder = some_alike (position_of holders family item.name) (holder items family item.name)
+              (slice_get items) (are.position family item.name) ∙ held
 
           by : (held : Option Item) → holder items family item.name ≡ held → is_some held ≡ true → is_item item.id (option_or held (Some item)) ≡ false
           by None is some = absurd (cc)

@@ -16,3 +16,5 @@ pub mod IdsLemmas
 pub mod HoldersLemmas
 pub mod LessLemmas
 pub mod InventoriesLemmas
+pub mod TotalsLemmas
+pub mod NamingLemmas

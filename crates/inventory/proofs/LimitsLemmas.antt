@@ -1,54 +1,63 @@
 -- The limits of an inventory.
-use Rattle.std.proofs.Common.{◌≡◌, ◌∙◌, ℕ, ◌+◌, ◌-◌, ◌^◌, ◌<◌, ◌≤◌, Bool, true, false, cond, nat_lt, List, [], ◌∷◌, length, map, min, Option, Some, None}
+use Rattle.std.proofs.Common.{◌≡◌, ◌∙◌, ℕ, ◌+◌, ◌-◌, ◌^◌, ◌<◌, ◌≤◌, Bool, true, false, cond, nat_lt, List, min, Option, Some, None, Result, Ok, Err}
 use Rattle.std.proofs.Common.{refl, sym, ap, ap₂, arith, lit<}
-use Rattle.std.specs.List.{fold, sum_by}
 use Rattle.std.proofs.lemmas.Bool.Decides.{nat_tests}
-use Rattle.std.proofs.lemmas.List.{length-map}
-use Rattle.cfg_json.specs.Configs.{Config}
-use Rattle.inventory.specs.declared.board.BoardKey.{BoardKey}
-use Rattle.inventory.specs.declared.board.Board.{Board}
+use Rattle.inventory.specs.declared.limits.Totals.{Totals}
 use Rattle.inventory.specs.declared.fault.InventoryFault.{InventoryFault}
 use Rattle.inventory.specs.declared.fault.InventoryFault.TheVariants.{BoardLimit, ZoneLimit, FanLimit}
-use Rattle.inventory.specs.Limits.{board_counts, passed_limit, most_boards, most_zones, most_fans}
-
-sum_from : (count : BoardKey → ℕ) (start : ℕ) (boards : List Board)
-    → fold (λ sum key. sum + count key) start (map (λ (board : Board). board.key) boards) ≡ fold (λ sum (board : Board). sum + count board.key) start boards
-sum_from count start [] = refl
-sum_from count start (board ∷ boards) = sum_from count (start + count board.key) boards
-
-sum_keys : (count : BoardKey → ℕ) (boards : List Board) → sum_by count (map (λ (board : Board). board.key) boards) ≡ sum_by (λ board. count board.key) boards
-sum_keys count boards = sum_from count 0 boards
+use Rattle.inventory.specs.Limits.{limit_of, most_boards, most_zones, most_fans, GivesTotals}
 
 -- a number is above a limit exactly where it is cut off above the limit
 test_of : (limit sum cut : ℕ) (above : Bool) → limit < 2 ^ 64 - 1 → cut ≡ min sum (2 ^ 64 - 1) → nat_lt limit cut ≡ above → nat_lt limit sum ≡ above
 test_of limit sum cut true small is test = grind (arith, nat_tests)
 test_of limit sum cut false small is test = grind (arith, nat_tests)
 
-module _ (configs : List Config) (boards : List Board) where
-  abbrev pub answer : Bool → Bool → Bool → Option InventoryFault
-  answer many zones fans = cond many (Some BoardLimit) (cond zones (Some ZoneLimit) (cond fans (Some FanLimit) None))
+-- what is below a limit is not cut off
+not_cut : (limit sum cut : ℕ) → limit < 2 ^ 64 - 1 → cut ≡ min sum (2 ^ 64 - 1) → nat_lt limit cut ≡ false → cut ≡ sum
+not_cut limit sum cut small is few = grind (arith, nat_tests)
 
-  -- what is answered, by the tests of the boards
-  answer_is : (many zones fans : Bool) → nat_lt most_boards (length boards) ≡ many
-      → nat_lt most_zones (sum_by (λ (board : Board). (board_counts configs board.key).zones) boards) ≡ zones
-      → nat_lt most_fans (sum_by (λ (board : Board). (board_counts configs board.key).fans) boards) ≡ fans
-      → answer many zones fans ≡ passed_limit configs (map (λ (board : Board). board.key) boards)
-  unfolding passed_limit
-  answer_is many zones fans is_many is_zones is_fans =
-      let zones_at : BoardKey → ℕ = λ key. (board_counts configs key).zones in
-      let fans_at : BoardKey → ℕ = λ key. (board_counts configs key).fans in
-      ap (λ (test : Bool). answer test zones fans) (sym is_many ∙ ap (nat_lt most_boards) (sym (length-map boards (λ (board : Board). board.key))))
-      ∙ ap₂ (λ (one other : Bool). answer (nat_lt most_boards (length (map (λ (board : Board). board.key) boards))) one other)
-      (sym is_zones ∙ ap (nat_lt most_zones) (sym (sum_keys zones_at boards))) (sym is_fans ∙ ap (nat_lt most_fans) (sym (sum_keys fans_at boards)))
+-- numbers that are cut off give what they give whole, cut off
+pub cut_off : (count gone new gone_cut new_cut : ℕ) → count ≤ 2 ^ 64 - 1 → gone_cut ≡ min gone (2 ^ 64 - 1) → new_cut ≡ min new (2 ^ 64 - 1)
+    → min (count - gone_cut + new_cut) (2 ^ 64 - 1) ≡ min (count - gone + new) (2 ^ 64 - 1)
+cut_off count gone new gone_cut new_cut small is_gone is_new = omega arith
 
-  pub many_boards : most_boards < length boards → Some BoardLimit ≡ passed_limit configs (map (λ (board : Board). board.key) boards)
-  many_boards over = answer_is true _ _ (grind (arith, nat_tests)) refl refl
+abbrev answer : Bool → Bool → Bool → Option InventoryFault
+answer many zones fans = cond many (Some BoardLimit) (cond zones (Some ZoneLimit) (cond fans (Some FanLimit) None))
 
-  module _ (few : length boards ≤ most_boards) (zones fans : ℕ)
-      (zones_are : zones ≡ min (sum_by (λ (board : Board). (board_counts configs board.key).zones) boards) (2 ^ 64 - 1))
-      (fans_are : fans ≡ min (sum_by (λ (board : Board). (board_counts configs board.key).fans) boards) (2 ^ 64 - 1)) where
-    pub counts_tell : (many_zones many_fans : Bool) → nat_lt most_zones zones ≡ many_zones → nat_lt most_fans fans ≡ many_fans
-        → answer false many_zones many_fans ≡ passed_limit configs (map (λ (board : Board). board.key) boards)
-    counts_tell many_zones many_fans is_zones is_fans =
-        answer_is false many_zones many_fans (grind (arith, nat_tests)) (test_of most_zones _ zones many_zones (lit< tt) zones_are is_zones)
-        (test_of most_fans _ fans many_fans (lit< tt) fans_are is_fans)
+-- no limit is passed
+record AreNone (many many_zones many_fans : Bool) : Type 0 where
+  boards : many ≡ false
+  zones : many_zones ≡ false
+  fans : many_fans ≡ false
+
+none_of : (many zones fans : Bool) → answer many zones fans ≡ None → AreNone many zones fans
+none_of true zones fans is = absurd (cc)
+none_of false true fans is = absurd (cc)
+none_of false false true is = absurd (cc)
+none_of false false false is = record { boards = refl; zones = refl; fans = refl }
+
+-- totals that are cut off pass the limits that they pass whole, and are whole where they pass none
+module _ (totals whole : Totals) (boards : totals.boards ≡ min whole.boards (2 ^ 64 - 1)) (zones : totals.zones ≡ min whole.zones (2 ^ 64 - 1))
+    (fans : totals.fans ≡ min whole.fans (2 ^ 64 - 1)) where
+  test_cut : (limit sum cut : ℕ) → limit < 2 ^ 64 - 1 → cut ≡ min sum (2 ^ 64 - 1) → nat_lt limit cut ≡ nat_lt limit sum
+  test_cut limit sum cut small is = sym (test_of limit sum cut (nat_lt limit cut) small is refl)
+
+  limit_cut : limit_of totals ≡ limit_of whole
+  limit_cut =
+      ap (λ (many : Bool). answer many (nat_lt most_zones totals.zones) (nat_lt most_fans totals.fans))
+      (test_cut most_boards whole.boards totals.boards (lit< tt) boards)
+      ∙ ap₂ (λ (many other : Bool). answer (nat_lt most_boards whole.boards) many other)
+      (test_cut most_zones whole.zones totals.zones (lit< tt) zones) (test_cut most_fans whole.fans totals.fans (lit< tt) fans)
+
+  whole_is : limit_of totals ≡ None → totals ≡ whole
+  whole_is none =
+      let are = none_of (nat_lt most_boards totals.boards) (nat_lt most_zones totals.zones) (nat_lt most_fans totals.fans) none in
+      λ i. record {
+        boards = not_cut most_boards whole.boards totals.boards (lit< tt) boards are.boards i;
+        zones = not_cut most_zones whole.zones totals.zones (lit< tt) zones are.zones i;
+        fans = not_cut most_fans whole.fans totals.fans (lit< tt) fans are.fans i;
+      }
+
+  pub gives_whole : (result : Result Totals InventoryFault) → GivesTotals result totals → GivesTotals result whole
+  gives_whole (Ok checked) gives = (gives.0 ∙ whole_is gives.1, sym limit_cut ∙ gives.1)
+  gives_whole (Err fault) gives = sym limit_cut ∙ gives

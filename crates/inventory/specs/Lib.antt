@@ -7,6 +7,7 @@ pub mod Laws
 pub mod Lists
 pub mod Items
 pub mod Limits
+pub mod Naming
 pub mod Orders
 pub mod Holders
 pub mod Inventories

@@ -52,8 +52,8 @@ impl ItemList {
     }
 }
 
-// Whether an item comes before another.
-fn is_before(id: &ItemId, other: &ItemId) -> bool
+/// Whether an item comes before another.
+pub(crate) fn is_before(id: &ItemId, other: &ItemId) -> bool
     ensures { result ≡ is_lt (id_cmp id.now other.now) }
 {
     id.config
@@ -75,11 +75,11 @@ fn skip_before(items: &Live<'_>, start: usize, id: &ItemId) -> usize
     start.max(items.len())
 }
 
-// Whether the item with a number has an id.
-fn is_at(items: &Live<'_>, number: usize, id: &ItemId) -> bool
-    ensures { result ≡ is_item id.now (slice_get items.now number) }
+// Whether the item with a number is this one.
+fn is_at(items: &Live<'_>, number: usize, item: &Item) -> bool
+    ensures { result ≡ is_item item.now.id (slice_get items.now number) }
 {
-    number < items.len() && items.at(number).id == *id
+    number < items.len() && items.at(number).id == item.id
 }
 
 /// Appends a copy of each live item that is here and not there. The ids ascend in both, so each is gone through once.
@@ -97,7 +97,7 @@ pub fn push_less(
     for number in 0..here.len() {
         let item = here.at(number);
         next = skip_before(there, next, &item.id);
-        if !is_at(there, next, &item.id) {
+        if !is_at(there, next, item) {
             list.push(alloc, item.copied(alloc)?)?;
         }
     }

@@ -1,9 +1,10 @@
-ghost use Rattle.std.specs.Prelude.{◌≡◌, ◌++◌, ℕ, map, min, option_map, option_to_list, sum_by};
-ghost use Rattle.std.specs.Result.{result_err};
-ghost use Rattle.inventory.specs.Limits.{board_counts, passed_limit};
+ghost use Rattle.std.specs.Prelude.{◌≡◌, ◌++◌, ◌+◌, ◌-◌, ℕ, map, min, option_map, option_to_list, sum_by};
+ghost use Rattle.inventory.specs.Limits.{
+    board_counts, fans_of, limit_of, no_totals, totals_after, totals_of, zones_of, GivesTotals
+};
 
 use crate::configs::config_at;
-use crate::{Board, InventoryFault};
+use crate::{Board, BoardKey, Difference, InventoryFault};
 use bmc_base::Ledger;
 use cfg_json::{Config, Counts, Shelf};
 
@@ -14,54 +15,123 @@ const MOST_ZONES: usize = 32;
 
 const MOST_FANS: usize = 128;
 
+/// How many boards there are, and how many of their exposes are of each kind, whether they are rendered or not.
+#[derive(Clone, Copy, Debug, PartialEq, Eq)]
+pub struct Totals {
+    /// The boards, at most 1,024.
+    pub boards: usize,
+    /// The zones, at most 32.
+    pub zones: usize,
+    /// The fans, at most 128.
+    pub fans: usize,
+}
+
 // Counts the exposes of a board; there are none where no configuration has its number.
-fn counts_at<L: Ledger>(shelf: &Shelf<L>, plus: Option<&Config<L>>, board: &Board) -> Counts
-    ensures { result ≡ board_counts (shelf.now ++ option_to_list (option_map (λ config. config.now) plus.entry)) board.now.key }
+pub(crate) fn counts_at<L: Ledger>(
+    shelf: &Shelf<L>,
+    plus: Option<&Config<L>>,
+    key: &BoardKey,
+) -> Counts
+    ensures { result ≡ board_counts (shelf.now ++ option_to_list (option_map (λ config. config.now) plus.entry)) key.now }
 {
-    match config_at(shelf, plus, board.key.config as usize) {
+    match config_at(shelf, plus, key.config as usize) {
         Some(config) => config.counts(),
         None => Counts { zones: 0, fans: 0 },
     }
 }
 
-// Counts the exposes of boards, up to the greatest number.
-fn sum_counts<L: Ledger>(shelf: &Shelf<L>, plus: Option<&Config<L>>, boards: &[Board]) -> Counts
-    ensures zones { let all = shelf.now ++ option_to_list (option_map (λ config. config.now) plus.entry) in
-        result.zones ≡ min (sum_by (λ board. (board_counts all board.key).zones) boards.now) usize.MAX }
-    ensures fans { let all = shelf.now ++ option_to_list (option_map (λ config. config.now) plus.entry) in
-        result.fans ≡ min (sum_by (λ board. (board_counts all board.key).fans) boards.now) usize.MAX }
+// Adds two counts, up to the greatest number.
+fn add_counts(sums: Counts, counts: Counts) -> Counts
+    ensures zones { result.zones ≡ min (sums.zones + counts.zones) usize.MAX }
+    ensures fans { result.fans ≡ min (sums.fans + counts.fans) usize.MAX }
+{
+    Counts {
+        zones: sums.zones.saturating_add(counts.zones),
+        fans: sums.fans.saturating_add(counts.fans),
+    }
+}
+
+// Counts the exposes of the boards with these keys, up to the greatest number.
+fn sum_counts<L: Ledger>(
+    shelf: &Shelf<L>,
+    plus: Option<&Config<L>>,
+    keys: &[BoardKey],
+) -> Counts
+    ensures zones { result.zones ≡ min (zones_of (shelf.now ++ option_to_list (option_map (λ config. config.now) plus.entry)) keys.now) usize.MAX }
+    ensures fans { result.fans ≡ min (fans_of (shelf.now ++ option_to_list (option_map (λ config. config.now) plus.entry)) keys.now) usize.MAX }
 {
     let mut sums = Counts { zones: 0, fans: 0 };
-    for board in boards {
-        let counts = counts_at(shelf, plus, board);
-        sums = Counts {
-            zones: sums.zones.saturating_add(counts.zones),
-            fans: sums.fans.saturating_add(counts.fans),
-        };
+    for key in keys {
+        sums = add_counts(sums, counts_at(shelf, plus, key));
     }
     sums
 }
 
-/// Checks that boards pass no limit: at most 1,024 boards, whose exposes are at most 32 zones and at most 128 fans,
-/// whether they are rendered or not. The fault is the first limit that is passed. The shelf has the configurations; one
-/// more may be accepted now, with their count for its number. It takes no memory.
-pub fn check_limits<L: Ledger>(
-    shelf: &Shelf<L>,
-    plus: Option<&Config<L>>,
-    boards: &[Board],
-) -> Result<(), InventoryFault>
-    ensures { let all = shelf.now ++ option_to_list (option_map (λ config. config.now) plus.entry) in
-        result_err result ≡ passed_limit all (map (λ (board : Board). board.key) boards.now) }
+// Takes some away and adds others, up to the greatest number.
+fn replaced(count: usize, gone: usize, new: usize) -> usize
+    ensures { result ≡ min (count - gone + new) usize.MAX }
 {
-    if boards.len() > MOST_BOARDS {
-        return Err(InventoryFault::BoardLimit);
+    count.saturating_sub(gone).saturating_add(new)
+}
+
+impl Totals {
+    /// Returns the totals of no boards.
+    pub fn none() -> Totals
+        ensures { result ≡ no_totals }
+    {
+        Totals {
+            boards: 0,
+            zones: 0,
+            fans: 0,
+        }
     }
-    let counts = sum_counts(shelf, plus, boards);
-    if counts.zones > MOST_ZONES {
-        Err(InventoryFault::ZoneLimit)
-    } else if counts.fans > MOST_FANS {
-        Err(InventoryFault::FanLimit)
-    } else {
-        Ok(())
+
+    // Returns the first limit that is passed, if one is.
+    fn passed(&self) -> Option<InventoryFault>
+        ensures { result ≡ limit_of self.now }
+    {
+        if self.boards > MOST_BOARDS {
+            Some(InventoryFault::BoardLimit)
+        } else if self.zones > MOST_ZONES {
+            Some(InventoryFault::ZoneLimit)
+        } else if self.fans > MOST_FANS {
+            Some(InventoryFault::FanLimit)
+        } else {
+            None
+        }
+    }
+
+    // Returns these totals, or the first limit that they pass.
+    fn checked(self) -> Result<Totals, InventoryFault>
+        ensures { GivesTotals result self }
+    {
+        match self.passed() {
+            Some(fault) => Err(fault),
+            None => Ok(self),
+        }
+    }
+
+    /// Returns the totals where some boards go and others come, or the first limit that they pass. What it costs
+    /// follows the boards that differ. The shelf has the configurations; one more may be accepted now, with their count
+    /// for its number. Takes no memory.
+    pub fn after<L: Ledger>(
+        self,
+        shelf: &Shelf<L>,
+        plus: Option<&Config<L>>,
+        difference: &Difference,
+    ) -> Result<Totals, InventoryFault>
+        ensures { let all = shelf.now ++ option_to_list (option_map (λ config. config.now) plus.entry) in
+            GivesTotals result (totals_after all self difference.now.gone_boards difference.now.new_boards) }
+    {
+        let gone_keys = difference.gone_boards.as_slice();
+        let new_keys = difference.new_boards.as_slice();
+        let gone = sum_counts(shelf, plus, gone_keys);
+        let new = sum_counts(shelf, plus, new_keys);
+        let totals = Totals {
+            boards: replaced(self.boards, gone_keys.len(), new_keys.len()),
+            zones: replaced(self.zones, gone.zones, new.zones),
+            fans: replaced(self.fans, gone.fans, new.fans),
+        };
+        totals.checked()
     }
 }

@@ -1,7 +1,7 @@
 ghost use Rattle.std.specs.Prelude.{◌≡◌, ◌≤◌, ◌^◌, true, length, IfOk};
-ghost use Rattle.std.specs.Ordering.{is_lt};
-ghost use Rattle.inventory.specs.Orders.{id_cmp, AreById};
+ghost use Rattle.inventory.specs.Orders.{AreById};
 
+use crate::less::is_before;
 use crate::{Family, Holders, ItemList, Live, push_less};
 use bmc_base::{Milli, Name, Place};
 use cfg_json::{Item, ItemId, ItemPart, ZoneSetting};
@@ -35,17 +35,6 @@ fn item(row: Row<'_>) -> Result<Item, Fail> {
         name: Name::new(name)?,
         part,
     })
-}
-
-// Whether an item comes before another.
-fn is_before(id: &ItemId, other: &ItemId) -> bool
-    ensures { result ≡ is_lt (id_cmp id.now other.now) }
-{
-    id.config
-        .cmp(&other.config)
-        .then(id.place.cmp(&other.place))
-        .then(id.expose.cmp(&other.expose))
-        .is_lt()
 }
 
 // Whether each item comes before the next.

@@ -1,10 +1,7 @@
 use crate::lone::{push_key, swap_beside};
-use crate::{
-    Board, BoardKey, BoardKeys, IndexKeep, InventoryFault, Moment, check_limits, list_all,
-    list_items,
-};
+use crate::{Board, BoardKey, BoardKeys, IndexKeep, Moment, list_items};
 use bmc_base::{Name, Place, Silent, Steps};
-use cfg_json::{Config, Item, ItemPart, MOST_CONFIGS, Shelf};
+use cfg_json::{Config, Item, ItemPart, Shelf};
 use found_set::{Facts, FoundSet};
 use fru_record::FruRecord;
 use match_rows::{Rows, make};
@@ -160,20 +157,19 @@ fn config_of(alloc: Global, document: &str) -> Result<Config<Silent>, Fail> {
     Ok(Config::read(alloc, document.as_bytes(), &mut maker)?)
 }
 
-// Plugs the record at address 80 of each of these buses.
-fn rows_of(alloc: Global, shelf: &Shelf<Silent>, buses: &[u32]) -> Result<Rows, Fail> {
+// The rows of the record at address 80 of bus 1.
+fn one_row(alloc: Global) -> Result<Rows, Fail> {
+    let Some(place) = Place::new(1, 80) else {
+        return Err(Fail::from("no place"));
+    };
+    let fru = FruRecord::decode(alloc, BOARD)?;
+    let shelf = Shelf::<Silent>::new(alloc)?;
+    let entry = make(alloc, place, fru, &shelf, &mut Steps::new(Silent))?;
+    let entry = Box::new(alloc, entry)?;
     let mut rows = Rows::new(alloc)?;
-    for bus in buses {
-        let Some(place) = Place::new(*bus, 80) else {
-            return Err(Fail::from("no bus"));
-        };
-        let fru = FruRecord::decode(alloc, BOARD)?;
-        let entry = make(alloc, place, fru, shelf, &mut Steps::new(Silent))?;
-        let entry = Box::new(alloc, entry)?;
-        rows.reserve(alloc)?;
-        if rows.entry(entry.place).is_none() {
-            rows.plug(entry);
-        }
+    rows.reserve(alloc)?;
+    if rows.entry(entry.place).is_none() {
+        rows.plug(entry);
     }
     Ok(rows)
 }
@@ -262,16 +258,6 @@ fn assert_items(rt: &impl Abort, alloc: Global, items: &[Item]) -> Result<(), Fa
     Ok(())
 }
 
-// Puts a configuration behind the others, if its name is new.
-fn add(shelf: &mut Shelf<Silent>, alloc: Global, document: &str) -> Result<(), Fail> {
-    let config = config_of(alloc, document)?;
-    if shelf.len() >= MOST_CONFIGS || shelf.position(&config.name()).is_some() {
-        return Err(Fail::from("the name is not new"));
-    }
-    shelf.add(alloc, config)?;
-    Ok(())
-}
-
 // The boards whose items are listed: at a record, at a place without one, of no configuration, and without a place.
 fn listed_boards() -> [Board; 4] {
     [
@@ -294,88 +280,7 @@ fn items_of(alloc: Global, rows: &Rows, facts: Facts) -> Result<Vec<Item>, Fail>
 #[test]
 fn boards_have_items(rt: HostRuntime) -> Result<(), Fail> {
     let alloc = rt.alloc();
-    let rows = rows_of(alloc, &Shelf::new(alloc)?, &[1])?;
+    let rows = one_row(alloc)?;
     let items = items_of(alloc, &rows, first_found(alloc)?)?;
     assert_items(&rt, alloc, &items)
-}
-
-// So many boards of a configuration.
-fn boards_of(alloc: Global, config: u32, count: usize) -> Result<Vec<Board>, Fail> {
-    let mut boards = Vec::with_capacity(alloc, count)?;
-    for _ in 0..count {
-        boards.push(Board {
-            key: BoardKey {
-                config,
-                place: None,
-            },
-            index: 1,
-        })?;
-    }
-    Ok(boards)
-}
-
-// A configuration of a zone and four fans, one of a fan, and one without exposes.
-const ZONE: &str =
-    r#"{"Name":"Z","Probe":"TRUE","Exposes":[{"Name":"F","Type":"Fan"},{"Name":"F","Type":"Fan"},
-    {"Name":"Z $bus","Type":"Pid.Zone","MinThermalOutput":30,"FailSafePercent":70},
-    {"Name":"F","Type":"Fan"},{"Name":"F","Type":"Fan"}]}"#;
-
-const FAN: &str = r#"{"Name":"F","Probe":"TRUE","Exposes":[{"Name":"F $bus","Type":"Fan"}]}"#;
-
-const BARE: &str = r#"{"Name":"B","Probe":"TRUE"}"#;
-
-// Configurations, how many boards they have, and the limit that these pass.
-const LIMITS: [(u32, usize, Option<InventoryFault>); 9] = [
-    (0, 32, None),
-    (0, 33, Some(InventoryFault::ZoneLimit)),
-    (1, 128, None),
-    (1, 129, Some(InventoryFault::FanLimit)),
-    (2, 1024, None),
-    (2, 1025, Some(InventoryFault::BoardLimit)),
-    // the boards come first
-    (0, 1025, Some(InventoryFault::BoardLimit)),
-    // no configuration has this number
-    (3, 1024, None),
-    (3, 1025, Some(InventoryFault::BoardLimit)),
-];
-
-// A shelf with the first two of the configurations.
-fn limited_shelf(alloc: Global) -> Result<Shelf<Silent>, Fail> {
-    let mut shelf = Shelf::new(alloc)?;
-    add(&mut shelf, alloc, ZONE)?;
-    add(&mut shelf, alloc, FAN)?;
-    Ok(shelf)
-}
-
-#[test]
-fn limits_are_passed_one_above(rt: HostRuntime) -> Result<(), Fail> {
-    let shelf = limited_shelf(rt.alloc())?;
-    let plus = config_of(rt.alloc(), BARE)?;
-    for (config, count, fault) in LIMITS {
-        let boards = boards_of(rt.alloc(), config, count)?;
-        let passed = check_limits(&shelf, Some(&plus), &boards).err();
-        assert_eq!(rt; passed, fault, "{config} {count}");
-    }
-    Ok(())
-}
-
-// A configuration that is found by the FRUs at address 80.
-const RISER: &str = r#"{"Name":"A","Probe":"xyz.openbmc_project.FruDevice({'ADDRESS': 80})"}"#;
-
-#[test]
-fn boards_come_with_their_indexes(rt: HostRuntime) -> Result<(), Fail> {
-    let mut shelf = Shelf::new(rt.alloc())?;
-    add(&mut shelf, rt.alloc(), RISER)?;
-    let plus = config_of(rt.alloc(), BARE)?;
-    if shelf.len() >= MOST_CONFIGS {
-        return Err(Fail::from("there are too many"));
-    }
-    let rows = rows_of(rt.alloc(), &shelf, &[3, 1, 2])?;
-    let moment = Moment::of(first_found(rt.alloc())?, rows.entries());
-    let mut keep = IndexKeep::new(rt.alloc())?;
-    keep.extend(rt.alloc(), &[key(0, 2), key(0, 9)])?;
-    let boards = list_all(rt.alloc(), &shelf, Some(&plus), &keep, &moment)?;
-    let wanted = [board(0, 1, 3), board(0, 2, 1), board(0, 3, 4)];
-    assert_eq!(rt; boards.as_slice(), wanted.as_slice());
-    Ok(())
 }

@@ -1,6 +1,7 @@
 -- The patterns that match a FRU, how many were tested, and what is seen of it.
 use Rattle.std.proofs.Common.{◌≡◌, ◌∙◌, ℕ, zero, suc, ◌+◌, ◌<◌, ◌≤◌, List, [], ◌∷◌, ◌++◌, length, take, drop, Bool, true, false, ◌&&◌, ◌||◌, ◌==◌}
-use Rattle.std.proofs.Common.{if◌then◌else◌, map, Some, Result, Ok, Err, refl, sym, ap, ap₂, subst, arith, slice_get, option_map, append_assoc, add-one, drop-cons}
+use Rattle.std.proofs.Common.{if◌then◌else◌, map, Some, Result, Ok, Err, refl, sym, ap, ap₂, subst, arith, slice_get, option_map, append_assoc}
+use Rattle.std.proofs.Common.{add-one, drop-cons}
 use Rattle.std.specs.Prelude.{OnErr}
 use Rattle.std.specs.Option.{unwrap_or}
 use Rattle.std.specs.List.{list_any}

@@ -1,5 +1,6 @@
 -- Where a plain pattern has a match by regex's definitions.
-use Rattle.std.proofs.Common.{◌≡◌, ℕ, zero, suc, ◌+◌, ◌<◌, ◌≤◌, List, [], ◌∷◌, ◌++◌, map, length, take, drop, Bool, true, false, not, is_some, IsSome, refl, sym, ap, ◌∙◌, subst, ◌↔◌, length-append, true≢false, inl, inr, arith}
+use Rattle.std.proofs.Common.{◌≡◌, ℕ, zero, suc, ◌+◌, ◌<◌, ◌≤◌, List, [], ◌∷◌, ◌++◌, map, length, take, drop, Bool, true, false, not, is_some, IsSome}
+use Rattle.std.proofs.Common.{refl, sym, ap, ◌∙◌, subst, ◌↔◌, length-append, true≢false, inl, inr, arith}
 use Rattle.std.proofs.Math.Seq.{get_or-append_seam, drop-append_seam}
 use Rattle.std.proofs.Math.ListN.{drop_of_length-le}
 use Rattle.std.proofs.lemmas.Bool.{and_parts, cases_lt}

@@ -1,5 +1,7 @@
 -- What regex's grammar reads in a plain pattern.
-use Rattle.std.proofs.Common.{◌≡◌, ℕ, ◌+◌, ◌-◌, ◌*◌, ◌<◌, ◌≤◌, List, [], ◌∷◌, ◌++◌, map, length, Bool, true, false, ◌==◌, not, if◌then◌else◌, None, Some, refl, sym, ap, ap₂, ◌∙◌, ne_eqb, append_assoc, append-nil, length-append, chars, codes, zero-add, zero, suc, nat_lt, max, arith}
+use Rattle.std.proofs.Common.{◌≡◌, ℕ, ◌+◌, ◌-◌, ◌*◌, ◌<◌, ◌≤◌, List, [], ◌∷◌, ◌++◌, map, length, Bool, true, false, ◌==◌, not, if◌then◌else◌, None}
+use Rattle.std.proofs.Common.{Some, refl, sym, ap, ap₂, ◌∙◌, ne_eqb, append_assoc, append-nil, length-append, chars, codes, zero-add, zero, suc}
+use Rattle.std.proofs.Common.{nat_lt, max, arith}
 use Rattle.std.proofs.lemmas.Bool.{both_ways, and_parts, cond_both}
 use Rattle.std.proofs.lemmas.Bool.Decides.{nat_tests}
 use Rattle.std.proofs.lemmas.Str.{chars-IsAscii, IsAscii-append}
@@ -10,7 +12,8 @@ use Rattle.regex_hir.specs.Meaning.{cat_all, alt_all}
 use Rattle.regex_hir.specs.Re.{Re, look}
 use Rattle.regex_hir.specs.declared.look.Look.TheVariants.{Start, End}
 use Rattle.regex_syntax.proofs.BracketLemmas.{deepest-append}
-use Rattle.regex_syntax.proofs.BranchLemmas.{Read, ends_branch, join_after, group_inside, more_parts, branch_goes, branch_ends, repetitions_end, join_parts_is, branches_go, more_branches, join_ends}
+use Rattle.regex_syntax.proofs.BranchLemmas.{Read, ends_branch, join_after, group_inside, more_parts, branch_goes, branch_ends, repetitions_end}
+use Rattle.regex_syntax.proofs.BranchLemmas.{join_parts_is, branches_go, more_branches, join_ends}
 use Rattle.regex_syntax.proofs.EscapeLemmas.{itself}
 use Rattle.regex_syntax.proofs.ReadingLemmas.{skip-false}
 use Rattle.regex_syntax.specs.Brackets.{Nested, flat, join, deepest}

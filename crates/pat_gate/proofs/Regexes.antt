@@ -1,5 +1,6 @@
 -- What the grammar reads in the text of a pattern, and an error of one that was refused.
-use Rattle.std.proofs.Common.{◌≡◌, ◌≢◌, ◌⊎◌, ℕ, ◌<◌, ◌≤◌, Bool, true, false, List, Option, None, Some, IsSomeAnd, IfSome, is_some, All, chars, refl, sym, ap, ◌∙◌, inl, inr, nat_le, arith}
+use Rattle.std.proofs.Common.{◌≡◌, ◌≢◌, ◌⊎◌, ℕ, ◌<◌, ◌≤◌, Bool, true, false, List, Option, None, Some, IsSomeAnd, IfSome, is_some, All, chars, refl}
+use Rattle.std.proofs.Common.{sym, ap, ◌∙◌, inl, inr, nat_le, arith}
 use Rattle.std.proofs.lemmas.Bool.Decides.{nat_tests}
 use Rattle.regex.specs.Patterns.{Re, find_str, default_config, SameCaptures, Reads, Refuses}
 use Rattle.regex_hir.specs.Meaning.{meaning}

@@ -1,5 +1,6 @@
 -- What the DFA answers, and what a search in bytes says of a text.
-use Rattle.std.proofs.Common.{◌≡◌, ℕ, ◌<◌, ◌≤◌, Bool, true, false, List, length, All, Option, None, Some, is_some, refl, sym, ap, ◌∙◌, subst, arith, ⊎_elim, inl, inr, if◌then◌else◌, IsAscii, IsCharBoundary, Fits, w8, get_or}
+use Rattle.std.proofs.Common.{◌≡◌, ℕ, ◌<◌, ◌≤◌, Bool, true, false, List, length, All, Option, None, Some, is_some, refl, sym, ap, ◌∙◌, subst, arith}
+use Rattle.std.proofs.Common.{⊎_elim, inl, inr, if◌then◌else◌, IsAscii, IsCharBoundary, Fits, w8, get_or}
 use Rattle.std.proofs.lemmas.Bool.{cond-true, cond-false, cases_Bool, cases_lt}
 use Rattle.std.proofs.lemmas.List.Elements.{All-from_get_or}
 use Rattle.regex.proofs.Utf8Lemmas.{test_of_IsCharBoundary, IsCharBoundary-of_test}

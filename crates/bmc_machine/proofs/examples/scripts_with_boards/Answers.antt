@@ -32,18 +32,20 @@ use Rattle.probe_lang.specs.Braces.{pattern_in}
 use Rattle.probe_lang.specs.Grammar.{read_from}
 use Rattle.probe_lang.specs.Matches.{matches}
 use Rattle.inventory.specs.Boards.{board_places, boards_in}
+use Rattle.inventory.specs.Items.{items, live, items_less}
+use Rattle.inventory.specs.Limits.{passed_limit}
 use Rattle.bmc_machine.specs.Histories.{standing}
-use Rattle.bmc_machine.specs.Boards.{boards}
-use Rattle.bmc_machine.specs.Indexes.{kept}
+use Rattle.bmc_machine.specs.Boards.{boards, board_keys}
+use Rattle.bmc_machine.specs.Indexes.{kept, boards_now, items_now, live_now}
 use Rattle.bmc_machine.specs.Changes.{changes_between}
 use Rattle.bmc_machine.specs.Answers.{answers, final_list}
 use Rattle.bmc_machine.proofs.examples.scripts_with_boards.Goals as goal
 
 pub returns : goal.returns
-unfolding chain_behind operand_digits operation_at fixed_number field_of word_of piece_at pieces_of is_template is_single uses_index rendered rendered_number
-    body_of encode is_utf8 chars digits hex_on_literals without_return line_item whole_block whole_item cut_most cut block_size hex_decoded digits_in number
-    place_named plug_of unplug_of words_of command_of header area_at first_field walk raw_fields text_of name_text area_fields area_text refusal_name
-    refusal_text quoted field_row fru_row fields_of_area fields_at fields_under record_of change_text text_named serde_json_on_literals config_in config_of
-    without_spaces between found_name term_of_word pattern_in read_from matches board_places boards_in boards kept changes_between standing answers
-    final_list
+unfolding chain_behind operand_digits operation_at fixed_number field_of word_of piece_at pieces_of is_template is_single uses_index rendered
+    rendered_number body_of encode is_utf8 chars digits hex_on_literals without_return line_item whole_block whole_item cut_most cut block_size
+    hex_decoded digits_in number place_named plug_of unplug_of words_of command_of header area_at first_field walk raw_fields text_of name_text
+    area_fields area_text refusal_name refusal_text quoted field_row fru_row fields_of_area fields_at fields_under record_of change_text text_named
+    serde_json_on_literals config_in config_of without_spaces between found_name term_of_word pattern_in read_from matches board_places boards_in
+    boards kept changes_between standing answers final_list passed_limit board_keys boards_now items_now live_now items live items_less
 returns c = record { found = refl; first = refl; opened = refl; moved = refl; kept = refl }

@@ -33,6 +33,7 @@ loop-number-preserved c =
             w.list-is ∙ w.in_ok-push.ensures.ok ∙ ap (λ (each : Item). so_far ++ each ∷ []) w.in_ok-copied.ensures
             ∙ sym (ap (λ (has : Bool). so_far ++ cond has [] (item ∷ [])) (sym c.is_at.ensures ∙ w.if-not-is_at.true)) ∙ last
         | else-not-is_at w ↦
-            w.list-is ∙ sym (append-nil so_far) ∙ sym (ap (λ (has : Bool). so_far ++ cond has [] (item ∷ [])) (sym c.is_at.ensures ∙ w.if-not-is_at.false)) ∙ last
+            w.list-is ∙ sym (append-nil so_far)
+                ∙ sym (ap (λ (has : Bool). so_far ++ cond has [] (item ∷ [])) (sym c.is_at.ensures ∙ w.if-not-is_at.false)) ∙ last
       ];
     }

@@ -8,18 +8,24 @@ use Rattle.found_set.specs.Rows.{row_of}
 use Rattle.bmc_replay.proofs.BusyLemmas.{busy_among}
 use Rattle.bmc_replay.proofs.IdleLemmas.{idle_boards, idle_moves}
 use Rattle.bmc_replay.proofs.EventsLemmas.{plug_among}
+use Rattle.bmc_replay.proofs.StockLemmas.{idle_stocked, no_refusal}
 use Rattle.bmc_replay.proofs.state.State.add_fru.Goals as goal
 
 pub invariant_of-self-2 : goal.invariant_of-self-2
 invariant_of-self-2 g c =
     let now : c.plug.new.self.entries ≡ with_entry c.in_ok-boxed.boxed.value c.self.inside.rows.entries =
     c.plug.ensures ∙ ap (with_entry c.in_ok-boxed.boxed.value) c.in_ok-reserve.ensures.entries in
+    let among = plug_among c.in_ok-boxed.boxed.value c.self.inside.rows.entries c.self.inside.rows.entries c.plug.new.self.entries refl now in
+    let idle = ap is_idle (sym c.deref.ensures) ∙ sym c.is_idle.ensures ∙ c.if-not-is_idle.false in
+    let works = busy_among c.in_ok-boxed.boxed.value c.self.inside.rows.entries c.plug.new.self.entries among idle in
     record {
       rules = c.self.invariant.rules;
-      rows = c.self.invariant.rows ∙ sym (ap (map row_of) (busy_among c.in_ok-boxed.boxed.value c.self.inside.rows.entries c.plug.new.self.entries
-          (plug_among c.in_ok-boxed.boxed.value c.self.inside.rows.entries c.self.inside.rows.entries c.plug.new.self.entries refl now)
-          (ap is_idle (sym c.deref.ensures) ∙ sym c.is_idle.ensures ∙ c.if-not-is_idle.false)));
+      rows = c.self.invariant.rows ∙ sym (ap (map row_of) works);
       none = refl;
+      stock = idle_stocked c.self.inside.shelf c.self.inside.rows.entries c.plug.new.self.entries c.self.inside.keep.kept c.self.inside.totals
+          c.self.inside.inventory works
+          (λ number. idle_boards c.self.inside.shelf c.in_ok-boxed.boxed.value c.self.inside.rows.entries c.plug.new.self.entries among idle number)
+          c.self.invariant.stock;
     }
 
 pub returns-clause-ok : goal.returns-clause-ok
@@ -40,13 +46,20 @@ returns-clause-ok g c =
     } in
     let now : c.plug.new.self.entries ≡ with_entry c.in_ok-boxed.boxed.value c.self.inside.rows.entries =
     c.plug.ensures ∙ ap (with_entry c.in_ok-boxed.boxed.value) c.in_ok-reserve.ensures.entries in
+    let among = plug_among c.in_ok-boxed.boxed.value c.self.inside.rows.entries c.self.inside.rows.entries c.plug.new.self.entries refl now in
+    let idle = ap is_idle (sym c.deref.ensures) ∙ sym c.is_idle.ensures ∙ c.if-not-is_idle.false in
+    let works = busy_among c.in_ok-boxed.boxed.value c.self.inside.rows.entries c.plug.new.self.entries among idle in
+    let stocked = idle_stocked c.self.inside.shelf c.self.inside.rows.entries c.plug.new.self.entries c.self.inside.keep.kept c.self.inside.totals
+    c.self.inside.inventory works
+    (λ number. idle_boards c.self.inside.shelf c.in_ok-boxed.boxed.value c.self.inside.rows.entries c.plug.new.self.entries among idle number)
+    c.self.invariant.stock in
     subst (λ (view : View). AddsFru c.args.place c.args.fru view new) c.self.view_is (record {
       configs = refl;
       entries = now ∙ ap (λ (entry : Entry). with_entry entry c.self.inside.rows.entries)
           (c.in_ok-boxed.ensures.ok ∙ c.in_ok-made.ensures.ok);
       plugged = refl;
+      fits = no_refusal c.self.inside.shelf c.plug.new.self.entries c.self.inside.keep.kept c.self.inside.totals c.self.inside.inventory stocked;
       moves =
-          idle_moves old new refl (λ number. idle_boards c.self.inside.shelf c.in_ok-boxed.boxed.value c.self.inside.rows.entries c.plug.new.self.entries
-          (plug_among c.in_ok-boxed.boxed.value c.self.inside.rows.entries c.self.inside.rows.entries c.plug.new.self.entries refl now)
-          (ap is_idle (sym c.deref.ensures) ∙ sym c.is_idle.ensures ∙ c.if-not-is_idle.false) number) refl c.clear.ensures.items;
+          idle_moves old new refl works (λ number. idle_boards c.self.inside.shelf c.in_ok-boxed.boxed.value c.self.inside.rows.entries
+          c.plug.new.self.entries among idle number) refl c.clear.ensures.items;
     })

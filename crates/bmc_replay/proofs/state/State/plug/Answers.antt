@@ -6,8 +6,9 @@ use Rattle.bmc_report.specs.declared.refusal.Refusal.{Refusal}
 use Rattle.bmc_machine.specs.Histories.{Plug}
 use Rattle.bmc_machine.specs.Refusals.{most_frus}
 use Rattle.bmc_replay.specs.States.{View}
-use Rattle.bmc_replay.specs.Steps.{Tries}
-use Rattle.bmc_replay.proofs.StepsLemmas.{occupied, broken, frus_full, plugged}
+use Rattle.bmc_replay.specs.Steps.{AddsUnless, Tries}
+use Rattle.bmc_replay.proofs.EventsLemmas.{if_ok_more}
+use Rattle.bmc_replay.proofs.StepsLemmas.{occupied, broken, frus_full, plugged_unless}
 use Rattle.bmc_replay.proofs.state.State.plug.Goals as goal
 
 pub returns-then-is_some-clause-tried : goal.returns-then-is_some-clause-tried
@@ -28,14 +29,16 @@ returns-then-len-ge-MOST_FRUS-clause-tried g c =
     ∙ le-leb most_frus (length c.self.inside.rows.entries) (omega (arith, c.len.ensures, c.if-len-ge-MOST_FRUS.true)))
     c.refuse-then-len-ge-MOST_FRUS.ensures.left)
 
-pub returns-in_ok-add_fru-in-Ok-clause-tried : goal.returns-in_ok-add_fru-in-Ok-clause-tried
-returns-in_ok-add_fru-in-Ok-clause-tried g c =
-    plugged c.args.self.now c.add_fru.new.self c.args.place c.args.bytes.now c.in-Ok.fru
+pub returns-else-len-ge-MOST_FRUS-clause-tried : goal.returns-else-len-ge-MOST_FRUS-clause-tried
+returns-else-len-ge-MOST_FRUS-clause-tried g c =
+    if_ok_more (λ (refusal : Option Refusal). AddsUnless refusal c.args.place c.in-Ok.fru c.args.self.now c.add_fru.new.self)
+    (λ (refusal : Option Refusal). Tries c.args.self.now (Plug c.args.place c.args.bytes.now) refusal c.add_fru.new.self) c.add_fru.result
+    (λ refusal adds. plugged_unless refusal c.args.self.now c.add_fru.new.self c.args.place c.args.bytes.now c.in-Ok.fru
     (ap (λ (view : View). holds_place view.entries c.args.place) (sym c.self.view_is) ∙ sym c.entry.ensures.held ∙ sym c.is_some.ensures ∙ c.if-is_some.false)
     c.in-Ok.ensures
     (ap (λ (view : View). nat_le most_frus (length view.entries)) (sym c.self.view_is)
-    ∙ lt-leb most_frus (length c.self.inside.rows.entries) (omega (arith, c.len.ensures, c.if-len-ge-MOST_FRUS.false)))
-    c.in_ok-add_fru-in-Ok.ensures.ok
+    ∙ lt-leb most_frus (length c.self.inside.rows.entries) (omega (arith, c.len.ensures, c.if-len-ge-MOST_FRUS.false))) adds)
+    c.add_fru.ensures.ok
 
 pub returns-in_ok-refusal-in-Err-clause-tried : goal.returns-in_ok-refusal-in-Err-clause-tried
 returns-in_ok-refusal-in-Err-clause-tried g c =

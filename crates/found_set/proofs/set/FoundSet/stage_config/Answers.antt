@@ -1,5 +1,6 @@
 -- A rule is pushed, evaluated with, and popped again.
-use Rattle.std.proofs.Common.{◌≡◌, ◌∙◌, ◌+◌, ◌<◌, ◌≤◌, List, [], ◌∷◌, ◌++◌, length, ap, ap₂, sym, refl, subst, None, arith, append-nil, length-append, vec_len, vec_capacity}
+use Rattle.std.proofs.Common.{◌≡◌, ◌∙◌, ◌+◌, ◌<◌, ◌≤◌, List, [], ◌∷◌, ◌++◌, length, ap, ap₂, sym, refl, subst, None, arith, append-nil, length-append}
+use Rattle.std.proofs.Common.{vec_len, vec_capacity}
 use Rattle.std.specs.Prelude.{bytes_eq, position}
 use Rattle.found_set.specs.declared.facts.Facts.{Facts}
 use Rattle.found_set.specs.declared.row.Row.{Row}
@@ -34,7 +35,8 @@ invariant_of-self-2 g c =
     let kept = back rules _ c.take_last-rule.new.self.items c.args.rule c.take_last-rule.result pushed c.take_last-rule.ensures.items in
     let told : c.evaluate-facts.result ≡ facts_after (ConfigEvent c.take_last-rule.result) rules rows =
     c.evaluate-facts.ensures.facts
-    ∙ ap₂ (λ (rs : List Rule) (ws : List Row). facts rs (sights_of ws)) (c.deref-2.ensures.value ∙ pushed) (c.of-rows.ensures ∙ append-nil _ ∙ c.deref.ensures.value)
+    ∙ ap₂ (λ (rs : List Rule) (ws : List Row). facts rs (sights_of ws)) (c.deref-2.ensures.value ∙ pushed)
+        (c.of-rows.ensures ∙ append-nil _ ∙ c.deref.ensures.value)
     ∙ ap (λ (r : Rule). facts_after (ConfigEvent r) rules rows) (sym kept.1) in
     let fresh : position (bytes_eq c.args.rule.name) names.names ≡ None =
     ap (position (bytes_eq c.args.rule.name)) (c.reserve.ensures.names ∙ c.self.invariant.named) ∙ number_by_name c.args.rule.name rules
@@ -54,7 +56,8 @@ evaluate-facts-requires-clause-earlier g c =
     ∙ ap (λ (rs : List Rule). rs ++ c.args.rule ∷ []) c.reserve-2.ensures.items in
     let before : length c.self.inside.rules.items < 256 = subst (λ (v : SetView). length v.rules < 256) (sym c.self.view_is) c.requires.few in
     let few : length c.deref-2.result.now ≤ 256 =
-    subst (λ (rs : List Rule). length rs ≤ 256) (sym (c.deref-2.ensures.value ∙ pushed)) (omega (arith, before, length-append c.self.inside.rules.items (c.args.rule ∷ []))) in
+    subst (λ (rs : List Rule). length rs ≤ 256) (sym (c.deref-2.ensures.value ∙ pushed))
+        (omega (arith, before, length-append c.self.inside.rules.items (c.args.rule ∷ []))) in
     nothing_holds _ _ c.deref-2.result.now (matched_by (roots (sights_of c.of-rows.result))) few c.nothing.ensures
 
 pub returns-clause-ok : goal.returns-clause-ok
@@ -62,7 +65,8 @@ returns-clause-ok g c =
     let pushed : c.push_reserved.new.self.items ≡ c.self.inside.rules.items ++ c.args.rule ∷ [] = c.push_reserved.ensures.items
     ∙ ap (λ (rs : List Rule). rs ++ c.args.rule ∷ []) c.reserve-2.ensures.items in
     c.evaluate-facts.ensures.facts
-    ∙ ap₂ (λ (rs : List Rule) (ws : List Row). facts rs (sights_of ws)) (c.deref-2.ensures.value ∙ pushed) (c.of-rows.ensures ∙ append-nil _ ∙ c.deref.ensures.value)
+    ∙ ap₂ (λ (rs : List Rule) (ws : List Row). facts rs (sights_of ws)) (c.deref-2.ensures.value ∙ pushed)
+        (c.of-rows.ensures ∙ append-nil _ ∙ c.deref.ensures.value)
     ∙ ap (λ (v : SetView). facts_after (ConfigEvent c.args.rule) v.rules v.rows) c.self.view_is
 
 pub returns-clause-staged : goal.returns-clause-staged
@@ -72,7 +76,8 @@ returns-clause-staged g c =
     c.push_reserved.ensures.items ∙ ap (λ (rs : List Rule). rs ++ c.args.rule ∷ []) c.reserve-2.ensures.items in
     let kept = back rules _ c.take_last-rule.new.self.items c.args.rule c.take_last-rule.result pushed c.take_last-rule.ensures.items in
     let told = c.evaluate-facts.ensures.facts
-    ∙ ap₂ (λ (rs : List Rule) (ws : List Row). facts rs (sights_of ws)) (c.deref-2.ensures.value ∙ pushed) (c.of-rows.ensures ∙ append-nil _ ∙ c.deref.ensures.value)
+    ∙ ap₂ (λ (rs : List Rule) (ws : List Row). facts rs (sights_of ws)) (c.deref-2.ensures.value ∙ pushed)
+        (c.of-rows.ensures ∙ append-nil _ ∙ c.deref.ensures.value)
     ∙ ap (λ (v : SetView). facts_after (ConfigEvent c.args.rule) v.rules v.rows) c.self.view_is in
     seen_with c.args.self.now c.take_last-rule.new.self.items c.self.inside.rows.items c.self.inside.facts c.of.result _ (kept.0
     ∙ ap (λ (v : SetView). v.rules) c.self.view_is) (ap (λ (v : SetView). v.rows) c.self.view_is) (ap (λ (v : SetView). v.facts) c.self.view_is)

@@ -1,0 +1,334 @@
+use crate::play::Part::{Config, Many, Repeats, Text};
+use crate::play::{ALWAYS, Row, play, play_rows};
+use bmc_base::OutOfMemory;
+use bmc_replay::Status::{Done, Refused};
+use std::alloc::Global;
+use std::fmt::Write;
+use std::test::Fail;
+
+// What a document begins with that is always found, and one that finds each FRU; a zone and a fan with a comma, and
+// what stands behind the last expose.
+const ALWAYS_HEAD: &str = r#"{"Name":"T","Probe":"TRUE","Exposes":["#;
+
+const EACH_HEAD: &str = r#"{"Name":"E","Probe":"xyz.openbmc_project.FruDevice({})","Exposes":["#;
+
+const ZONE: &str = r#"{"Name":"Z","Type":"Pid.Zone","MinThermalOutput":0,"FailSafePercent":100},"#;
+
+const FAN: &str = r#"{"Name":"F$index","Type":"Fan"},"#;
+
+const NAMELESS: &str = r#"{"Name":"$PRODUCT_VERSION","Type":"Fan"},"#;
+
+const ZONE_AND_FANS: &str =
+    r#"{"Name":"Z","Type":"Pid.Zone","MinThermalOutput":0,"FailSafePercent":100},
+    {"Name":"F","Type":"Fan"},{"Name":"F","Type":"Fan"},{"Name":"F","Type":"Fan"},{"Name":"F","Type":"Fan"},"#;
+
+const LAST: &str = r#"{"Name":"x","Type":"x"}]}"#;
+
+// Documents with another name that are always found: with a fan, and with a zone.
+const ONE_FAN: &str = r#"{"Name":"G","Probe":"TRUE","Exposes":[{"Name":"G","Type":"Fan"}]}"#;
+
+const ONE_ZONE: &str = r#"{"Name":"Y","Probe":"TRUE","Exposes":[
+    {"Name":"Y","Type":"Pid.Zone","MinThermalOutput":0,"FailSafePercent":100}]}"#;
+
+const CONFIGURATIONS: [Row; 9] = [
+    // zones: as many as may be, and one more in the same configuration and in another one
+    (
+        &[Repeats(ALWAYS_HEAD, ZONE, 32, LAST), Config(ONE_ZONE)],
+        Refused,
+        "0 new board \"T\" 1\n0 new zone \"Z\"\nline 2 refused ZoneLimit\n",
+    ),
+    (
+        &[
+            Repeats(ALWAYS_HEAD, ZONE, 33, LAST),
+            Repeats(ALWAYS_HEAD, ZONE, 31, LAST),
+            Config(ONE_ZONE),
+        ],
+        Refused,
+        r#"line 1 refused ZoneLimit
+0 new board "T" 1
+0 new zone "Z"
+0 new board "Y" 1
+0 new zone "Y"
+"#,
+    ),
+    // fans
+    (
+        &[Repeats(ALWAYS_HEAD, FAN, 128, LAST), Config(ONE_FAN)],
+        Refused,
+        "0 new board \"T\" 1\n0 new fan \"F1\"\nline 2 refused FanLimit\n",
+    ),
+    (
+        &[
+            Repeats(ALWAYS_HEAD, FAN, 129, LAST),
+            Repeats(ALWAYS_HEAD, FAN, 127, LAST),
+            Config(ONE_FAN),
+        ],
+        Refused,
+        r#"line 1 refused FanLimit
+0 new board "T" 1
+0 new fan "F1"
+0 new board "G" 1
+0 new fan "G"
+"#,
+    ),
+    // exposes without a name count
+    (
+        &[
+            Repeats(ALWAYS_HEAD, NAMELESS, 128, LAST),
+            Config(ONE_FAN),
+            Config(ONE_ZONE),
+        ],
+        Refused,
+        "0 new board \"T\" 1\nline 2 refused FanLimit\n0 new board \"Y\" 1\n0 new zone \"Y\"\n",
+    ),
+    // both at their limits, and zones before fans
+    (
+        &[
+            Repeats(ALWAYS_HEAD, ZONE_AND_FANS, 33, LAST),
+            Repeats(ALWAYS_HEAD, ZONE_AND_FANS, 32, LAST),
+            Config(ONE_FAN),
+            Config(ONE_ZONE),
+        ],
+        Refused,
+        r#"line 1 refused ZoneLimit
+0 new board "T" 1
+0 new zone "Z"
+0 new fan "F"
+line 3 refused FanLimit
+line 4 refused ZoneLimit
+"#,
+    ),
+    // a configuration without a board counts for nothing
+    (
+        &[
+            Repeats(
+                r#"{"Name":"N","Probe":"FALSE","Exposes":["#,
+                ZONE_AND_FANS,
+                40,
+                LAST,
+            ),
+            Config(ONE_ZONE),
+        ],
+        Done,
+        "0 new board \"Y\" 1\n0 new zone \"Y\"\n",
+    ),
+    // a name that was given, a number of configurations and a plug before come first
+    (
+        &[
+            Config(r#"{"Name":"T","Probe":"TRUE"}"#),
+            Repeats(ALWAYS_HEAD, ZONE, 33, LAST),
+            Text("plug 1 80 $\n"),
+            Repeats(EACH_HEAD, ZONE, 33, LAST),
+        ],
+        Refused,
+        r#"0 new board "T" 1
+line 2 refused DuplicateName
+line 4 refused ConfigAfterPlug
+fru 1 80$
+"#,
+    ),
+    (
+        &[Many(256), Repeats(ALWAYS_HEAD, ZONE, 33, LAST)],
+        Refused,
+        "line 257 refused ConfigLimit\n",
+    ),
+];
+
+const PLUGS: [Row; 5] = [
+    // a third board is refused with its zones, and has no index then; there is room for it where another is gone
+    (
+        &[
+            Repeats(EACH_HEAD, ZONE, 16, LAST),
+            Text("plug 1 80 $\nplug 1 81 $\nplug 1 82 $\nplug 1 79 $\nunplug 1 80\n"),
+            Text("plug 1 79 $\nplug 1 82 $\nunplug 1 79\nplug 1 82 $\n"),
+        ],
+        Refused,
+        r#"0 new board "E" 1 at 1 80
+0 new zone "Z"
+0 new board "E" 2 at 1 81
+line 4 refused ZoneLimit
+line 5 refused ZoneLimit
+0 gone board "E" 1 at 1 80
+0 gone zone "Z"
+0 new zone "Z"
+0 new board "E" 3 at 1 79
+0 gone zone "Z"
+0 new zone "Z"
+line 8 refused ZoneLimit
+0 gone board "E" 3 at 1 79
+0 gone zone "Z"
+0 new zone "Z"
+0 new board "E" 4 at 1 82
+fru 1 81$
+fru 1 82$
+"#,
+    ),
+    // so is one with fans; a place that is taken and a broken record come first
+    (
+        &[
+            Repeats(EACH_HEAD, FAN, 64, LAST),
+            Text("plug 1 80 $\nplug 1 81 $\nplug 1 82 $\nplug 1 81 $\nplug 1 82 00\n"),
+        ],
+        Refused,
+        r#"0 new board "E" 1 at 1 80
+0 new fan "F1"
+0 new board "E" 2 at 1 81
+0 new fan "F2"
+line 4 refused FanLimit
+line 5 refused Occupied
+line 6 refused FruShort
+fru 1 80$
+fru 1 81$
+"#,
+    ),
+    // zones before fans; a plug that is refused is none, so a configuration may come behind it
+    (
+        &[
+            Repeats(EACH_HEAD, ZONE_AND_FANS, 33, LAST),
+            Text("plug 1 80 $\n"),
+            Config(ALWAYS),
+        ],
+        Refused,
+        "line 2 refused ZoneLimit\n0 new board \"A\" 1\n",
+    ),
+    // a FRU without a board passes no limit, and MATCH_ONE has one board
+    (
+        &[
+            Repeats(
+                r#"{"Name":"M","Probe":["xyz.openbmc_project.FruDevice({})","MATCH_ONE"],"Exposes":["#,
+                FAN,
+                100,
+                LAST,
+            ),
+            Text("plug 16 80 $\nplug 1 81 $\nplug 1 80 $\nplug 1 79 $\n"),
+        ],
+        Done,
+        r#"0 new board "M" 1 at 1 81
+0 new fan "F1"
+0 gone board "M" 1 at 1 81
+0 new board "M" 2 at 1 80
+0 gone fan "F1"
+0 new fan "F2"
+0 gone board "M" 2 at 1 80
+0 new board "M" 3 at 1 79
+0 gone fan "F2"
+0 new fan "F3"
+fru 1 79$
+fru 1 80$
+fru 1 81$
+fru 16 80$
+"#,
+    ),
+    // a multiplexer is refused where the boards behind it pass a limit, and opens nothing then
+    (
+        &[
+            Repeats(
+                r#"{"Name":"C","Probe":"xyz.openbmc_project.FruDevice({'ADDRESS': 80})","Exposes":["#,
+                ZONE,
+                16,
+                LAST,
+            ),
+            Config(
+                r#"{"Name":"W","Probe":"xyz.openbmc_project.FruDevice({'ADDRESS': 112})",
+                    "Exposes":[{"Name":"Slot","Type":"Mux","Channels":["$bus + 19",30]}]}"#,
+            ),
+            Text(
+                "plug 1 80 $\nplug 20 80 $\nplug 30 80 $\nplug 1 112 $\nplug 11 112 $\nunplug 1 80\n",
+            ),
+            Text("plug 1 112 $\n"),
+        ],
+        Refused,
+        r#"0 new board "C" 1 at 1 80
+0 new zone "Z"
+line 6 refused ZoneLimit
+0 new board "C" 2 at 30 80
+0 new board "W" 1 at 11 112
+0 gone board "C" 1 at 1 80
+0 gone zone "Z"
+0 new zone "Z"
+0 new board "C" 3 at 20 80
+0 new board "W" 2 at 1 112
+0 gone zone "Z"
+0 new zone "Z"
+fru 1 112$
+fru 11 112$
+fru 20 80$
+fru 30 80$
+"#,
+    ),
+];
+
+#[test]
+fn zones_and_fans_are_few(rt: HostRuntime) -> Result<(), Fail> {
+    play_rows(&rt, rt.alloc(), &CONFIGURATIONS)?;
+    play_rows(&rt, rt.alloc(), &PLUGS)
+}
+
+// How many FRUs come in the scripts of many boards, and how many configurations find each of them.
+const FRUS: u32 = 205;
+
+const FINDERS: u32 = 5;
+
+// Configurations that find each FRU, and one that finds those at the addresses 1 to 4 of a bus. Then as many FRUs come
+// as are one too many, from bus 0, address 0 on. Then the first of them goes, and the last one comes.
+fn script_of_many(alloc: Global, bus: u32) -> Result<Vec<u8>, OutOfMemory> {
+    let mut documents = Vec::new(alloc);
+    for number in 0..FINDERS {
+        documents.push(format!(in alloc;
+            "{{\"Name\":\"{number}\",\"Probe\":\"xyz.openbmc_project.FruDevice({{}})\"}}"
+        )?)?;
+    }
+    documents.push(format!(in alloc;
+        "{{\"Name\":\"M\",\"Probe\":\"xyz.openbmc_project.FruDevice({{'BUS': {bus}, 'ADDRESS': '^[1-4]$'}})\"}}"
+    )?)?;
+    let mut script = String::new(alloc);
+    for document in documents {
+        let size = document.len();
+        write!(script, "config {size}\n{document}")?;
+    }
+    for at in 0..FRUS {
+        write!(script, "plug {} {} 01000000000000FF\n", at / 128, at % 128)?;
+    }
+    script.push_str("unplug 0 0\nplug 1 76 01000000000000FF\n")?;
+    Ok(script.into_bytes())
+}
+
+// What is printed of it. The last FRU has indexes only from where its boards stand.
+fn text_of_many(alloc: Global, with_bus: u32) -> Result<String, OutOfMemory> {
+    let mut text = String::new(alloc);
+    for at in 0..FRUS - 1 {
+        let (bus, address) = (at / 128, at % 128);
+        for number in 0..FINDERS {
+            write!(
+                text,
+                "0 new board \"{number}\" {} at {bus} {address}\n",
+                at + 1
+            )?;
+        }
+        if bus == with_bus && (1..5).contains(&address) {
+            write!(text, "0 new board \"M\" {address} at {bus} {address}\n")?;
+        }
+    }
+    text.push_str("line 211 refused BoardLimit\n")?;
+    for number in 0..FINDERS {
+        write!(text, "0 gone board \"{number}\" 1 at 0 0\n")?;
+    }
+    for number in 0..FINDERS {
+        write!(text, "0 new board \"{number}\" {FRUS} at 1 76\n")?;
+    }
+    for at in 1..FRUS {
+        write!(text, "fru {} {}\n", at / 128, at % 128)?;
+    }
+    Ok(text)
+}
+
+// 1,020 boards stand, and 1,024 where bus 0 has four more. With the last FRU there would be another five.
+#[test]
+fn boards_are_few(rt: HostRuntime) -> Result<(), Fail> {
+    for bus in [9, 0] {
+        let script = script_of_many(rt.alloc(), bus)?;
+        let text = text_of_many(rt.alloc(), bus)?;
+        play(&rt, rt.alloc(), script.as_slice(), Refused, text.as_str())?;
+    }
+    Ok(())
+}
