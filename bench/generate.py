@@ -25,10 +25,13 @@
   still     16 configurations, of which 4 find a FRU that is plugged and
             unplugged; COUNT other FRUs are present, which none of them finds
   under     16 configurations, of which 4 find each FRU; else as present
+  trays     as present, where each FRU has a board with four fans
+  passive   four configurations with 256 passive exposes each find all of COUNT
+            FRUs, so 256 of them have 262,144 items; else as present
 
-COUNT is at most 256, and 255 for mux and still; left out, it is as many. LINES
-does not count the configurations and the first FRUs. The same words give the
-same script."""
+COUNT is at most 256, and 255 for mux and still, 31 for trays; left out, it is
+as many. LINES does not count the configurations and the first FRUs. The same
+words give the same script."""
 
 import json
 import os
@@ -38,10 +41,11 @@ sys.dont_write_bytecode = True
 sys.path.insert(0, os.path.dirname(os.path.realpath(__file__)) + "/../examples")
 from record import board_area, chassis_area, product_area, record
 
-# Each workload, and the most that COUNT can be: 256 FRUs may be present, and in two of them there is one more.
+# Each workload, and the most that COUNT can be: 256 FRUs may be present, in two of them there is one more, and 128 fans.
 WORKLOADS = dict.fromkeys(("plugs", "refused", "comments", "long", "toolong", "records"), 256)
 WORKLOADS |= dict.fromkeys(("present", "boards", "regex", "found", "idle", "under"), 256)
 WORKLOADS |= dict.fromkeys(("mux", "still"), 255)
+WORKLOADS |= {"trays": 31, "passive": 256}
 TEXTS = ["Norrland Systems AB", "Riser, 2 x16", "NSR2404200117", "310-00511-01", "FRU 2.1"]
 RECORD = record(board=board_area(TEXTS)).hex().upper()
 # A step that shares no factor with a power of 2, so that the places jump about and each gets its turn.
@@ -177,6 +181,19 @@ def still(lines, frus):
 
 def under(lines, frus):
     yield from sixteen()
+    yield from present(lines, frus)
+
+
+def trays(lines, frus):
+    fans = [{"Name": f"Fan $index.{at}", "Type": "Fan"} for at in range(4)]
+    yield config(0, looking_for("PRODUCT_NAME", "Riser"), Exposes=fans)
+    yield from present(lines, frus)
+
+
+def passive(lines, frus):
+    exposes = [{"Name": f"Part $index.{at}", "Type": "EEPROM"} for at in range(256)]
+    for number in range(4):
+        yield config(number, looking_for("PRODUCT_NAME", "Riser"), Exposes=exposes)
     yield from present(lines, frus)
 
 

@@ -19,9 +19,12 @@ MOST_CONFIGS = 256
 MOST_FRUS = 256
 MOST_BOARDS = 1024
 DEEPEST = 127
+# The first words of commands, their forms, and the digits of a record.
+COMMANDS = (b"config", b"plug", b"unplug")
 CONFIG = re.compile(rb"config ([0-9]{1,9})")
-PLUG = re.compile(rb"plug ([0-9]{1,9}) ([0-9]{1,9}) ((?:[0-9A-Fa-f]{2})+)")
+PLUG = re.compile(rb"plug ([0-9]{1,9}) ([0-9]{1,9}) ([^ ]+)")
 UNPLUG = re.compile(rb"unplug ([0-9]{1,9}) ([0-9]{1,9})")
+HEX = re.compile(rb"(?:[0-9A-Fa-f]{2})+")
 BOARD_NAMES = "MANUFACTURER PRODUCT_NAME SERIAL_NUMBER PART_NUMBER FRU_VERSION_ID".split()
 PRODUCT_NAMES = "MANUFACTURER PRODUCT_NAME PART_NUMBER VERSION SERIAL_NUMBER ASSET_TAG FRU_VERSION_ID".split()
 # Each area: its name, the byte of the header that says where it begins, the byte at which its fields begin,
@@ -518,11 +521,14 @@ def forget(place, machine):
 
 def line_alone(line, machine):
     """Does what a line without a block asks for."""
+    demand("UnknownCommand", line.partition(b" ")[0] in COMMANDS)
     plugged, unplugged = PLUG.fullmatch(line), UNPLUG.fullmatch(line)
     found = plugged or unplugged
-    place = place_of(found[1], found[2]) if found else None
-    demand("UnknownCommand", place is not None)
+    demand("BadArguments", found)
+    place = place_of(found[1], found[2])
+    demand("PlaceRange", place)
     if plugged:
+        demand("BadHex", HEX.fullmatch(plugged[3]))
         plug(place, bytes.fromhex(plugged[3].decode()), machine)
     else:
         unplug(place, machine)
@@ -628,7 +634,7 @@ def without_return(line):
 def refusal_of(line, size, block, machine):
     """Why a line is refused, with its block where it takes one, or None. What it asks for is done."""
     try:
-        demand("UnknownCommand", len(line) <= LONGEST)
+        demand("LineTooLong", len(line) <= LONGEST)
         line = without_return(line)
         if size is not None:
             config(size, block, machine)

@@ -14,7 +14,7 @@ use Rattle.cfg_json.specs.Documents.{config_read}
 use Rattle.cfg_json.specs.Verdicts.{Verdict, Accepted, BadPattern, LargePattern}
 use Rattle.cfg_json.specs.declared.config_fault.ConfigFault.{ConfigFault}
 use Rattle.bmc_machine.specs.Histories.{Step, Configure, Plug, Unplug, standing}
-use Rattle.bmc_machine.specs.Refusals.{config_refusal, refusal_of, IsLegalStep, IsLegal}
+use Rattle.bmc_machine.specs.Refusals.{command_refusal, config_refusal, refusal_of, IsLegalStep, IsLegal}
 use Rattle.bmc_machine.specs.Answers.{past_refused, answer_by, answer_step, answer_command, answer_broken, answer_config, answer}
 use Rattle.bmc_machine.specs.Answers.{first_verdict, later_verdicts, answers}
 
@@ -41,15 +41,16 @@ module _ (line : Refusal → List ℕ) (past : List Step) (legal : IsLegal past)
   unplug_is_legal : (place : Place) → IsLegal (answer_step line past (Unplug place)).past
   unplug_is_legal place = step_is_legal (Unplug place) (λ accepted. accepted) (λ refusal refused. legal)
 
-  command_is_legal : (command : Result Command ScriptFault) → IsLegal (answer_command line past command).past
-  command_is_legal (Ok commands.Nothing) = legal
-  command_is_legal (Ok (commands.Plug place bytes)) = plug_is_legal place bytes
-  command_is_legal (Ok (commands.Unplug place)) = unplug_is_legal place
-  command_is_legal (Err fault) = legal
-
   broken_is_legal : (refusal : Option Refusal) → IsLegal (answer_broken refusal line past).past
   broken_is_legal None = legal
   broken_is_legal (Some refusal) = legal
+
+  command_is_legal : (command : Result Command ScriptFault) → IsLegal (answer_command line past command).past
+  command_is_legal (Ok commands.Nothing) = legal
+  command_is_legal (Ok (commands.Config size)) = legal
+  command_is_legal (Ok (commands.Plug place bytes)) = plug_is_legal place bytes
+  command_is_legal (Ok (commands.Unplug place)) = unplug_is_legal place
+  command_is_legal (Err fault) = broken_is_legal (command_refusal fault)
 
   config_is_legal : (verdict : Verdict) (config : Result Config ConfigFault) → IsLegal (answer_config line past verdict config).past
   config_is_legal Accepted (Ok config) = configure_is_legal config

@@ -14,7 +14,7 @@ use Rattle.cfg_json.specs.Verdicts.{Verdict, Accepted, BadPattern, LargePattern}
 use Rattle.cfg_json.specs.declared.config_fault.ConfigFault.{ConfigFault}
 use Rattle.bmc_machine.specs.Histories.{Step, Configure, Plug, RefusedPlug, Unplug, standing}
 use Rattle.bmc_machine.specs.Indexes.{kept}
-use Rattle.bmc_machine.specs.Refusals.{config_refusal, refusal_of}
+use Rattle.bmc_machine.specs.Refusals.{command_refusal, config_refusal, refusal_of}
 use Rattle.bmc_machine.specs.Answers.{past_refused, answer_by, answer_step, answer_command, answer_broken, answer_config, answer}
 use Rattle.bmc_machine.proofs.IndexLemmas.{kept_idle}
 
@@ -59,16 +59,17 @@ module _ (line : Refusal → List ℕ) (past : List Step) where
       by None refused = absurd (cc)
       by (Some refusal) refused = step_refused step refusal
 
-  command_is_idle : (command : Result Command ScriptFault) → (answer_command line past command).refused ≡ true
-      → IsAlike past (answer_command line past command).past
-  command_is_idle (Ok commands.Nothing) refused = the_same
-  command_is_idle (Ok (commands.Plug place bytes)) refused = step_is_idle (Plug place bytes) refused
-  command_is_idle (Ok (commands.Unplug place)) refused = step_is_idle (Unplug place) refused
-  command_is_idle (Err fault) refused = the_same
-
   broken_is_idle : (refusal : Option Refusal) → IsAlike past (answer_broken refusal line past).past
   broken_is_idle None = the_same
   broken_is_idle (Some refusal) = the_same
+
+  command_is_idle : (command : Result Command ScriptFault) → (answer_command line past command).refused ≡ true
+      → IsAlike past (answer_command line past command).past
+  command_is_idle (Ok commands.Nothing) refused = the_same
+  command_is_idle (Ok (commands.Config size)) refused = the_same
+  command_is_idle (Ok (commands.Plug place bytes)) refused = step_is_idle (Plug place bytes) refused
+  command_is_idle (Ok (commands.Unplug place)) refused = step_is_idle (Unplug place) refused
+  command_is_idle (Err fault) refused = broken_is_idle (command_refusal fault)
 
   config_is_idle : (verdict : Verdict) (config : Result Config ConfigFault) → (answer_config line past verdict config).refused ≡ true
       → IsAlike past (answer_config line past verdict config).past

@@ -10,14 +10,15 @@ use Rattle.bmc_report.specs.Refusals.{refused_line}
 use Rattle.bmc_report.specs.Rows.{fru_row}
 use Rattle.bmc_report.specs.Changes.{change_line}
 use Rattle.bmc_report.specs.declared.refusal.Refusal.{Refusal}
-use Rattle.bmc_report.specs.declared.refusal.Refusal.TheVariants.{UnknownCommand, ConfigTooLong, ConfigShort, PatternSyntax, PatternTooLarge}
+use Rattle.bmc_report.specs.declared.refusal.Refusal.TheVariants as refusals
+use Rattle.bmc_report.specs.declared.refusal.Refusal.TheVariants.{ConfigTooLong, ConfigShort, PatternSyntax, PatternTooLarge}
 use Rattle.cfg_json.specs.Configs.{Config}
 use Rattle.cfg_json.specs.Documents.{config_read}
 use Rattle.cfg_json.specs.Verdicts.{Verdict, Accepted, BadPattern, LargePattern}
 use Rattle.cfg_json.specs.declared.config_fault.ConfigFault.{ConfigFault}
 use Rattle.bmc_machine.specs.Standings.{Fru, fields_of}
 use Rattle.bmc_machine.specs.Histories.{Step, Configure, Plug, RefusedPlug, Unplug, standing, tick_of}
-use Rattle.bmc_machine.specs.Refusals.{config_refusal, refusal_of}
+use Rattle.bmc_machine.specs.Refusals.{command_refusal, config_refusal, refusal_of}
 use Rattle.bmc_machine.specs.Changes.{changes}
 
 -- what comes of items after a history: the history then, what is printed of them, and whether one of them was refused
@@ -53,15 +54,17 @@ answer_by (Some refusal) line past step = refusing line (past_refused past step 
 abbrev pub answer_step : (Refusal → List ℕ) → List Step → Step → Answer
 answer_step line past step = answer_by (refusal_of (standing past) step) line past step
 
-abbrev pub answer_command : (Refusal → List ℕ) → List Step → Result Command ScriptFault → Answer
-answer_command line past (Ok commands.Nothing) = silent past
-answer_command line past (Ok (commands.Plug place bytes)) = answer_step line past (Plug place bytes)
-answer_command line past (Ok (commands.Unplug place)) = answer_step line past (Unplug place)
-answer_command line past (Err fault) = refusing line past UnknownCommand
-
 abbrev pub answer_broken : Option Refusal → (Refusal → List ℕ) → List Step → Answer
 answer_broken None line past = silent past
 answer_broken (Some refusal) line past = refusing line past refusal
+
+-- what comes of a line with this command. Items have no line that asks for a block alone, as its block is cut short then
+abbrev pub answer_command : (Refusal → List ℕ) → List Step → Result Command ScriptFault → Answer
+answer_command line past (Ok commands.Nothing) = silent past
+answer_command line past (Ok (commands.Config size)) = refusing line past ConfigShort
+answer_command line past (Ok (commands.Plug place bytes)) = answer_step line past (Plug place bytes)
+answer_command line past (Ok (commands.Unplug place)) = answer_step line past (Unplug place)
+answer_command line past (Err fault) = answer_broken (command_refusal fault) line past
 
 -- what comes of a configuration that was read of its block, with this verdict on its patterns
 abbrev pub answer_config : (Refusal → List ℕ) → List Step → Verdict → Result Config ConfigFault → Answer
@@ -73,7 +76,7 @@ answer_config line past verdict (Err rule) = answer_broken (config_refusal rule)
 -- what comes of an item, of which this is the line of a refusal; where it is a configuration, with this verdict on its patterns
 abbrev pub answer : (Refusal → List ℕ) → List Step → Verdict → Item → Answer
 answer line past verdict (Line bytes) = answer_command line past (command_of bytes)
-answer line past verdict LineTooLong = refusing line past UnknownCommand
+answer line past verdict LineTooLong = refusing line past refusals.LineTooLong
 answer line past verdict (Block bytes) = answer_config line past verdict (config_read bytes)
 answer line past verdict BlockTooLong = refusing line past ConfigTooLong
 answer line past verdict BlockShort = refusing line past ConfigShort

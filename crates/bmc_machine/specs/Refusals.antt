@@ -8,7 +8,10 @@ use Rattle.fru_record.specs.Records.{record_of}
 use Rattle.cfg_json.specs.Shelves.{most_configs, number_of}
 use Rattle.cfg_json.specs.declared.config_fault.ConfigFault.{ConfigFault}
 use Rattle.cfg_json.specs.declared.config_fault.ConfigFault.TheVariants as faults
+use Rattle.bmc_script.specs.declared.command.ScriptFault.{ScriptFault}
+use Rattle.bmc_script.specs.declared.command.ScriptFault.TheVariants as lines
 use Rattle.bmc_report.specs.declared.refusal.Refusal.{Refusal}
+use Rattle.bmc_report.specs.declared.refusal.Refusal.TheVariants.{UnknownCommand, BadArguments, PlaceRange, BadHex}
 use Rattle.bmc_report.specs.declared.refusal.Refusal.TheVariants.{NotJson, Fraction, MissingKey, WrongKind, OutOfRange, ProbeSyntax, ExposeForm}
 use Rattle.bmc_report.specs.declared.refusal.Refusal.TheVariants.{TemplateSyntax, MuxMatchOne, PatternSyntax, PatternTooLarge, ConfigAfterPlug}
 use Rattle.bmc_report.specs.declared.refusal.Refusal.TheVariants.{DuplicateName, ConfigLimit, Occupied}
@@ -35,6 +38,14 @@ record_refusal (rules.AreaChecksum area) = Some (AreaChecksum area)
 record_refusal (rules.FieldOutside area) = Some (FieldOutside area)
 record_refusal (rules.NoEnd area) = Some (NoEnd area)
 record_refusal rules.OutOfMemory = None
+
+-- the refusal by a rule that a line breaks to have a command; want of memory is no rule
+abbrev pub command_refusal : ScriptFault → Option Refusal
+command_refusal lines.UnknownCommand = Some UnknownCommand
+command_refusal lines.BadArguments = Some BadArguments
+command_refusal lines.PlaceRange = Some PlaceRange
+command_refusal lines.BadHex = Some BadHex
+command_refusal lines.OutOfMemory = None
 
 -- the refusal by a rule that a document breaks; want of memory is no rule
 abbrev pub config_refusal : ConfigFault → Option Refusal

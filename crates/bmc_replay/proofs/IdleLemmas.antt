@@ -189,10 +189,11 @@ less_self all = filter_none _ all (each [] all)
     each : (front back : List Item)
         → AllByRecursion (λ (item : Item). not (list_any (λ (other : Item). id_eq other.id item.id) (front ++ back)) ≡ false) back
     each front [] = tt
-    each front (item ∷ back) =
-        (ap not (holds_item item front back),
-        subst (λ (all : List Item). AllByRecursion (λ (item : Item). not (list_any (λ (other : Item). id_eq other.id item.id) all) ≡ false) back)
-        (append_assoc front (item ∷ []) back) (each (front ++ item ∷ []) back))
+    each front (item ∷ back) = (
+      ap not (holds_item item front back),
+      subst (λ (all : List Item). AllByRecursion (λ (item : Item). not (list_any (λ (other : Item). id_eq other.id item.id) all) ≡ false) back)
+          (append_assoc front (item ∷ []) back) (each (front ++ item ∷ []) back),
+    )
 
 no_changes : (a b c d : List Change) → a ≡ [] → b ≡ [] → c ≡ [] → d ≡ [] → a ++ b ++ c ++ d ≡ []
 no_changes a b c d no_a no_b no_c no_d = λ i. no_a i ++ no_b i ++ no_c i ++ no_d i

@@ -110,9 +110,11 @@ found_each (entry ∷ entries) order = (here, behind entries order.0 (found_each
         → AllByRecursion (λ (each : Entry). find (is_entry_at each.place) entries ≡ Some each) later
         → AllByRecursion (λ (each : Entry). cond (is_entry_at each.place entry) (Some entry) (find (is_entry_at each.place) entries) ≡ Some each) later
     behind [] after found = tt
-    behind (each ∷ later) after found =
-        (ap (λ (order : Ordering). cond (is_eq order) (Some entry) (find (is_entry_at each.place) entries))
-        (place_total.antisymm each.place entry.place ∙ ap ordering_reverse after.0) ∙ found.0, behind later after.1 found.1)
+    behind (each ∷ later) after found = (
+      ap (λ (order : Ordering). cond (is_eq order) (Some entry) (find (is_entry_at each.place) entries))
+          (place_total.antisymm each.place entry.place ∙ ap ordering_reverse after.0) ∙ found.0,
+      behind later after.1 found.1,
+    )
 
 -- the busy FRUs expose what all do
 pub busy_items : (configs : List Config) (kept : ℕ → List (Option Place)) (count : ℕ) (entries : List Entry) → AreByPlace entries
@@ -162,9 +164,11 @@ module _ (configs : List Config) (kept : ℕ → List (Option Place)) (count : �
   all_alike : (some : List Entry) → AllByRecursion (λ (each : Entry). is_entry_at each.place entry ≡ false) some
       → AllByRecursion (λ (each : Entry). IsAlike each.place) some
   all_alike [] away = tt
-  all_alike (each ∷ some) away =
-      (ap (option_map (λ (entry : Entry). entry.fru)) (ap (find (is_entry_at each.place)) among.with
-      ∙ find_skip each.place among.front among.back away.0 ∙ ap (find (is_entry_at each.place)) (sym among.without)), all_alike some away.1)
+  all_alike (each ∷ some) away = (
+    ap (option_map (λ (entry : Entry). entry.fru)) (ap (find (is_entry_at each.place)) among.with
+        ∙ find_skip each.place among.front among.back away.0 ∙ ap (find (is_entry_at each.place)) (sym among.without)),
+    all_alike some away.1,
+  )
 
   -- the boards that are there without it expose the same
   pub items_apart : (test : Board → Bool)
@@ -225,6 +229,8 @@ gone_apart place entry entries found = left entries
             → AllByRecursion (λ (each : Entry). is_entry_at each.place entry ≡ false) (without_entry place some)
             → AllByRecursion (λ (each : Entry). is_entry_at each.place entry ≡ false) (cond (not here) (each ∷ without_entry place some) (without_entry place some))
         by true is rest = rest
-        by false is rest =
-            (ap is_eq (place_total.antisymm each.place entry.place) ∙ eq_reverse (place_cmp entry.place each.place)
-            ∙ ap (λ (place : Place). is_eq (place_cmp place each.place)) (sym same) ∙ is, rest)
+        by false is rest = (
+          ap is_eq (place_total.antisymm each.place entry.place) ∙ eq_reverse (place_cmp entry.place each.place)
+              ∙ ap (λ (place : Place). is_eq (place_cmp place each.place)) (sym same) ∙ is,
+          rest,
+        )

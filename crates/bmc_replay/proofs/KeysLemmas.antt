@@ -161,15 +161,15 @@ pub moves : (old new : View) (more : List Config) (gone fresh : List BoardKey) (
     → new.changes ≡ told ++ filter_map (item_change true) gone_items ++ filter_map (item_change false) fresh_items → Moves old new
 unfolding changes_between
 moves old new more gone fresh kept kept_now told before after gone_items fresh_items configs differs same tells kept_are was is gone_are fresh_are changes =
-  record {
-    kept = keeps old new gone fresh kept kept_now told differs same tells kept_are;
-    changes =
-        changes ∙ ap₂ (λ (front back : List Change). front ++ back)
-        (ap₂ (λ (front back : List Change). front ++ back)
-        (tells.told ∙ ap₂ (λ (front back : List Change). front ++ back) gone_changes fresh_changes)
-        (ap (filter_map (item_change true)) (gone_are ∙ ap₂ items_less was is)))
-        (ap (filter_map (item_change false)) (fresh_are ∙ ap₂ items_less is was));
-  }
+    record {
+      kept = keeps old new gone fresh kept kept_now told differs same tells kept_are;
+      changes =
+          changes ∙ ap₂ (λ (front back : List Change). front ++ back)
+          (ap₂ (λ (front back : List Change). front ++ back)
+          (tells.told ∙ ap₂ (λ (front back : List Change). front ++ back) gone_changes fresh_changes)
+          (ap (filter_map (item_change true)) (gone_are ∙ ap₂ items_less was is)))
+          (ap (filter_map (item_change false)) (fresh_are ∙ ap₂ items_less is was));
+    }
   where
     gone_changes : map (board_change true new.configs (kept_of kept)) gone ≡ boards_left true (view_inventory old) (view_inventory new)
     gone_changes =

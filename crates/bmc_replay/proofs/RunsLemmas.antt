@@ -11,15 +11,15 @@ use Rattle.cfg_json.specs.Verdicts.{Verdict, Accepted, large_in, verdict_of}
 use Rattle.cfg_json.specs.declared.config_fault.ConfigFault.{ConfigFault}
 use Rattle.cfg_json.specs.declared.config_fault.ConfigFault.TheVariants as faults
 use Rattle.cfg_json.proofs.VerdictsLemmas.{gives_ties}
-use Rattle.bmc_script.specs.Commands.{command_of}
+use Rattle.bmc_script.specs.Commands.{command_of, GivesCommand}
 use Rattle.bmc_script.specs.declared.command.Command.{Command}
 use Rattle.bmc_script.specs.declared.command.ScriptFault.{ScriptFault}
+use Rattle.bmc_script.specs.declared.command.ScriptFault.TheVariants as lines
 use Rattle.bmc_report.specs.Refusals.{refused_line}
 use Rattle.bmc_report.specs.Changes.{change_line}
 use Rattle.bmc_report.specs.declared.refusal.Refusal.{Refusal}
-use Rattle.bmc_report.specs.declared.refusal.Refusal.TheVariants.{UnknownCommand}
 use Rattle.bmc_machine.specs.Histories.{Step, Configure}
-use Rattle.bmc_machine.specs.Refusals.{config_refusal}
+use Rattle.bmc_machine.specs.Refusals.{command_refusal, config_refusal}
 use Rattle.bmc_machine.specs.Answers.{Answer, silent, refusing, answer_by, answer_step, answer_command, answer_broken, answer_config, answer}
 use Rattle.bmc_machine.specs.Ties.{IsTied}
 use Rattle.bmc_replay.specs.States.{View, Stands}
@@ -57,12 +57,22 @@ pub renamed : (what other : (Refusal → List ℕ) → List Step → Answer) (ef
 renamed what other effect old new same answers line past stood =
     subst (λ (answer : Answer). IsAnswer answer line effect new) (same line past) (answers line past stood)
 
--- a line that is no command is refused
-pub unknown_answers : (view : View) (line : List ℕ) (fault : ScriptFault) → command_of line ≡ Err fault
-    → Answers (λ label past. answer label past Accepted (Line line)) (Refused UnknownCommand) view view
-unknown_answers view line fault unknown =
-    renamed (λ label past. refusing label past UnknownCommand) _ (Refused UnknownCommand) view view
-    (λ label past. ap (answer_command label past) (sym unknown)) (refused_answers view UnknownCommand)
+-- a line that has no command is refused
+read_as : (fault : ScriptFault) (read : Result Command ScriptFault) (refusal : Refusal) → GivesCommand (Err fault) read
+    → command_refusal fault ≡ Some refusal → read ≡ Err fault
+read_as lines.UnknownCommand read refusal gives is = gives
+read_as lines.BadArguments read refusal gives is = gives
+read_as lines.PlaceRange read refusal gives is = gives
+read_as lines.BadHex read refusal gives is = gives
+read_as lines.OutOfMemory read refusal gives is = absurd (cc)
+
+pub line_answers : (view : View) (line : List ℕ) (fault : ScriptFault) (refusal : Refusal) → GivesCommand (Err fault) (command_of line)
+    → command_refusal fault ≡ Some refusal → Answers (λ label past. answer label past Accepted (Line line)) (Refused refusal) view view
+line_answers view line fault refusal gives is =
+    renamed (λ label past. refusing label past refusal) _ (Refused refusal) view view
+    (λ label past. sym (ap (answer_command label past) (read_as fault (command_of line) refusal gives is)
+    ∙ ap (λ (reason : Option Refusal). answer_broken reason label past) is))
+    (refused_answers view refusal)
 
 pub command_answers : (old new : View) (line : List ℕ) (command : Command) (effect : Effect) → command_of line ≡ Ok command
     → Answers (λ label past. answer_command label past (Ok command)) effect old new

@@ -12,8 +12,8 @@ use bmc_base::{Bytes, Ledger, OutOfMemory};
 use bmc_report::{Change, LiveKind};
 use cfg_json::{Body, Config, Item, ItemPart, Shelf};
 use inventory::{
-    BoardKey, BoardKeys, Difference, IndexKeep, Inventory, InventoryFault, ItemList, Moment, Totals,
-    changes_items,
+    BoardKey, BoardKeys, Difference, IndexKeep, Inventory, InventoryFault, ItemList, Moment,
+    Totals, changes_items,
 };
 use std::alloc::Global;
 

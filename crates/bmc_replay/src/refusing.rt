@@ -1,11 +1,27 @@
 ghost use Rattle.std.specs.Prelude.{◌≡◌, Some, None, IfOk, OnErr};
-ghost use Rattle.bmc_machine.specs.Refusals.{record_refusal, config_refusal, limit_refusal};
+ghost use Rattle.bmc_machine.specs.Refusals.{command_refusal, record_refusal, config_refusal, limit_refusal};
 
 use bmc_base::OutOfMemory;
 use bmc_report::Refusal;
+use bmc_script::ScriptFault;
 use cfg_json::ConfigFault;
 use fru_area::FruFault;
 use inventory::InventoryFault;
+
+/// The refusal by a rule that a line breaks to have a command; want of memory is no rule.
+pub fn command_refused(fault: ScriptFault) -> Result<Refusal, OutOfMemory>
+    ensures refusal { IfOk result (λ refusal. command_refusal fault ≡ Some refusal) }
+    ensures memory { OnErr result (command_refusal fault ≡ None) }
+{
+    let refusal = match fault {
+        ScriptFault::UnknownCommand => Refusal::UnknownCommand,
+        ScriptFault::BadArguments => Refusal::BadArguments,
+        ScriptFault::PlaceRange => Refusal::PlaceRange,
+        ScriptFault::BadHex => Refusal::BadHex,
+        ScriptFault::OutOfMemory => return Err(OutOfMemory),
+    };
+    Ok(refusal)
+}
 
 /// The refusal by a rule that bytes break to be a record; want of memory is no rule.
 pub fn record_refused(rule: FruFault) -> Result<Refusal, OutOfMemory>

@@ -8,11 +8,11 @@ ghost use Rattle.cfg_json.specs.Verdicts.{Accepted};
 ghost use Rattle.bmc_replay.specs.Runs.{Answers, AnswersItem, LeavesItem, AnswersNext, CountsItem, IsNew, TakesNext, LeavesNext, effect_of};
 
 use crate::output::{GATHERED, SPARE};
-use crate::refusing::config_refused;
+use crate::refusing::{command_refused, config_refused};
 use crate::state::State;
 use bmc_base::{Ledger, OutOfMemory, Steps};
 use bmc_report::{Change, Refusal, push_change, push_refused_line};
-use bmc_script::{Command, ScriptFault};
+use bmc_script::Command;
 use bmc_text::{Items, NextItem};
 use cfg_json::Config;
 use pat_gate::PatternMaker;
@@ -53,7 +53,7 @@ fn effect_of(refusal: Option<Refusal>) -> Effect
 }
 
 // Does what a command asks for.
-#[tactic(auto, using(crate::proofs::RunsLemmas::silent_answers, crate::proofs::RunsLemmas::tried_answers))]
+#[tactic(auto, using(crate::proofs::RunsLemmas::silent_answers, crate::proofs::RunsLemmas::refused_answers, crate::proofs::RunsLemmas::tried_answers))]
 fn run_command<L: Ledger>(
     alloc: Global,
     state: &mut State<L>,
@@ -64,6 +64,8 @@ fn run_command<L: Ledger>(
 {
     let refusal = match command {
         Command::Nothing => return Ok(Effect::Nothing),
+        // an item with a block is never a line
+        Command::Config(_) => return Ok(Effect::Refused(Refusal::ConfigShort)),
         Command::Plug(place, bytes) => state.plug(alloc, place, bytes.as_slice(), steps)?,
         Command::Unplug(place) => state.unplug(alloc, place, steps)?,
     };
@@ -71,7 +73,6 @@ fn run_command<L: Ledger>(
 }
 
 // Takes a line that asks for no block.
-#[tactic(auto, using(crate::proofs::RunsLemmas::refused_answers))]
 fn take_line<L: Ledger>(
     alloc: Global,
     state: &mut State<L>,
@@ -82,8 +83,10 @@ fn take_line<L: Ledger>(
 {
     match Command::read(alloc, line) {
         Ok(command) => run_command(alloc, state, command, steps),
-        Err(ScriptFault::UnknownCommand) => Ok(Effect::Refused(Refusal::UnknownCommand)),
-        Err(ScriptFault::OutOfMemory) => Err(OutOfMemory),
+        Err(fault) => {
+            let refusal = command_refused(fault)?;
+            Ok(Effect::Refused(refusal))
+        }
     }
 }
 
@@ -166,7 +169,7 @@ impl<L: Ledger> Run<L> {
     {
         let effect = match next {
             NextItem::Line => take_line(alloc, &mut self.state, items.line(), steps)?,
-            NextItem::LineTooLong => Effect::Refused(Refusal::UnknownCommand),
+            NextItem::LineTooLong => Effect::Refused(Refusal::LineTooLong),
             NextItem::Block => take_block(alloc, &mut self.state, items.block(), maker, steps)?,
             NextItem::BlockTooLong => Effect::Refused(Refusal::ConfigTooLong),
             NextItem::BlockShort => Effect::Refused(Refusal::ConfigShort),

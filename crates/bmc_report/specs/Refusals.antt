@@ -3,7 +3,7 @@ use Rattle.std.specs.Prelude.{ℕ, List, [], ◌++◌, codes, decimal, Option, S
 use Rattle.fru_area.specs.declared.fault.Area.{Area}
 use Rattle.fru_area.specs.declared.fault.Area.TheVariants.{Chassis, Board, Product}
 use Rattle.bmc_report.specs.declared.refusal.Refusal.{Refusal}
-use Rattle.bmc_report.specs.declared.refusal.Refusal.TheVariants.{UnknownCommand, ConfigTooLong, ConfigShort}
+use Rattle.bmc_report.specs.declared.refusal.Refusal.TheVariants.{LineTooLong, UnknownCommand, BadArguments, PlaceRange, BadHex, ConfigTooLong, ConfigShort}
 use Rattle.bmc_report.specs.declared.refusal.Refusal.TheVariants.{NotJson, Fraction, MissingKey, WrongKind, OutOfRange, ProbeSyntax, ExposeForm}
 use Rattle.bmc_report.specs.declared.refusal.Refusal.TheVariants.{TemplateSyntax, MuxMatchOne, PatternSyntax, PatternTooLarge}
 use Rattle.bmc_report.specs.declared.refusal.Refusal.TheVariants.{ConfigAfterPlug, DuplicateName, ConfigLimit, Occupied}
@@ -20,7 +20,11 @@ area_text Product = codes "Product"
 
 -- the name of a refusal
 unfoldable pub refusal_name : Refusal → List ℕ
+refusal_name LineTooLong = codes "LineTooLong"
 refusal_name UnknownCommand = codes "UnknownCommand"
+refusal_name BadArguments = codes "BadArguments"
+refusal_name PlaceRange = codes "PlaceRange"
+refusal_name BadHex = codes "BadHex"
 refusal_name ConfigTooLong = codes "ConfigTooLong"
 refusal_name ConfigShort = codes "ConfigShort"
 refusal_name NotJson = codes "NotJson"

@@ -10,8 +10,16 @@ use std::alloc::Global;
 /// that area, whose name is printed too.
 #[derive(Clone, Copy, Debug, PartialEq, Eq)]
 pub enum Refusal {
-    /// The line is no command in its form.
+    /// The line has more than 9,000 bytes.
+    LineTooLong,
+    /// The first word of the line is no command.
     UnknownCommand,
+    /// What stands behind the command has not its form.
+    BadArguments,
+    /// The bus is above 255, or the address above 127.
+    PlaceRange,
+    /// The record is not written in pairs of hexadecimal digits.
+    BadHex,
     /// The block has more than 262,144 bytes.
     ConfigTooLong,
     /// The script ends within the block.
@@ -91,7 +99,11 @@ impl Refusal {
         ensures { result.now ≡ refusal_name self }
     {
         match self {
+            Refusal::LineTooLong => "LineTooLong",
             Refusal::UnknownCommand => "UnknownCommand",
+            Refusal::BadArguments => "BadArguments",
+            Refusal::PlaceRange => "PlaceRange",
+            Refusal::BadHex => "BadHex",
             Refusal::ConfigTooLong => "ConfigTooLong",
             Refusal::ConfigShort => "ConfigShort",
             Refusal::NotJson => "NotJson",

@@ -20,6 +20,8 @@ mod items;
 #[cfg(test)]
 mod limits;
 #[cfg(test)]
+mod line_orders;
+#[cfg(test)]
 mod lines;
 #[cfg(test)]
 mod muxes;

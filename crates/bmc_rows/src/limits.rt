@@ -18,23 +18,78 @@ const SPACES: usize = LONGEST_BLOCK - ALWAYS.len();
 // The bytes behind the 32 of the board record that make it the longest record.
 const ZEROS: usize = LONGEST_RECORD - 32;
 
-const LINES: [Row; 9] = [
+// What is printed of a first line that is too long.
+const TOO_LONG: &str = "line 1 refused LineTooLong\n";
+
+const LINES: [Row; 18] = [
     (&[Times(LONGEST_LINE, "#")], Done, ""),
     (&[Times(LONGEST_LINE, "#"), Text("\n")], Done, ""),
     (&[Times(LONGEST_LINE - 1, "#"), Text("\r\n")], Done, ""),
     (&[Times(LONGEST_LINE - 1, "#"), Text("\r")], Done, ""),
-    (&[Times(LONGEST_LINE + 1, "#")], Refused, UNKNOWN),
+    (&[Times(LONGEST_LINE + 1, "#")], Refused, TOO_LONG),
     (
         &[Times(LONGEST_LINE + 1, "#"), Text("\n")],
         Refused,
-        UNKNOWN,
+        TOO_LONG,
     ),
-    (&[Times(LONGEST_LINE, "#"), Text("\r\n")], Refused, UNKNOWN),
-    (&[Times(200_000, "#"), Text("\n#")], Refused, UNKNOWN),
+    (&[Times(LONGEST_LINE, "#"), Text("\r\n")], Refused, TOO_LONG),
+    (&[Times(200_000, "#"), Text("\n#")], Refused, TOO_LONG),
     (
         &[Times(70_000, "#"), Text("\n#\n\njump")],
         Refused,
-        "line 1 refused UnknownCommand\nline 4 refused UnknownCommand\n",
+        "line 1 refused LineTooLong\nline 4 refused UnknownCommand\n",
+    ),
+    // with other faults besides, and as long as may be with them
+    (&[Times(LONGEST_LINE, "j")], Refused, UNKNOWN),
+    (&[Times(LONGEST_LINE + 1, "j")], Refused, TOO_LONG),
+    (
+        &[Text("unplug 1 "), Times(LONGEST_LINE - 9, "0")],
+        Refused,
+        "line 1 refused BadArguments\n",
+    ),
+    (
+        &[Text("unplug 1 "), Times(LONGEST_LINE - 8, "0")],
+        Refused,
+        TOO_LONG,
+    ),
+    (
+        &[
+            Text("plug 256 80 "),
+            Times(LONGEST_LINE - 12, "z"),
+            Text("\n"),
+        ],
+        Refused,
+        "line 1 refused PlaceRange\n",
+    ),
+    (
+        &[
+            Text("plug 256 80 "),
+            Times(LONGEST_LINE - 11, "z"),
+            Text("\n"),
+        ],
+        Refused,
+        TOO_LONG,
+    ),
+    // a record, in a line that is as long as may be, and in one that is longer
+    (
+        &[Text("plug 1 80 "), Times(LONGEST_LINE - 10, "0")],
+        Refused,
+        "line 1 refused FruTooLong\n",
+    ),
+    (
+        &[
+            Text("plug 1 80 "),
+            Times(LONGEST_LINE - 10, "0"),
+            Text("0\n"),
+        ],
+        Refused,
+        TOO_LONG,
+    ),
+    // no block belongs to a line that is too long
+    (
+        &[Text("config 2"), Times(LONGEST_LINE, " "), Text("\n{}\n")],
+        Refused,
+        "line 1 refused LineTooLong\nline 2 refused UnknownCommand\n",
     ),
 ];
 

@@ -20,7 +20,7 @@ pub const ALWAYS: &str = r#"{"Name":"A","Probe":"TRUE"}"#;
 /// What is printed of it.
 pub const ALWAYS_BOARD: &str = "0 new board \"A\" 1\n";
 
-/// What is printed of a first line that is no command in its form.
+/// What is printed of a first line whose first word is no command.
 pub const UNKNOWN: &str = "line 1 refused UnknownCommand\n";
 
 /// The number of a call that is not made.

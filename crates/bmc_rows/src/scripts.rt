@@ -83,7 +83,11 @@ const SCRIPTS: [Row; 12] = [
 const REFUSALS: [Row; 1] = [(
     &[
         Many(256),
-        Text("jump\n"),
+        Times(9001, "#"),
+        Text("\njump\n"),
+        Text("plug 256 80\n"),
+        Text("plug 256 80 0\n"),
+        Text("plug 1 80 0\n"),
         Text("config 262145\n"),
         Times(262_145, "x"),
         Text("\n"),
@@ -120,34 +124,38 @@ const REFUSALS: [Row; 1] = [(
         Text("config 1\n"),
     ],
     Refused,
-    r#"line 257 refused UnknownCommand
-line 258 refused ConfigTooLong
-line 259 refused NotJson
-line 260 refused Fraction
-line 261 refused WrongKind
-line 262 refused MissingKey
-line 263 refused OutOfRange
-line 264 refused ProbeSyntax
-line 265 refused TemplateSyntax
-line 266 refused ExposeForm
-line 267 refused MuxMatchOne
-line 268 refused PatternSyntax
-line 269 refused DuplicateName
-line 270 refused ConfigLimit
-line 271 refused NotPresent
-line 272 refused FruShort
-line 273 refused FruTooLong
-line 274 refused HeaderVersion
-line 275 refused HeaderChecksum
-line 276 refused AreaOutside Chassis
-line 277 refused AreaVersion Board
-line 278 refused AreaLength Product
-line 279 refused AreaChecksum Chassis
-line 280 refused FieldOutside Board
-line 281 refused NoEnd Product
-line 283 refused Occupied
-line 284 refused ConfigAfterPlug
-line 285 refused ConfigShort
+    r#"line 257 refused LineTooLong
+line 258 refused UnknownCommand
+line 259 refused BadArguments
+line 260 refused PlaceRange
+line 261 refused BadHex
+line 262 refused ConfigTooLong
+line 263 refused NotJson
+line 264 refused Fraction
+line 265 refused WrongKind
+line 266 refused MissingKey
+line 267 refused OutOfRange
+line 268 refused ProbeSyntax
+line 269 refused TemplateSyntax
+line 270 refused ExposeForm
+line 271 refused MuxMatchOne
+line 272 refused PatternSyntax
+line 273 refused DuplicateName
+line 274 refused ConfigLimit
+line 275 refused NotPresent
+line 276 refused FruShort
+line 277 refused FruTooLong
+line 278 refused HeaderVersion
+line 279 refused HeaderChecksum
+line 280 refused AreaOutside Chassis
+line 281 refused AreaVersion Board
+line 282 refused AreaLength Product
+line 283 refused AreaChecksum Chassis
+line 284 refused FieldOutside Board
+line 285 refused NoEnd Product
+line 287 refused Occupied
+line 288 refused ConfigAfterPlug
+line 289 refused ConfigShort
 fru 1 80$
 "#,
 )];

@@ -1,75 +1,81 @@
 -- The command of a line of a script.
-use Rattle.std.specs.Prelude.{ℕ, ◌≡◌, ⊤, ◌==◌, if◌then◌else◌, List, [], ◌∷◌, length, codes, bytes_eq, Option, Some, None, Result, Ok, Err}
-use Rattle.std.specs.Option.{ok_or}
+use Rattle.std.specs.Prelude.{ℕ, ◌≡◌, ⊤, ◌==◌, ◌||◌, if◌then◌else◌, List, [], ◌∷◌, length, codes, bytes_eq, Option, Some, None, Result, Ok, Err}
+use Rattle.std.specs.List.{list_any}
+use Rattle.std.specs.Option.{ok_or, unwrap_or}
 use Rattle.bmc_base.specs.Places.{Place, place_of}
 use Rattle.bmc_text.specs.Hex.{hex_decoded}
 use Rattle.bmc_text.specs.Words.{split_space, number}
 use Rattle.bmc_script.specs.declared.command.Command.{Command}
-use Rattle.bmc_script.specs.declared.command.Command.TheVariants.{Plug, Unplug, Nothing}
+use Rattle.bmc_script.specs.declared.command.Command.TheVariants.{Config, Plug, Unplug, Nothing}
 use Rattle.bmc_script.specs.declared.command.ScriptFault.{ScriptFault}
-use Rattle.bmc_script.specs.declared.command.ScriptFault.TheVariants.{UnknownCommand, OutOfMemory}
+use Rattle.bmc_script.specs.declared.command.ScriptFault.TheVariants.{UnknownCommand, BadArguments, PlaceRange, BadHex, OutOfMemory}
 
--- the ? of an option
+-- the ? of a result
 infixl 10 ◌>>=◌
-abbrev pub ◌>>=◌ : {A B : Type 0} → Option A → (A → Option B) → Option B
-None >>= f = None
-(Some x) >>= f = f x
+abbrev pub ◌>>=◌ : {A B : Type 0} → Result A ScriptFault → (A → Result B ScriptFault) → Result B ScriptFault
+(Ok value) >>= f = f value
+(Err fault) >>= f = Err fault
 
 -- the place that these two words name
-unfoldable pub place_named : List ℕ → List ℕ → Option Place
+unfoldable pub place_named : List ℕ → List ℕ → Result Place ScriptFault
 place_named bus address = do
-  bus_number ← number bus
-  address_number ← number address
-  place_of bus_number address_number
+  bus_number ← ok_or (number bus) BadArguments
+  address_number ← ok_or (number address) BadArguments
+  ok_or (place_of bus_number address_number) PlaceRange
 
--- the bytes of at least two hexadecimal digits
-abbrev pub some_bytes : List ℕ → Option (List ℕ)
-some_bytes digits = if length digits == 0 then None else hex_decoded digits
+-- a text of one character or more without a space (32)
+abbrev pub one_word : List ℕ → Option (List ℕ)
+one_word text = if length text == 0 || list_any (λ byte. byte == 32) text then None else Some text
 
 -- `plug B A HEX`, behind its first word
-unfoldable pub plug_of : List ℕ → Option Command
+unfoldable pub plug_of : List ℕ → Result Command ScriptFault
 plug_of rest = do
-  bus ← split_space rest
-  address ← split_space bus.1
+  bus ← ok_or (split_space rest) BadArguments
+  address ← ok_or (split_space bus.1) BadArguments
+  digits ← ok_or (one_word address.1) BadArguments
   place ← place_named bus.0 address.0
-  bytes ← some_bytes address.1
-  Some (Plug place bytes)
+  bytes ← ok_or (hex_decoded digits) BadHex
+  Ok (Plug place bytes)
 
 -- `unplug B A`, behind its first word
-unfoldable pub unplug_of : List ℕ → Option Command
+unfoldable pub unplug_of : List ℕ → Result Command ScriptFault
 unplug_of rest = do
-  bus ← split_space rest
+  bus ← ok_or (split_space rest) BadArguments
   place ← place_named bus.0 bus.1
-  Some (Unplug place)
+  Ok (Unplug place)
+
+-- `config N`, behind its first word
+unfoldable pub config_of : List ℕ → Result Command ScriptFault
+config_of rest = do
+  size ← ok_or (number rest) BadArguments
+  Ok (Config size)
 
 -- the command of this first word with what stands behind it
-abbrev pub verb_command : List ℕ → List ℕ → Option Command
+abbrev pub verb_command : List ℕ → List ℕ → Result Command ScriptFault
 verb_command verb rest =
     if bytes_eq verb (codes "plug") then plug_of rest
     else if bytes_eq verb (codes "unplug") then unplug_of rest
-    else None
+    else if bytes_eq verb (codes "config") then config_of rest
+    else Err UnknownCommand
+
+-- the first word of a line, and what stands behind the first space: nothing where there is no space
+abbrev pub first_word : List ℕ → List ℕ × List ℕ
+first_word line = unwrap_or (split_space line) (line, [])
 
 -- the command of a line that is no comment
-unfoldable pub words_of : List ℕ → Option Command
-words_of line = do
-  verb ← split_space line
-  verb_command verb.0 verb.1
+unfoldable pub words_of : List ℕ → Result Command ScriptFault
+words_of line = verb_command (first_word line).0 (first_word line).1
 
 -- what a comment begins with, `#`
 abbrev pub comment_mark : ℕ
 comment_mark = 35
 
--- the command of a line: an empty one and a comment do nothing
+-- the command of a line, or the first rule that it breaks: an empty line and a comment do nothing
 unfoldable pub command_of : List ℕ → Result Command ScriptFault
 command_of [] = Ok Nothing
-command_of (first ∷ rest) = if first == comment_mark then Ok Nothing else ok_or (words_of (first ∷ rest)) UnknownCommand
+command_of (first ∷ rest) = if first == comment_mark then Ok Nothing else words_of (first ∷ rest)
 
 -- what is answered of a line whose command is read so: just that, but for want of memory
 abbrev pub GivesCommand : Result Command ScriptFault → Result Command ScriptFault → Type 0
-GivesCommand (Ok command) read = read ≡ Ok command
-GivesCommand (Err UnknownCommand) read = read ≡ Err UnknownCommand
 GivesCommand (Err OutOfMemory) read = ⊤
-
--- the same, where no command is an unknown one
-abbrev pub GivesIfKnown : Result Command ScriptFault → Option Command → Type 0
-GivesIfKnown answer read = GivesCommand answer (ok_or read UnknownCommand)
+GivesCommand answer read = read ≡ answer

@@ -1,13 +1,19 @@
 -- What the computed examples ask for.
-use Rattle.std.specs.Prelude.{Result, Ok, Err}
+use Rattle.std.specs.Prelude.{[], ◌∷◌, Result, Ok, Err}
 use Rattle.bmc_base.specs.Places.{Place}
 use Rattle.bmc_script.specs.declared.command.Command.{Command}
-use Rattle.bmc_script.specs.declared.command.Command.TheVariants.{Unplug, Nothing}
+use Rattle.bmc_script.specs.declared.command.Command.TheVariants.{Config, Plug, Unplug, Nothing}
 use Rattle.bmc_script.specs.declared.command.ScriptFault.{ScriptFault}
-use Rattle.bmc_script.specs.declared.command.ScriptFault.TheVariants.{UnknownCommand}
+use Rattle.bmc_script.specs.declared.command.ScriptFault.TheVariants.{UnknownCommand, BadArguments, PlaceRange, BadHex}
 
 abbrev pub bus_1_80 : Place
 bus_1_80 = record { bus = 1; address = 80 }
+
+abbrev pub configured : Result Command ScriptFault
+configured = Ok (Config 7)
+
+abbrev pub plugged : Result Command ScriptFault
+plugged = Ok (Plug bus_1_80 (10 ∷ 255 ∷ []))
 
 abbrev pub unplugged : Result Command ScriptFault
 unplugged = Ok (Unplug bus_1_80)
@@ -17,3 +23,12 @@ nothing = Ok Nothing
 
 abbrev pub unknown : Result Command ScriptFault
 unknown = Err UnknownCommand
+
+abbrev pub malformed : Result Command ScriptFault
+malformed = Err BadArguments
+
+abbrev pub out_of_range : Result Command ScriptFault
+out_of_range = Err PlaceRange
+
+abbrev pub not_hexadecimal : Result Command ScriptFault
+not_hexadecimal = Err BadHex

@@ -1,17 +1,20 @@
-ghost use Rattle.std.specs.Prelude.{◌≡◌, ◌<◌, ◌==◌, length, Some, IfSome, option_map, position};
+ghost use Rattle.std.specs.Prelude.{◌≡◌, ◌<◌, ◌==◌, length, IfSome, option_map, position};
 ghost use Rattle.bmc_text.specs.Words.{split_space};
-ghost use Rattle.bmc_script.specs.Commands.{GivesCommand, GivesIfKnown, command_of, words_of, plug_of, unplug_of, place_named};
+ghost use Rattle.bmc_script.specs.Commands.{GivesCommand, command_of, first_word, words_of, plug_of, unplug_of, config_of, place_named};
 
 use bmc_base::{Bytes, Place};
 use bmc_text::{HexFault, hex_bytes, read_number};
 use std::alloc::Global;
 use thiserror::Error;
 
-/// What a line asks for.
+/// What a line asks for. A numeral, as B, A and N here, has 1 to 9 decimal digits, leading zeros among them.
 #[derive(Drop)]
 pub enum Command {
+    /// `config N`: the block of N bytes behind the line is the configuration from now on. The block itself is no part
+    /// of the line.
+    Config(u32),
     /// `plug B A HEX`: a FRU with these bytes appears at a place. HEX is two digits of either case for each byte,
-    /// and at least one byte. B and A have 1 to 9 digits.
+    /// and at least one byte.
     Plug(Place, Bytes),
     /// `unplug B A`: the FRU at a place goes away.
     Unplug(Place),
@@ -19,12 +22,22 @@ pub enum Command {
     Nothing,
 }
 
-/// Why a line has no command.
+/// Why a line has no command: the first rule, in this order, that the line breaks.
 #[derive(Clone, Copy, Debug, PartialEq, Eq, Error)]
 pub enum ScriptFault {
-    /// The line is no command in its form.
+    /// The first word is no command. It is the text before the first space or else the whole line.
     #[error("unknown command")]
     UnknownCommand,
+    /// What stands behind the command has not its form: the number of words, a numeral that has not 1 to 9 digits, or
+    /// a HEX that is empty or has a space in it. A command that stands alone is such a line.
+    #[error("bad arguments")]
+    BadArguments,
+    /// A bus above 255 or an address above 127.
+    #[error("place out of range")]
+    PlaceRange,
+    /// A HEX that is an odd number of characters, or has one that is no hexadecimal digit.
+    #[error("bad hexadecimal digits")]
+    BadHex,
     /// There was no memory. It says nothing of the line.
     #[error("out of memory")]
     OutOfMemory,
@@ -48,68 +61,76 @@ fn word(bytes: &[u8]) -> Option<(&[u8], &[u8])>
     }
 }
 
+// Splits a line at the first space: its first word, and what stands behind it, nothing where there is no space.
+fn split_verb(line: &[u8]) -> (&[u8], &[u8])
+    ensures { (result.0.now, result.1.now) ≡ first_word line.now }
+{
+    word(line).unwrap_or((line, b""))
+}
+
 // Reads a place, from a bus of 0 to 255 and an address of 0 to 127.
 #[inline]
 #[tactic(auto, unfolding(crate::specs::Commands::place_named))]
-fn read_place(bus: &[u8], address: &[u8]) -> Option<Place>
+fn read_place(bus: &[u8], address: &[u8]) -> Result<Place, ScriptFault>
     ensures { result ≡ place_named bus.now address.now }
 {
-    let bus = read_number(bus)?;
-    let address = read_number(address)?;
-    Place::new(bus, address)
+    let bus = read_number(bus).ok_or(ScriptFault::BadArguments)?;
+    let address = read_number(address).ok_or(ScriptFault::BadArguments)?;
+    Place::new(bus, address).ok_or(ScriptFault::PlaceRange)
 }
 
 // Reads what stands behind `plug `.
 #[tactic(auto, unfolding(crate::specs::Commands::plug_of))]
 fn read_plug(alloc: Global, rest: &[u8]) -> Result<Command, ScriptFault>
-    ensures { GivesIfKnown result (plug_of rest.now) }
+    ensures { GivesCommand result (plug_of rest.now) }
 {
-    let Some((bus, rest)) = word(rest) else {
-        return Err(ScriptFault::UnknownCommand);
-    };
-    let Some((address, digits)) = word(rest) else {
-        return Err(ScriptFault::UnknownCommand);
-    };
-    let Some(place) = read_place(bus, address) else {
-        return Err(ScriptFault::UnknownCommand);
-    };
-    if digits.is_empty() {
-        return Err(ScriptFault::UnknownCommand);
+    let (bus, rest) = word(rest).ok_or(ScriptFault::BadArguments)?;
+    let (address, digits) = word(rest).ok_or(ScriptFault::BadArguments)?;
+    if digits.is_empty() || digits.contains(&b' ') {
+        return Err(ScriptFault::BadArguments);
     }
+    let place = read_place(bus, address)?;
     match hex_bytes(alloc, digits) {
         Ok(bytes) => Ok(Command::Plug(place, bytes)),
-        Err(HexFault::BadHex) => Err(ScriptFault::UnknownCommand),
+        Err(HexFault::BadHex) => Err(ScriptFault::BadHex),
         Err(HexFault::OutOfMemory) => Err(ScriptFault::OutOfMemory),
     }
 }
 
 // Reads what stands behind `unplug `.
-#[inline(always)]
 #[tactic(auto, unfolding(crate::specs::Commands::unplug_of))]
-fn read_unplug(rest: &[u8]) -> Option<Command>
+fn read_unplug(rest: &[u8]) -> Result<Command, ScriptFault>
     ensures { result ≡ unplug_of rest.now }
 {
-    let (bus, address) = word(rest)?;
-    let place = read_place(bus, address)?;
-    Some(Command::Unplug(place))
+    let (bus, address) = word(rest).ok_or(ScriptFault::BadArguments)?;
+    Ok(Command::Unplug(read_place(bus, address)?))
 }
 
-// Reads a line that is no comment. Its first word is compared and not searched for, which is faster.
-fn read_words(alloc: Global, line: &[u8]) -> Result<Command, ScriptFault>
-    ensures { GivesIfKnown result (words_of line.now) }
+// Reads what stands behind `config `.
+#[tactic(auto, unfolding(crate::specs::Commands::config_of))]
+fn read_config(rest: &[u8]) -> Result<Command, ScriptFault>
+    ensures { result ≡ config_of rest.now }
 {
-    if let Some(rest) = line.strip_prefix(b"plug ") {
-        return read_plug(alloc, rest);
-    }
-    match line.strip_prefix(b"unplug ") {
-        Some(rest) => read_unplug(rest).ok_or(ScriptFault::UnknownCommand),
-        None => Err(ScriptFault::UnknownCommand),
+    let size = read_number(rest).ok_or(ScriptFault::BadArguments)?;
+    Ok(Command::Config(size))
+}
+
+// Reads a line that is no comment.
+#[tactic(auto, unfolding(crate::specs::Commands::words_of))]
+fn read_words(alloc: Global, line: &[u8]) -> Result<Command, ScriptFault>
+    ensures { GivesCommand result (words_of line.now) }
+{
+    let (verb, rest) = split_verb(line);
+    match verb {
+        b"plug" => read_plug(alloc, rest),
+        b"unplug" => read_unplug(rest),
+        b"config" => read_config(rest),
+        _ => Err(ScriptFault::UnknownCommand),
     }
 }
 
 impl Command {
-    /// Reads the command of a line, without its newline. The line may hold any bytes, and `UnknownCommand` comes
-    /// exactly where it is no command in its form.
+    /// Reads the command of a line, without its newline. The line may hold any bytes.
     #[tactic(auto, unfolding(crate::specs::Commands::command_of))]
     pub fn read(alloc: Global, line: &[u8]) -> Result<Command, ScriptFault>
         ensures { GivesCommand result (command_of line.now) }

@@ -54,7 +54,7 @@ still_same earlier now has_changed changed i answer within inside same told give
 pub found_again : (names : List (List ℕ)) (rules : List Rule) (i : ℕ) (rule : Rule) (marks now earlier touched : List Bool) (has_changed asks : Bool)
     (mark : Option Bool) (answer : Bool) → i < length rules → i < 256 → rule ≡ get_or rules i rule
     → asks ≡ list_any asks_found rule.probe.words → mark ≡ earlier_mark earlier touched (has_changed && asks) i
-        → answer ≡ unwrap_or mark (marked_value rule.probe.words marks i names now)
+    → answer ≡ unwrap_or mark (marked_value rule.probe.words marks i names now)
     → (mark ≡ None → AreFew rule.probe.words) → ((n : ℕ) → i ≤ n → is_marked now n ≡ false) → AreNames names (names_of rules)
     → (has_changed ≡ false → take i now ≡ take i earlier) → (test : ℕ → ℕ → Bool) → AreTrue marks test → StillHold earlier touched rules test
     → answer ≡ value rule.probe.words (test i) (is_named_found rules (take i now))

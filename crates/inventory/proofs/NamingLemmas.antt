@@ -215,11 +215,11 @@ first_same one_first other_first one other ascend other_ascend one_in other_in =
     elim (or_cases (option_eq place_eq one_first other_first) (has_board other one_first) one_in) [
       | inl same ↦ board_same one_first other_first same
       | inr later ↦ elim (or_cases (option_eq place_eq other_first one_first) (has_board one other_first) other_in) [
-          | inl same ↦ sym (board_same other_first one_first same)
-          | inr behind ↦ absurd (not_itself one_first (boards_total.trans one_first other_first one_first
-              (all_has (λ board. option_cmp place_cmp one_first board ≡ Less) one other_first ascend.0 behind)
-              (all_has (λ board. option_cmp place_cmp other_first board ≡ Less) other one_first other_ascend.0 later)))
-        ]
+        | inl same ↦ sym (board_same other_first one_first same)
+        | inr behind ↦ absurd (not_itself one_first (boards_total.trans one_first other_first one_first
+            (all_has (λ board. option_cmp place_cmp one_first board ≡ Less) one other_first ascend.0 behind)
+            (all_has (λ board. option_cmp place_cmp other_first board ≡ Less) other one_first other_ascend.0 later)))
+      ]
     ]
 
 -- what is behind the first board is in what is behind it in the other list

@@ -1,6 +1,13 @@
 ghost use Rattle.std.specs.Prelude.{◌≡◌, ◌++◌, ◌+◌, ◌-◌, ℕ, map, min, option_map, option_to_list, sum_by};
 ghost use Rattle.inventory.specs.Limits.{
-    board_counts, fans_of, limit_of, no_totals, totals_after, totals_of, zones_of, GivesTotals
+  board_counts,
+  fans_of,
+  limit_of,
+  no_totals,
+  totals_after,
+  totals_of,
+  zones_of,
+  GivesTotals,
 };
 
 use crate::configs::config_at;
@@ -52,11 +59,7 @@ fn add_counts(sums: Counts, counts: Counts) -> Counts
 }
 
 // Counts the exposes of the boards with these keys, up to the greatest number.
-fn sum_counts<L: Ledger>(
-    shelf: &Shelf<L>,
-    plus: Option<&Config<L>>,
-    keys: &[BoardKey],
-) -> Counts
+fn sum_counts<L: Ledger>(shelf: &Shelf<L>, plus: Option<&Config<L>>, keys: &[BoardKey]) -> Counts
     ensures zones { result.zones ≡ min (zones_of (shelf.now ++ option_to_list (option_map (λ config. config.now) plus.entry)) keys.now) usize.MAX }
     ensures fans { result.fans ≡ min (fans_of (shelf.now ++ option_to_list (option_map (λ config. config.now) plus.entry)) keys.now) usize.MAX }
 {

@@ -6,7 +6,11 @@ use std::test::Fail;
 #[test]
 fn lines_of_refusals(rt: HostRuntime) -> Result<(), Fail> {
     let rows = [
+        (Refusal::LineTooLong, "LineTooLong"),
         (Refusal::UnknownCommand, "UnknownCommand"),
+        (Refusal::BadArguments, "BadArguments"),
+        (Refusal::PlaceRange, "PlaceRange"),
+        (Refusal::BadHex, "BadHex"),
         (Refusal::ConfigTooLong, "ConfigTooLong"),
         (Refusal::ConfigShort, "ConfigShort"),
         (Refusal::NotJson, "NotJson"),

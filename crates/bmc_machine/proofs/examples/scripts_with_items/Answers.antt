@@ -6,7 +6,7 @@ use Rattle.hex.proofs.OnLiterals.{hex_on_literals}
 use Rattle.bmc_text.specs.Items.{without_return, line_item, whole_block, whole_item, cut_most, cut}
 use Rattle.bmc_text.specs.Words.{digits as digits_in, number, block_size}
 use Rattle.bmc_text.specs.Hex.{hex_decoded}
-use Rattle.bmc_script.specs.Commands.{place_named, plug_of, unplug_of, words_of, command_of}
+use Rattle.bmc_script.specs.Commands.{place_named, plug_of, unplug_of, config_of as config_command, words_of, command_of}
 use Rattle.fru_area.specs.Headers.{header, area_at}
 use Rattle.fru_area.specs.Walks.{first_field, walk, raw_fields}
 use Rattle.fru_area.specs.Texts.{text_of}
@@ -44,7 +44,7 @@ use Rattle.bmc_machine.proofs.examples.scripts_with_items.Goals as goal
 pub returns : goal.returns
 unfolding chain_behind operand_digits operation_at fixed_number field_of word_of piece_at pieces_of is_template is_single uses_index rendered
     rendered_number body_of encode is_utf8 chars digits hex_on_literals without_return line_item whole_block whole_item cut_most cut block_size
-    hex_decoded digits_in number place_named plug_of unplug_of words_of command_of header area_at first_field walk raw_fields text_of name_text
+    hex_decoded digits_in number place_named plug_of unplug_of config_command words_of command_of header area_at first_field walk raw_fields text_of name_text
     area_fields area_text refusal_name refusal_text quoted field_row fru_row fields_of_area fields_at fields_under record_of kind_text change_text
     text_named serde_json_on_literals config_in config_of without_spaces between found_name term_of_word pattern_in read_from matches board_places boards_in
     boards kept changes_between standing answers final_list passed_limit board_keys boards_now items_now live_now items live items_less

@@ -1,29 +1,29 @@
-use Rattle.std.proofs.Common.{ap}
-use Rattle.std.specs.Prelude.{Some, None, codes}
-use Rattle.std.specs.Option.{ok_or}
-use Rattle.std.proofs.lemmas.Bool.Decides.{Decides-eqb}
-use Rattle.std.proofs.lemmas.Slice.Eq.{strip_prefix_is}
-use Rattle.bmc_script.specs.Commands.{unplug_of}
-use Rattle.bmc_script.specs.declared.command.ScriptFault.TheVariants.{UnknownCommand}
-use Rattle.bmc_script.proofs.CommandsLemmas.{known, plug_words, unplug_words, other_words}
+use Rattle.std.proofs.Common.{◌≡◌, ◌≢◌, ◌∙◌, sym, arith}
+use Rattle.std.specs.Prelude.{codes}
+use Rattle.bmc_script.specs.Commands.{words_of}
+use Rattle.bmc_script.proofs.CommandsLemmas.{as_read, other_words, six_bytes, verb_words}
 use Rattle.bmc_script.proofs.command.read_words.Goals as goal
 
-pub returns-in-Some : goal.returns-in-Some
-returns-in-Some c =
+pub returns-in-unplug : goal.returns-in-unplug
+returns-in-unplug c =
     let line = c.args.line.now in
-    let plugs = plug_words line c.in-Some.rest.now (strip_prefix_is Decides-eqb line (codes "plug ") (Some c.in-Some.rest) c.in-Some.ensures.cases) in
-    rw (plugs) c.read_plug.ensures
+    let words = c.split_verb.result in
+    let verb : words.0.now ≡ codes "unplug" = cc (six_bytes words.0.now (omega arith)) in
+    let read = verb_words line (words.0.now, words.1.now) (codes "unplug") c.split_verb.ensures verb in
+    as_read c.read_unplug.result (words_of line) (read ∙ sym c.read_unplug.ensures)
 
-pub returns-in-Some-strip_prefix : goal.returns-in-Some-strip_prefix
-returns-in-Some-strip_prefix c =
+pub returns-in-config : goal.returns-in-config
+returns-in-config c =
     let line = c.args.line.now in
-    let rest = c.in-Some-strip_prefix.rest in
-    let unplugs = unplug_words line rest.now (strip_prefix_is Decides-eqb line (codes "unplug ") (Some rest) c.in-Some-strip_prefix.ensures.cases) in
-    rw (c.ok_or.ensures.value, c.read_unplug.ensures, unplugs) (known (unplug_of rest.now))
+    let words = c.split_verb.result in
+    let verb : words.0.now ≡ codes "config" = cc (six_bytes words.0.now (omega arith)) in
+    let read = verb_words line (words.0.now, words.1.now) (codes "config") c.split_verb.ensures verb in
+    as_read c.read_config.result (words_of line) (read ∙ sym c.read_config.ensures)
 
-pub returns-in-None : goal.returns-in-None
-returns-in-None c =
-    let line = c.args.line.now in
-    let no_plug = strip_prefix_is Decides-eqb line (codes "plug ") None c.in_default.ensures.cases in
-    let no_unplug = strip_prefix_is Decides-eqb line (codes "unplug ") None c.in-None.ensures.cases in
-    ap (λ read. ok_or read UnknownCommand) (other_words line no_plug no_unplug)
+pub returns-in_default : goal.returns-in_default
+returns-in_default c =
+    let words = c.split_verb.result in
+    let no_plug : words.0.now ≢ codes "plug" = λ is. grind arith in
+    let no_unplug : words.0.now ≢ codes "unplug" = λ is. grind arith in
+    let no_config : words.0.now ≢ codes "config" = λ is. grind arith in
+    other_words c.args.line.now (words.0.now, words.1.now) c.split_verb.ensures no_plug no_unplug no_config

@@ -34,6 +34,6 @@ loop-number-preserved c =
             ∙ sym (ap (λ (has : Bool). so_far ++ cond has [] (item ∷ [])) (sym c.is_at.ensures ∙ w.if-not-is_at.true)) ∙ last
         | else-not-is_at w ↦
             w.list-is ∙ sym (append-nil so_far)
-                ∙ sym (ap (λ (has : Bool). so_far ++ cond has [] (item ∷ [])) (sym c.is_at.ensures ∙ w.if-not-is_at.false)) ∙ last
+            ∙ sym (ap (λ (has : Bool). so_far ++ cond has [] (item ∷ [])) (sym c.is_at.ensures ∙ w.if-not-is_at.false)) ∙ last
       ];
     }

@@ -86,14 +86,20 @@ returns-in-Err-clause-ok g c =
     ∙ ap Some (sym c.limit_refused.ensures) in
     let known = c.requires.known ∙ ap (λ (view : View). entry_of view.configs c.args.boxed.value.place c.args.boxed.value.fru) (sym c.self.view_is) in
     subst (λ (refusal : Option Refusal). AddsUnless refusal c.args.boxed.value.place c.args.boxed.value.fru c.args.self.now c.refuse.new.self)
-    (sym c.refuse.ensures.reason)
-    (subst (λ (view : View). view_refusal (with_fru view c.args.boxed.value.place c.args.boxed.value.fru) ≡ Some c.limit_refused.result) c.self.view_is
-    (ap (λ (entry : Entry). option_map limit_refusal (passed_limit c.self.inside.shelf (keys_of (length c.self.inside.shelf)
-    (boards_in c.self.inside.shelf (map entry_sight (with_entry entry c.self.inside.rows.entries)))))) (sym known) ∙ limit),
-    c.refuse.ensures.left
-    ∙ ap (λ (entries : List Entry). record { configs = c.self.inside.shelf; entries = entries; plugged = c.self.inside.plugged;
-    kept = c.self.inside.keep.kept; changes = [] }) c.in_ok-reserve.ensures.entries
-    ∙ ap (λ (view : View). record view { changes = [] }) c.self.view_is)
+    (sym c.refuse.ensures.reason) (
+      subst (λ (view : View). view_refusal (with_fru view c.args.boxed.value.place c.args.boxed.value.fru) ≡ Some c.limit_refused.result) c.self.view_is
+          (ap (λ (entry : Entry). option_map limit_refusal (passed_limit c.self.inside.shelf (keys_of (length c.self.inside.shelf)
+          (boards_in c.self.inside.shelf (map entry_sight (with_entry entry c.self.inside.rows.entries)))))) (sym known) ∙ limit),
+      c.refuse.ensures.left
+          ∙ ap (λ (entries : List Entry). record {
+            configs = c.self.inside.shelf;
+            entries = entries;
+            plugged = c.self.inside.plugged;
+            kept = c.self.inside.keep.kept;
+            changes = [];
+          }) c.in_ok-reserve.ensures.entries
+          ∙ ap (λ (view : View). record view { changes = [] }) c.self.view_is,
+    )
 
 -- ---- want of memory
 

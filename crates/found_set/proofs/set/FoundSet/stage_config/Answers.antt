@@ -36,7 +36,7 @@ invariant_of-self-2 g c =
     let told : c.evaluate-facts.result ≡ facts_after (ConfigEvent c.take_last-rule.result) rules rows =
     c.evaluate-facts.ensures.facts
     ∙ ap₂ (λ (rs : List Rule) (ws : List Row). facts rs (sights_of ws)) (c.deref-2.ensures.value ∙ pushed)
-        (c.of-rows.ensures ∙ append-nil _ ∙ c.deref.ensures.value)
+    (c.of-rows.ensures ∙ append-nil _ ∙ c.deref.ensures.value)
     ∙ ap (λ (r : Rule). facts_after (ConfigEvent r) rules rows) (sym kept.1) in
     let fresh : position (bytes_eq c.args.rule.name) names.names ≡ None =
     ap (position (bytes_eq c.args.rule.name)) (c.reserve.ensures.names ∙ c.self.invariant.named) ∙ number_by_name c.args.rule.name rules
@@ -57,7 +57,7 @@ evaluate-facts-requires-clause-earlier g c =
     let before : length c.self.inside.rules.items < 256 = subst (λ (v : SetView). length v.rules < 256) (sym c.self.view_is) c.requires.few in
     let few : length c.deref-2.result.now ≤ 256 =
     subst (λ (rs : List Rule). length rs ≤ 256) (sym (c.deref-2.ensures.value ∙ pushed))
-        (omega (arith, before, length-append c.self.inside.rules.items (c.args.rule ∷ []))) in
+    (omega (arith, before, length-append c.self.inside.rules.items (c.args.rule ∷ []))) in
     nothing_holds _ _ c.deref-2.result.now (matched_by (roots (sights_of c.of-rows.result))) few c.nothing.ensures
 
 pub returns-clause-ok : goal.returns-clause-ok
@@ -66,7 +66,7 @@ returns-clause-ok g c =
     ∙ ap (λ (rs : List Rule). rs ++ c.args.rule ∷ []) c.reserve-2.ensures.items in
     c.evaluate-facts.ensures.facts
     ∙ ap₂ (λ (rs : List Rule) (ws : List Row). facts rs (sights_of ws)) (c.deref-2.ensures.value ∙ pushed)
-        (c.of-rows.ensures ∙ append-nil _ ∙ c.deref.ensures.value)
+    (c.of-rows.ensures ∙ append-nil _ ∙ c.deref.ensures.value)
     ∙ ap (λ (v : SetView). facts_after (ConfigEvent c.args.rule) v.rules v.rows) c.self.view_is
 
 pub returns-clause-staged : goal.returns-clause-staged
@@ -77,7 +77,7 @@ returns-clause-staged g c =
     let kept = back rules _ c.take_last-rule.new.self.items c.args.rule c.take_last-rule.result pushed c.take_last-rule.ensures.items in
     let told = c.evaluate-facts.ensures.facts
     ∙ ap₂ (λ (rs : List Rule) (ws : List Row). facts rs (sights_of ws)) (c.deref-2.ensures.value ∙ pushed)
-        (c.of-rows.ensures ∙ append-nil _ ∙ c.deref.ensures.value)
+    (c.of-rows.ensures ∙ append-nil _ ∙ c.deref.ensures.value)
     ∙ ap (λ (v : SetView). facts_after (ConfigEvent c.args.rule) v.rules v.rows) c.self.view_is in
     seen_with c.args.self.now c.take_last-rule.new.self.items c.self.inside.rows.items c.self.inside.facts c.of.result _ (kept.0
     ∙ ap (λ (v : SetView). v.rules) c.self.view_is) (ap (λ (v : SetView). v.rows) c.self.view_is) (ap (λ (v : SetView). v.facts) c.self.view_is)

@@ -18,7 +18,7 @@ pub invariant_of-self-2 : goal.invariant_of-self-2
 invariant_of-self-2 g c =
     let room : vec_len c.reserve.new.self < vec_capacity c.reserve.new.self = omega (arith, c.in_ok-reserve.ensures.ok) in
     let same : c.args.self.now.rows ≡ c.reserve.new.self.items =
-        sym (◌∙◌ {A = List Row} c.reserve.ensures.items (ap (λ (v : SetView). v.rows) c.self.view_is)) in
+    sym (◌∙◌ {A = List Row} c.reserve.ensures.items (ap (λ (v : SetView). v.rows) c.self.view_is)) in
     let free = subst (λ (rows : List Row). holds_place rows c.args.row.place ≡ false) same c.requires.new in
     let next = c.requires.facts ∙ ap (λ (v : SetView). facts_after (PlugEvent c.args.row) v.rules v.rows) (sym c.self.view_is) in
     sound_with c.self.inside c.self.inside.names c.self.inside.rules c.reserve.new.self _ c.self.invariant refl refl c.reserve.ensures.items
