@@ -51,10 +51,12 @@ CUSTOM = re.compile(r"(?:CHASSIS|BOARD|PRODUCT)_INFO_AM([1-9][0-9]{0,3})")
 MOST_CUSTOM = 2040
 NUMBER = re.compile(r"[0-9]{1,9}|0x[0-9A-Fa-f]{1,4}")
 DECIMAL = re.compile(r"(-?)([0-9]{1,10})(?:\.([0-9]{1,3}))?")
-NOT_READ = ("Sensor", "Pid", "Stepwise")
+NOT_READ = ("Pid", "Stepwise")
+MILLION, MOST_THRESHOLDS, DIRECTIONS = 1_000_000, 8, ("greater than", "less than")
 # The families of items that are live: the type of their exposes, their word, how many exposes there are at most over
-# all boards, and the refusal of one more.
-FAMILIES = [("Pid.Zone", "zone", 32, "ZoneLimit"), ("Fan", "fan", 128, "FanLimit")]
+# all boards, and the refusal of one more. The limits are tried in this order.
+FAMILIES = [("Sensor", "sensor", 4096, "SensorLimit"), ("Pid.Zone", "zone", 32, "ZoneLimit")]
+FAMILIES += [("Fan", "fan", 128, "FanLimit")]
 END = 0xC1
 ENGLISH = (0, 25)
 BCD_PLUS = "0123456789 -.:,_"
@@ -360,25 +362,37 @@ def led_by(template, texts):
     return number if number <= 255 else None
 
 
-def channel_of(value):
-    """The bus to which a fixed channel leads, or the template of a moving one."""
+def number_of(value, most):
+    """A number from 0 to the most, or the template of one."""
     demand("WrongKind", isinstance(value, str) or type(value) is int)
     if isinstance(value, str):
         single = SUBSTITUTION.fullmatch(value)
         short = len(value.encode()) <= LONGEST_TEMPLATE
-        demand("TemplateSyntax", NUMBER.fullmatch(value) or single and short and single[1] != "index")
+        demand("TemplateSyntax", NUMBER.fullmatch(value) or single and short)
         if single:
             check_template(value)
             return value
         value = int(value, 16 if value.startswith("0x") else 10)
-    demand("OutOfRange", 0 <= value <= 255)
+    demand("OutOfRange", 0 <= value <= most)
     return value
 
 
-def check_decimal(expose, key, least, most):
+def channel_of(value):
+    """The bus to which a fixed channel leads, or the template of a moving one, which has no index."""
+    channel = number_of(value, 255)
+    demand("TemplateSyntax", isinstance(channel, int) or SUBSTITUTION.fullmatch(channel)[1] != "index")
+    return channel
+
+
+def check_whole(value, least, most):
+    """A whole number in a range."""
+    demand("WrongKind", type(value) is int)
+    demand("OutOfRange", least <= value <= most)
+
+
+def check_decimal(value, least, most):
     """A decimal from and to so many units."""
-    value = member(expose, key, (str, int))
-    demand("WrongKind", type(value) is not bool)
+    demand("WrongKind", isinstance(value, str) or type(value) is int)
     if isinstance(value, str):
         found = DECIMAL.fullmatch(value)
         demand("WrongKind", found)
@@ -387,6 +401,41 @@ def check_decimal(expose, key, least, most):
     else:
         value *= 1000
     demand("OutOfRange", 1000 * least <= value <= 1000 * most)
+
+
+def check_direction(value):
+    """The direction of a threshold."""
+    demand("WrongKind", isinstance(value, str))
+    demand("OutOfRange", value in DIRECTIONS)
+
+
+def check_thresholds(value):
+    """A list of thresholds."""
+    demand("WrongKind", isinstance(value, list))
+    demand("OutOfRange", len(value) <= MOST_THRESHOLDS)
+    for it in value:
+        demand("WrongKind", isinstance(it, dict))
+        check_members(it, THRESHOLD)
+
+
+# The members of a threshold, and of exposes by their type, in the order in which they are looked at: the key, whether
+# it has to be there, what checks its value, and the bounds of this.
+THRESHOLD = [("Direction", True, check_direction), ("Severity", True, check_whole, 0, 1)]
+THRESHOLD += [("Value", True, check_decimal, -MILLION, MILLION), ("Hysteresis", False, check_decimal, 0, MILLION)]
+ZONE = [("MinThermalOutput", True, check_decimal, -MILLION, MILLION), ("FailSafePercent", True, check_decimal, 0, 100)]
+SENSOR = [("Bus", False, number_of, 255), ("Address", False, number_of, 127)]
+SENSOR += [("ScaleNum", False, check_whole, -MILLION, MILLION), ("ScaleDen", False, check_whole, 1, MILLION)]
+SENSOR += [("Offset", False, check_decimal, -MILLION, MILLION), ("Timeout", False, check_whole, 0, MILLION)]
+SENSOR += [("Thresholds", False, check_thresholds)]
+MEMBERS = {"Sensor": SENSOR, "Pid.Zone": ZONE}
+
+
+def check_members(value, members):
+    """The members of an object."""
+    for key, wanted, check, *bounds in members:
+        demand("MissingKey", key in value or not wanted)
+        if key in value:
+            check(value[key], *bounds)
 
 
 def channels_of(mux):
@@ -403,9 +452,7 @@ def expose_of(expose):
     check_template(name)
     kind = text_in(expose, "Type", 64)
     demand("ExposeForm", kind not in NOT_READ)
-    if kind == "Pid.Zone":
-        check_decimal(expose, "MinThermalOutput", -1_000_000, 1_000_000)
-        check_decimal(expose, "FailSafePercent", 0, 100)
+    check_members(expose, MEMBERS.get(kind, []))
     return Expose(name, kind, channels_of(expose) if kind == "Mux" else [])
 
 

@@ -14,7 +14,7 @@ use Rattle.cfg_json.specs.Configs.{Config}
 use Rattle.cfg_json.specs.Shelves.{most_configs, number_of}
 use Rattle.inventory.specs.Boards.{boards_in}
 use Rattle.inventory.specs.Differences.{key_of}
-use Rattle.inventory.specs.Limits.{most_boards, most_zones, most_fans, board_counts, passed_limit}
+use Rattle.inventory.specs.Limits.{most_boards, most_sensors, most_zones, most_fans, board_counts, passed_limit}
 use Rattle.inventory.specs.Lists.{keys_of}
 use Rattle.inventory.specs.declared.board.BoardKey.{BoardKey}
 use Rattle.inventory.specs.declared.fault.InventoryFault.{InventoryFault}
@@ -25,11 +25,12 @@ use Rattle.bmc_machine.specs.Histories.{Step, Configure, Plug, RefusedPlug, Unpl
 use Rattle.bmc_machine.specs.Refusals.{limit_refusal, refusal_by_limit, ◌or_else◌, IsLegalStep, IsLegal}
 use Rattle.bmc_machine.proofs.FewerLemmas.{boards_fewer}
 
--- the limits, by how many boards, zones and fans there are
-abbrev passed_by : ℕ → ℕ → ℕ → Option InventoryFault
-passed_by boards zones fans =
+-- the limits, by how many boards, sensors, zones and fans there are
+abbrev passed_by : ℕ → ℕ → ℕ → ℕ → Option InventoryFault
+passed_by boards sensors zones fans =
     cond (nat_lt most_boards boards) (Some limits.BoardLimit)
-    (cond (nat_lt most_zones zones) (Some limits.ZoneLimit) (cond (nat_lt most_fans fans) (Some limits.FanLimit) None))
+    (cond (nat_lt most_sensors sensors) (Some limits.SensorLimit)
+    (cond (nat_lt most_zones zones) (Some limits.ZoneLimit) (cond (nat_lt most_fans fans) (Some limits.FanLimit) None)))
 
 -- what is no refusal is no limit
 no_limit : (passed : Option InventoryFault) → option_map limit_refusal passed ≡ None → passed ≡ None
@@ -37,29 +38,33 @@ no_limit None none = refl
 no_limit (Some fault) none = absurd (cc)
 
 -- with no more of each, no limit is passed that was not
-none_more : (boards zones fans few_boards few_zones few_fans : ℕ) → few_boards ≤ boards → few_zones ≤ zones → few_fans ≤ fans
-    → passed_by boards zones fans ≡ None → passed_by few_boards few_zones few_fans ≡ None
-none_more boards zones fans few_boards few_zones few_fans fewer_boards fewer_zones fewer_fans =
-    by (nat_lt most_boards boards) refl (nat_lt most_zones zones) refl (nat_lt most_fans fans) refl
+none_more : (boards sensors zones fans few_boards few_sensors few_zones few_fans : ℕ) → few_boards ≤ boards → few_sensors ≤ sensors
+    → few_zones ≤ zones → few_fans ≤ fans → passed_by boards sensors zones fans ≡ None → passed_by few_boards few_sensors few_zones few_fans ≡ None
+none_more boards sensors zones fans few_boards few_sensors few_zones few_fans fewer_boards fewer_sensors fewer_zones fewer_fans =
+    by (nat_lt most_boards boards) refl (nat_lt most_sensors sensors) refl (nat_lt most_zones zones) refl (nat_lt most_fans fans) refl
   where
     within : (most many few : ℕ) → few ≤ many → nat_lt most many ≡ false → nat_lt most few ≡ false
     within most many few fewer none = grind (arith, nat_tests, fewer, none)
 
-    none_passed : nat_lt most_boards few_boards ≡ false → nat_lt most_zones few_zones ≡ false → nat_lt most_fans few_fans ≡ false
-        → passed_by few_boards few_zones few_fans ≡ None
-    none_passed board zone fan =
-        λ i. cond (board i) (Some limits.BoardLimit) (cond (zone i) (Some limits.ZoneLimit) (cond (fan i) (Some limits.FanLimit) None))
+    of : Bool → Bool → Bool → Bool → Option InventoryFault
+    of board sensor zone fan =
+        cond board (Some limits.BoardLimit)
+        (cond sensor (Some limits.SensorLimit) (cond zone (Some limits.ZoneLimit) (cond fan (Some limits.FanLimit) None)))
 
-    by : (board : Bool) → nat_lt most_boards boards ≡ board → (zone : Bool) → nat_lt most_zones zones ≡ zone
-        → (fan : Bool) → nat_lt most_fans fans ≡ fan
-        → cond board (Some limits.BoardLimit) (cond zone (Some limits.ZoneLimit) (cond fan (Some limits.FanLimit) None)) ≡ None
-        → passed_by few_boards few_zones few_fans ≡ None
-    by true is_board zone is_zone fan is_fan none = absurd (cc)
-    by false is_board true is_zone fan is_fan none = absurd (cc)
-    by false is_board false is_zone true is_fan none = absurd (cc)
-    by false is_board false is_zone false is_fan none =
-        none_passed (within most_boards boards few_boards fewer_boards is_board) (within most_zones zones few_zones fewer_zones is_zone)
-        (within most_fans fans few_fans fewer_fans is_fan)
+    none_passed : nat_lt most_boards few_boards ≡ false → nat_lt most_sensors few_sensors ≡ false → nat_lt most_zones few_zones ≡ false
+        → nat_lt most_fans few_fans ≡ false → passed_by few_boards few_sensors few_zones few_fans ≡ None
+    none_passed board sensor zone fan = λ i. of (board i) (sensor i) (zone i) (fan i)
+
+    by : (board : Bool) → nat_lt most_boards boards ≡ board → (sensor : Bool) → nat_lt most_sensors sensors ≡ sensor
+        → (zone : Bool) → nat_lt most_zones zones ≡ zone → (fan : Bool) → nat_lt most_fans fans ≡ fan → of board sensor zone fan ≡ None
+        → passed_by few_boards few_sensors few_zones few_fans ≡ None
+    by true is_board sensor is_sensor zone is_zone fan is_fan none = absurd (cc)
+    by false is_board true is_sensor zone is_zone fan is_fan none = absurd (cc)
+    by false is_board false is_sensor true is_zone fan is_fan none = absurd (cc)
+    by false is_board false is_sensor false is_zone true is_fan none = absurd (cc)
+    by false is_board false is_sensor false is_zone false is_fan none =
+        none_passed (within most_boards boards few_boards fewer_boards is_board) (within most_sensors sensors few_sensors fewer_sensors is_sensor)
+        (within most_zones zones few_zones fewer_zones is_zone) (within most_fans fans few_fans fewer_fans is_fan)
 
 -- ---- fewer boards
 
@@ -97,7 +102,10 @@ length_total (key ∷ keys) =
     let more = sum_by-cons (λ (key : BoardKey). 1) key keys in
     omega (arith, rest, more)
 
--- the zones and the fans among the exposes of a configuration
+-- the sensors, the zones and the fans among the exposes of a configuration
+abbrev sensors_of : List Config → ℕ → ℕ
+sensors_of configs number = (board_counts configs (record { config = number; place = None })).sensors
+
 abbrev zones_of : List Config → ℕ → ℕ
 zones_of configs number = (board_counts configs (record { config = number; place = None })).zones
 
@@ -105,7 +113,7 @@ abbrev fans_of : List Config → ℕ → ℕ
 fans_of configs number = (board_counts configs (record { config = number; place = None })).fans
 
 passed_is : (configs : List Config) (keys : List BoardKey)
-    → passed_limit configs keys ≡ passed_by (length keys) (total (zones_of configs) keys) (total (fans_of configs) keys)
+    → passed_limit configs keys ≡ passed_by (length keys) (total (sensors_of configs) keys) (total (zones_of configs) keys) (total (fans_of configs) keys)
 unfolding passed_limit
 passed_is configs keys = refl
 
@@ -113,9 +121,10 @@ pub keys_fewer : (configs : List Config) (count : ℕ) (few many : ℕ → List 
     → passed_limit configs (keys_of count many) ≡ None → passed_limit configs (keys_of count few) ≡ None
 keys_fewer configs count few many fewer none =
     passed_is configs (keys_of count few)
-    ∙ none_more (length (keys_of count many)) (total (zones_of configs) (keys_of count many)) (total (fans_of configs) (keys_of count many))
-    (length (keys_of count few)) (total (zones_of configs) (keys_of count few)) (total (fans_of configs) (keys_of count few))
-    less_boards (total_fewer (zones_of configs) few many fewer (range_with_len 0 count)) (total_fewer (fans_of configs) few many fewer (range_with_len 0 count))
+    ∙ none_more (length (keys_of count many)) (total (sensors_of configs) (keys_of count many)) (total (zones_of configs) (keys_of count many))
+    (total (fans_of configs) (keys_of count many)) (length (keys_of count few)) (total (sensors_of configs) (keys_of count few))
+    (total (zones_of configs) (keys_of count few)) (total (fans_of configs) (keys_of count few)) less_boards
+    (total_fewer (sensors_of configs) few many fewer (range_with_len 0 count)) (total_fewer (zones_of configs) few many fewer (range_with_len 0 count)) (total_fewer (fans_of configs) few many fewer (range_with_len 0 count))
     (sym (passed_is configs (keys_of count many)) ∙ none)
   where
     less_boards : length (keys_of count few) ≤ length (keys_of count many)

@@ -40,9 +40,14 @@ own_ids_left test (first ∷ items) differ = by (test first) (own_ids_left test 
 live_is : (family : Family) (items : List Item) (id : ItemId) (name : List ℕ) (part : ItemPart)
     → is_of family (record { id = id; name = name; part = part }) ≡ true
     → is_live items (record { id = id; name = name; part = part }) ≡ is_item id (holder items family name)
-live_is families.Fan items id name parts.Fan is = refl
+live_is families.Sensor items id name (parts.Sensor sensor) is = refl
 live_is families.Zone items id name (parts.Zone setting) is = refl
+live_is families.Fan items id name parts.Fan is = refl
+live_is families.Sensor items id name (parts.Zone setting) is = absurd (cc)
+live_is families.Sensor items id name parts.Fan is = absurd (cc)
+live_is families.Zone items id name (parts.Sensor sensor) is = absurd (cc)
 live_is families.Zone items id name parts.Fan is = absurd (cc)
+live_is families.Fan items id name (parts.Sensor sensor) is = absurd (cc)
 live_is families.Fan items id name (parts.Zone setting) is = absurd (cc)
 live_is family items id name (parts.Mux part) is = absurd (cc)
 live_is family items id name parts.Passive is = absurd (cc)

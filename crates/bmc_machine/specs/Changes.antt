@@ -39,6 +39,7 @@ boards_left gone here there = map (board_change gone here.configs here.kept) (ke
 
 -- what the part of a live item is called
 abbrev pub kind_of : ItemPart → Option LiveKind
+kind_of (parts.Sensor item) = Some kinds.Sensor
 kind_of parts.Fan = Some kinds.Fan
 kind_of (parts.Zone setting) = Some kinds.Zone
 kind_of (parts.Mux part) = None

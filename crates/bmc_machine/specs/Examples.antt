@@ -68,7 +68,7 @@ abbrev pub no_word : List ℕ
 no_word = codes "{\"Name\":\"A\",\"Probe\":\"TRU\"}"
 
 abbrev pub unread : List ℕ
-unread = codes "{\"Name\":\"A\",\"Probe\":\"TRUE\",\"Exposes\":[{\"Name\":\"X\",\"Type\":\"Sensor\"}]}"
+unread = codes "{\"Name\":\"A\",\"Probe\":\"TRUE\",\"Exposes\":[{\"Name\":\"X\",\"Type\":\"Pid\"}]}"
 
 abbrev pub no_template : List ℕ
 no_template = codes "{\"Name\":\"A\",\"Probe\":\"TRUE\",\"Exposes\":[{\"Name\":\"$foo\",\"Type\":\"Fan\"}]}"

@@ -17,7 +17,7 @@ use Rattle.bmc_report.specs.declared.refusal.Refusal.TheVariants.{TemplateSyntax
 use Rattle.bmc_report.specs.declared.refusal.Refusal.TheVariants.{DuplicateName, ConfigLimit, Occupied}
 use Rattle.bmc_report.specs.declared.refusal.Refusal.TheVariants.{FruShort, FruTooLong, HeaderVersion, HeaderChecksum, AreaOutside, AreaVersion}
 use Rattle.bmc_report.specs.declared.refusal.Refusal.TheVariants.{AreaLength, AreaChecksum, FieldOutside, NoEnd, FruLimit}
-use Rattle.bmc_report.specs.declared.refusal.Refusal.TheVariants.{BoardLimit, ZoneLimit, FanLimit, NotPresent}
+use Rattle.bmc_report.specs.declared.refusal.Refusal.TheVariants.{BoardLimit, SensorLimit, ZoneLimit, FanLimit, NotPresent}
 use Rattle.inventory.specs.Limits.{passed_limit}
 use Rattle.inventory.specs.declared.fault.InventoryFault.{InventoryFault}
 use Rattle.inventory.specs.declared.fault.InventoryFault.TheVariants as limits
@@ -74,6 +74,7 @@ plug_refusal is_full (Err rule) = record_refusal rule
 -- the refusal by a limit of the inventory
 abbrev pub limit_refusal : InventoryFault → Refusal
 limit_refusal limits.BoardLimit = BoardLimit
+limit_refusal limits.SensorLimit = SensorLimit
 limit_refusal limits.ZoneLimit = ZoneLimit
 limit_refusal limits.FanLimit = FanLimit
 

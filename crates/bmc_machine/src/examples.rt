@@ -32,7 +32,7 @@ pub fn scripts_with_configs()
     ensures refused { out [] (config (codes "27") always_found ++ config (codes "27") always_found ++ plug bus_20_80 chassis
         ++ config (codes "55") never_found ++ unplug bus_20_80)
         ≡ codes "0 new board \"A\" 1\n" ++ refused (codes "2") (codes "DuplicateName") ++ refused (codes "4") (codes "ConfigAfterPlug") }
-    ensures broken { out [] (config (codes "26") no_word ++ config (codes "68") unread ++ config (codes "68") no_template)
+    ensures broken { out [] (config (codes "26") no_word ++ config (codes "65") unread ++ config (codes "68") no_template)
         ≡ refused (codes "1") (codes "ProbeSyntax") ++ refused (codes "2") (codes "ExposeForm") ++ refused (codes "3") (codes "TemplateSyntax") }
     ensures large { out (Accepted ∷ LargePattern (codes "RSR") ∷ []) (config (codes "27") always_found ++ config (codes "83") finds_riser)
         ≡ codes "0 new board \"A\" 1\n" ++ refused (codes "2") (codes "PatternTooLarge") }

@@ -16,7 +16,7 @@ use Rattle.cfg_json.specs.declared.counts.Counts.{Counts}
 use Rattle.inventory.specs.Boards.{boards_in, has_board}
 use Rattle.inventory.specs.Differences.{key_of, keys_left}
 use Rattle.inventory.specs.Indexes.{except}
-use Rattle.inventory.specs.Limits.{board_counts, totals_of, totals_after, zones_of, fans_of}
+use Rattle.inventory.specs.Limits.{board_counts, totals_of, totals_after, sensors_of, zones_of, fans_of}
 use Rattle.inventory.specs.Lists.{keys_of}
 use Rattle.inventory.specs.declared.board.BoardKey.{BoardKey}
 use Rattle.inventory.specs.declared.limits.Totals.{Totals}
@@ -36,7 +36,7 @@ slice_front (config ∷ configs) more (suc number) few = slice_front configs mor
 counts_front : (configs more : List Config) (key : BoardKey) → key.config < length configs
     → board_counts (configs ++ more) key ≡ board_counts configs key
 counts_front configs more key few =
-    ap (λ (found : Option Config). unwrap_or (option_map (λ (config : Config). counts_of config.exposes) found) (record { zones = 0; fans = 0 }))
+    ap (λ (found : Option Config). unwrap_or (option_map (λ (config : Config). counts_of config.exposes) found) (record { sensors = 0; zones = 0; fans = 0 }))
     (slice_front configs more key.config few)
 
 sum_alike : (test other : BoardKey → ℕ) (count : ℕ) (keys : List BoardKey) → AreWithin keys count
@@ -52,10 +52,16 @@ totals_front : (configs more : List Config) (keys : List BoardKey) → AreWithin
     → totals_of configs keys ≡ totals_of (configs ++ more) keys
 totals_front configs more keys within = λ i. record {
   boards = length keys;
+  sensors = sensors_same i;
   zones = zones_same i;
   fans = fans_same i;
 }
   where
+    sensors_same : sensors_of configs keys ≡ sensors_of (configs ++ more) keys
+    sensors_same =
+        sum_alike (λ key. (board_counts configs key).sensors) (λ key. (board_counts (configs ++ more) key).sensors) (length configs) keys within
+        (λ key few. ap (λ (counts : Counts). counts.sensors) (sym (counts_front configs more key few)))
+
     zones_same : zones_of configs keys ≡ zones_of (configs ++ more) keys
     zones_same =
         sum_alike (λ key. (board_counts configs key).zones) (λ key. (board_counts (configs ++ more) key).zones) (length configs) keys within

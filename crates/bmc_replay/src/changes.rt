@@ -189,6 +189,7 @@ fn item_change(gone: bool, item: &Item) -> Option<Change>
     ensures { result ≡ item_change gone item.now }
 {
     let kind = match &item.part {
+        ItemPart::Sensor(_) => LiveKind::Sensor,
         ItemPart::Fan => LiveKind::Fan,
         ItemPart::Zone(_) => LiveKind::Zone,
         ItemPart::Mux(_) | ItemPart::Passive => return None,

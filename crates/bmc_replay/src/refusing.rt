@@ -72,6 +72,7 @@ pub fn limit_refused(fault: InventoryFault) -> Refusal
 {
     match fault {
         InventoryFault::BoardLimit => Refusal::BoardLimit,
+        InventoryFault::SensorLimit => Refusal::SensorLimit,
         InventoryFault::ZoneLimit => Refusal::ZoneLimit,
         InventoryFault::FanLimit => Refusal::FanLimit,
     }

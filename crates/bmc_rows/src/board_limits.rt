@@ -1,16 +1,21 @@
-use crate::play::Part::{Config, Many, Repeats, Text};
-use crate::play::{ALWAYS, Row, play, play_rows};
+use crate::play::Part::{self, Config, Many, Repeats, Text};
+use crate::play::{ALWAYS, Row, play, play_rows, script_of};
 use bmc_base::OutOfMemory;
 use bmc_replay::Status::{Done, Refused};
 use std::alloc::Global;
 use std::fmt::Write;
 use std::test::Fail;
 
-// What a document begins with that is always found, and one that finds each FRU; a zone and a fan with a comma, and
-// what stands behind the last expose.
+// What a document begins with that is always found, and others that find each FRU; a sensor, a zone and a fan with a
+// comma, and what stands behind the last expose.
 const ALWAYS_HEAD: &str = r#"{"Name":"T","Probe":"TRUE","Exposes":["#;
 
 const EACH_HEAD: &str = r#"{"Name":"E","Probe":"xyz.openbmc_project.FruDevice({})","Exposes":["#;
+
+const EACH_AS_D_HEAD: &str =
+    r#"{"Name":"D","Probe":"xyz.openbmc_project.FruDevice({})","Exposes":["#;
+
+const SENSOR: &str = r#"{"Name":"S","Type":"Sensor"},"#;
 
 const ZONE: &str = r#"{"Name":"Z","Type":"Pid.Zone","MinThermalOutput":0,"FailSafePercent":100},"#;
 
@@ -262,6 +267,121 @@ fru 30 80$
 fn zones_and_fans_are_few(rt: HostRuntime) -> Result<(), Fail> {
     play_rows(&rt, rt.alloc(), &CONFIGURATIONS)?;
     play_rows(&rt, rt.alloc(), &PLUGS)
+}
+
+// Appends a configuration that is always found, with so many sensors.
+fn push_sensors(
+    script: &mut Vec<u8>,
+    alloc: Global,
+    name: u32,
+    count: usize,
+) -> Result<(), OutOfMemory> {
+    let mut document = format!(in alloc; "{{\"Name\":\"{name}\",\"Probe\":\"TRUE\",\"Exposes\":[")?;
+    for _ in 0..count {
+        document.push_str(SENSOR)?;
+    }
+    document.push_str(LAST)?;
+    let size = document.len();
+    let line = format!(in alloc; "config {size}\n")?;
+    script.extend_from_slice(line.as_bytes())?;
+    script.extend_from_slice(document.as_bytes())?;
+    Ok(())
+}
+
+// Configurations with 4,080 sensors, 255 more, 16 more, and one more; then zones, and sensors with too many zones.
+#[test]
+fn configurations_have_few_sensors(rt: HostRuntime) -> Result<(), Fail> {
+    let mut script = Vec::new(rt.alloc());
+    let mut text = String::from_str(rt.alloc(), "0 new board \"0\" 1\n0 new sensor \"S\"\n")?;
+    for name in 0..17u32 {
+        push_sensors(&mut script, rt.alloc(), name, 255)?;
+    }
+    for name in 1..16u32 {
+        write!(text, "0 new board \"{name}\" 1\n")?;
+    }
+    push_sensors(&mut script, rt.alloc(), 18, 16)?;
+    push_sensors(&mut script, rt.alloc(), 19, 1)?;
+    let behind = [
+        Config(ONE_ZONE),
+        Repeats(
+            r#"{"Name":"T","Probe":"TRUE","Exposes":[{"Name":"T","Type":"Sensor"},"#,
+            ZONE,
+            33,
+            LAST,
+        ),
+        Repeats(ALWAYS_HEAD, ZONE, 33, LAST),
+    ];
+    let behind = script_of(rt.alloc(), &behind)?;
+    script.extend_from_slice(behind.as_slice())?;
+    text.push_str(
+        "line 17 refused SensorLimit\n0 new board \"18\" 1\nline 19 refused SensorLimit\n",
+    )?;
+    text.push_str("0 new board \"Y\" 1\n0 new zone \"Y\"\n")?;
+    text.push_str("line 21 refused SensorLimit\nline 22 refused ZoneLimit\n")?;
+    play(&rt, rt.alloc(), script.as_slice(), Refused, text.as_str())
+}
+
+// A script of these parts, and of 17 FRUs at the addresses 0 to 16 of bus 1.
+fn script_with_frus(alloc: Global, parts: &[Part]) -> Result<Vec<u8>, OutOfMemory> {
+    let mut script = script_of(alloc, parts)?;
+    for address in 0..17u32 {
+        let line = format!(in alloc; "plug 1 {address} 01000000000000FF\n")?;
+        script.extend_from_slice(line.as_bytes())?;
+    }
+    Ok(script)
+}
+
+// 16 sensors of a configuration and 255 of each of 16 FRUs are as many as may be. Where a FRU goes, the last one comes.
+#[test]
+fn frus_have_few_sensors(rt: HostRuntime) -> Result<(), Fail> {
+    let parts = [
+        Repeats(ALWAYS_HEAD, SENSOR, 16, LAST),
+        Repeats(EACH_HEAD, SENSOR, 255, LAST),
+    ];
+    let mut script = script_with_frus(rt.alloc(), &parts)?;
+    script.extend_from_slice(
+        b"unplug 1 3\nplug 1 16 01000000000000FF\nplug 1 3 01000000000000FF\n",
+    )?;
+    let mut text = String::from_str(rt.alloc(), "0 new board \"T\" 1\n0 new sensor \"S\"\n")?;
+    for address in 0..16u32 {
+        write!(text, "0 new board \"E\" {} at 1 {address}\n", address + 1)?;
+    }
+    text.push_str("line 19 refused SensorLimit\n0 gone board \"E\" 4 at 1 3\n")?;
+    text.push_str("0 new board \"E\" 17 at 1 16\nline 22 refused SensorLimit\n")?;
+    for address in 0..17u32 {
+        if address != 3 {
+            write!(text, "fru 1 {address}\n")?;
+        }
+    }
+    play(&rt, rt.alloc(), script.as_slice(), Refused, text.as_str())
+}
+
+// With the last FRU there would be too many sensors and too many zones.
+#[test]
+fn sensors_are_counted_before_zones(rt: HostRuntime) -> Result<(), Fail> {
+    let parts = [
+        Repeats(EACH_AS_D_HEAD, ZONE, 2, LAST),
+        Repeats(EACH_HEAD, SENSOR, 255, LAST),
+    ];
+    let script = script_with_frus(rt.alloc(), &parts)?;
+    let mut text = String::new(rt.alloc());
+    for address in 0..16u32 {
+        for name in ["D", "E"] {
+            write!(
+                text,
+                "0 new board \"{name}\" {} at 1 {address}\n",
+                address + 1
+            )?;
+        }
+        if address == 0 {
+            text.push_str("0 new zone \"Z\"\n0 new sensor \"S\"\n")?;
+        }
+    }
+    text.push_str("line 19 refused SensorLimit\n")?;
+    for address in 0..16u32 {
+        write!(text, "fru 1 {address}\n")?;
+    }
+    play(&rt, rt.alloc(), script.as_slice(), Refused, text.as_str())
 }
 
 // How many FRUs come in the scripts of many boards, and how many configurations find each of them.

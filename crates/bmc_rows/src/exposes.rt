@@ -184,7 +184,8 @@ const TEMPLATE_SYNTAX: &[Part] = &[
     // before a type that is wrong, missing or not read
     Config(r#"{"Name":"A","Probe":"TRUE","Exposes":[{"Name":"$x","Type":5}]}"#),
     Config(r#"{"Name":"A","Probe":"TRUE","Exposes":[{"Name":"$x"}]}"#),
-    Config(r#"{"Name":"A","Probe":"TRUE","Exposes":[{"Name":"$x","Type":"Sensor"}]}"#),
+    Config(r#"{"Name":"A","Probe":"TRUE","Exposes":[{"Name":"$x","Type":"Pid"}]}"#),
+    Config(r#"{"Name":"A","Probe":"TRUE","Exposes":[{"Name":"$x","Type":"Sensor","Bus":256}]}"#),
     Config(
         r#"{"Name":"A","Probe":"TRUE","Exposes":[{"Name":"F","Type":"Fan"},{"Name":"$x","Type":"Fan"},5]}"#,
     ),
@@ -192,14 +193,18 @@ const TEMPLATE_SYNTAX: &[Part] = &[
 
 // Documents with an expose of a type that is not read.
 const EXPOSE_FORMS: &[Part] = &[
-    Config(r#"{"Name":"A","Probe":"TRUE","Exposes":[{"Name":"S","Type":"Sensor"}]}"#),
+    Config(r#"{"Name":"A","Probe":"TRUE","Exposes":[{"Name":"P","Type":"Pid"}]}"#),
     Config(r#"{"Name":"A","Probe":"TRUE","Exposes":[{"Name":"P $bus","Type":"Pid","Class":5}]}"#),
     Config(
         r#"{"Name":"A","Probe":"TRUE","Exposes":[{"Name":"F","Type":"Fan"},{"Name":"S","Type":"Stepwise"},5]}"#,
     ),
     // before a pattern that is bad
     Config(
-        r#"{"Name":"A","Probe":"xyz.openbmc_project.FruDevice({'BUS': '('})","Exposes":[{"Name":"S","Type":"Sensor"}]}"#,
+        r#"{"Name":"A","Probe":"xyz.openbmc_project.FruDevice({'BUS': '('})","Exposes":[{"Name":"S","Type":"Stepwise"}]}"#,
+    ),
+    // behind a sensor that is right, and before one that is wrong
+    Config(
+        r#"{"Name":"A","Probe":"TRUE","Exposes":[{"Name":"S","Type":"Sensor"},{"Name":"P","Type":"Pid"},{"Name":"S","Type":"Sensor","Bus":256}]}"#,
     ),
 ];
 

@@ -36,4 +36,6 @@ mod records;
 #[cfg(test)]
 mod scripts;
 #[cfg(test)]
+mod sensors;
+#[cfg(test)]
 mod words;

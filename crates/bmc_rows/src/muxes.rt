@@ -163,7 +163,7 @@ fru 21 80$
                 r#"{"Name":"R","Probe":"TRUE","Exposes":[{"Name":"x","Type":"Mux","Channels":[20]}]}"#,
             ),
             Config(
-                r#"{"Name":"O","Probe":"TRUE","Exposes":[{"Name":"x","Type":"Mux","Channels":[20]},{"Name":"x","Type":"Sensor"}]}"#,
+                r#"{"Name":"O","Probe":"TRUE","Exposes":[{"Name":"x","Type":"Mux","Channels":[20]},{"Name":"x","Type":"Stepwise"}]}"#,
             ),
             Config(
                 r#"{"Name":"O","Probe":["TRUE","OR","xyz.openbmc_project.FruDevice({'BUS': '('})"],

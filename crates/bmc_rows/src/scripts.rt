@@ -98,7 +98,7 @@ const REFUSALS: [Row; 1] = [(
         Config(r#"{"Name":""}"#),
         Config(r#"{"Name":"A","Probe":"TRU"}"#),
         Config(r#"{"Name":"A","Probe":"TRUE","Exposes":[{"Name":"$x","Type":"Fan"}]}"#),
-        Config(r#"{"Name":"A","Probe":"TRUE","Exposes":[{"Name":"x","Type":"Sensor"}]}"#),
+        Config(r#"{"Name":"A","Probe":"TRUE","Exposes":[{"Name":"x","Type":"Pid"}]}"#),
         Config(
             r#"{"Name":"A","Probe":["TRUE","MATCH_ONE"],"Exposes":[{"Name":"x","Type":"Mux","Channels":["$bus"]}]}"#,
         ),

@@ -5,6 +5,8 @@ pub mod ListsLemmas
 pub mod ProbesLemmas
 pub mod ReadingsLemmas
 pub mod RulesLemmas
+pub mod SensorsLemmas
+pub mod SettingsLemmas
 pub mod ShelvesLemmas
 pub mod UnitsLemmas
 pub mod VerdictsLemmas

@@ -2,10 +2,11 @@
 use Rattle.std.specs.Prelude.{⊤}
 use Rattle.std.proofs.Common.{◌&&◌, not, ℕ, Bool, true, false, nat_le, if◌then◌else◌, List, [], ◌∷◌, length, codes, Option, Some, None, Result, Ok, Err}
 use Rattle.std.specs.Prelude.{ℤ, pos, neg_ℤ, ◌*ℤ◌}
-use Rattle.std.specs.Prelude.{bytes_eq}
+use Rattle.std.specs.Prelude.{bytes_eq, decimal}
 use Rattle.std.specs.List.{list_any}
+use Rattle.sensor_core.specs.Settings.{most_limits}
 use Rattle.bmc_base.specs.Names.{longest_name}
-use Rattle.bmc_base.specs.Places.{last_bus}
+use Rattle.bmc_base.specs.Places.{last_bus, last_address}
 use Rattle.serde_json.specs.Data.{Num, unsigned, negative, float, Data, null, boolean, number, string, array, object}
 use Rattle.serde_json.specs.Find.{get, as_integer}
 use Rattle.serde_json.specs.Written.{has_float}
@@ -20,8 +21,11 @@ use Rattle.cfg_json.specs.declared.channels.Channel.TheVariants.{Fixed, Moving}
 use Rattle.cfg_json.specs.declared.expose.Body.TheVariants.{Passive}
 use Rattle.cfg_json.specs.Values.{◌>>=◌, required, text_only, object_only, list_of, list_only, with_length, short_text, each}
 use Rattle.cfg_json.specs.Values.{kind_only, is_between, int_within, whole_units, decimal_units_within, milli_within, any_milli}
+use Rattle.cfg_json.specs.Values.{whole_number, whole_within, no_units, member_or, optional}
 use Rattle.cfg_json.specs.Probes.{probe_texts, by_grammar, probe_in}
 use Rattle.cfg_json.specs.Channels.{most_channels, to_bus, number_channel, moving_channel, text_channel, channel_of, mux_of}
+use Rattle.cfg_json.specs.Sensors.{fixed_template, whole_template, single_template, text_template, number_template, side_of, limit_of, limits_in}
+use Rattle.cfg_json.specs.Sensors.{setting_of, sensor_of}
 use Rattle.cfg_json.specs.Exposes.{most_exposes, expose_name, zone_of, is_unread, body_of, expose_of, exposes_of, has_moving}
 use Rattle.cfg_json.specs.Documents.{config_in, config_of}
 
@@ -169,15 +173,105 @@ mux_none value =
     (then_none (list_only value >>= with_length 1 most_channels) _ (then_none (list_only value) _ (list_none value) (length_none 1 most_channels))
     (each_none channel_of channel_none)) (λ channels. tt)
 
+member_none : {A : Type 0} (value : A) (read : Data → Result A ConfigFault) → ((member : Data) → NamesNoPattern (read member)) → (found : Option Data)
+    → NamesNoPattern (member_or value read found)
+member_none value read none None = tt
+member_none value read none (Some member) = none member
+
+optional_none : {A : Type 0} (read : Data → Result A ConfigFault) → ((member : Data) → NamesNoPattern (read member)) → (found : Option Data)
+    → NamesNoPattern (optional read found)
+optional_none read none None = tt
+optional_none read none (Some member) = then_none (read member) _ (none member) (λ value. tt)
+
+whole_number_none : (least most : ℤ) (n : Num) → NamesNoPattern (whole_number least most n)
+whole_number_none least most n = then_none (kind_only (as_integer n)) _ (kind_only_none (as_integer n)) (within_none least most)
+
+whole_within_none : (least most : ℤ) (value : Data) → NamesNoPattern (whole_within least most value)
+whole_within_none least most null = tt
+whole_within_none least most (boolean b) = tt
+whole_within_none least most (number n) = whole_number_none least most n
+whole_within_none least most (string text) = tt
+whole_within_none least most (array items) = tt
+whole_within_none least most (object ms) = tt
+
+fixed_none : (most n : ℕ) → NamesNoPattern (fixed_template most n)
+fixed_none most n = where_none (nat_le n most) (Ok (decimal n)) (Err OutOfRange) tt tt
+
+whole_template_none : (most : ℕ) (n : Num) → NamesNoPattern (whole_template most n)
+whole_template_none most (unsigned n) = fixed_none most n
+whole_template_none most (negative n) = tt
+whole_template_none most (float x) = tt
+
+single_none : (text : List ℕ) → NamesNoPattern (single_template text)
+single_none text = where_none (is_template text && is_single text) (Ok text) (Err TemplateSyntax) tt tt
+
+text_template_none : (most : ℕ) (n : Option ℕ) (text : List ℕ) → NamesNoPattern (text_template most n text)
+text_template_none most None text = single_none text
+text_template_none most (Some n) text = fixed_none most n
+
+number_template_none : (most : ℕ) (value : Data) → NamesNoPattern (number_template most value)
+number_template_none most null = tt
+number_template_none most (boolean b) = tt
+number_template_none most (number n) = whole_template_none most n
+number_template_none most (string text) = text_template_none most (fixed_number text) text
+number_template_none most (array items) = tt
+number_template_none most (object ms) = tt
+
+side_none : (text : List ℕ) → NamesNoPattern (side_of text)
+side_none text =
+    where_none (bytes_eq text (codes "greater than")) (Ok true) _ tt (where_none (bytes_eq text (codes "less than")) (Ok false) (Err OutOfRange) tt tt)
+
+limit_none : (value : Data) → NamesNoPattern (limit_of value)
+limit_none value =
+    then_none (object_only value) _ (object_none value) (λ members.
+    then_none (required (get (codes "Direction") members) >>= text_only >>= side_of) _
+    (then_none (required (get (codes "Direction") members) >>= text_only) _
+    (then_none (required (get (codes "Direction") members)) _ (required_none (get (codes "Direction") members)) text_none) side_none) (λ above.
+    then_none (required (get (codes "Severity") members) >>= whole_within (pos 0) (pos 1)) _
+    (then_none (required (get (codes "Severity") members)) _ (required_none (get (codes "Severity") members))
+    (whole_within_none (pos 0) (pos 1))) (λ severity.
+    then_none (required (get (codes "Value") members) >>= any_milli) _
+    (then_none (required (get (codes "Value") members)) _ (required_none (get (codes "Value") members))
+    (milli_none (neg_ℤ (pos 1000000)) (pos 1000000))) (λ at.
+    then_none (member_or no_units (milli_within (pos 0) (pos 1000000)) (get (codes "Hysteresis") members)) _
+    (member_none no_units _ (milli_none (pos 0) (pos 1000000)) (get (codes "Hysteresis") members)) (λ hysteresis. tt)))))
+
+limits_none : (value : Data) → NamesNoPattern (limits_in value)
+limits_none value =
+    then_none (list_only value >>= with_length 0 most_limits) _ (then_none (list_only value) _ (list_none value) (length_none 0 most_limits))
+    (each_none limit_of limit_none)
+
+setting_none : (members : Data) → NamesNoPattern (setting_of members)
+setting_none members =
+    then_none (member_or (pos 1) (whole_within (neg_ℤ (pos 1000000)) (pos 1000000)) (get (codes "ScaleNum") members)) _
+    (member_none (pos 1) _ (whole_within_none (neg_ℤ (pos 1000000)) (pos 1000000)) (get (codes "ScaleNum") members)) (λ num.
+    then_none (member_or (pos 1) (whole_within (pos 1) (pos 1000000)) (get (codes "ScaleDen") members)) _
+    (member_none (pos 1) _ (whole_within_none (pos 1) (pos 1000000)) (get (codes "ScaleDen") members)) (λ den.
+    then_none (member_or no_units any_milli (get (codes "Offset") members)) _
+    (member_none no_units _ (milli_none (neg_ℤ (pos 1000000)) (pos 1000000)) (get (codes "Offset") members)) (λ offset.
+    then_none (member_or (pos 0) (whole_within (pos 0) (pos 1000000)) (get (codes "Timeout") members)) _
+    (member_none (pos 0) _ (whole_within_none (pos 0) (pos 1000000)) (get (codes "Timeout") members)) (λ timeout.
+    then_none (member_or [] limits_in (get (codes "Thresholds") members)) _
+    (member_none [] limits_in limits_none (get (codes "Thresholds") members)) (λ limits. tt)))))
+
+sensor_none : (members : Data) → NamesNoPattern (sensor_of members)
+sensor_none members =
+    then_none (optional (number_template last_bus) (get (codes "Bus") members)) _
+    (optional_none _ (number_template_none last_bus) (get (codes "Bus") members)) (λ bus.
+    then_none (optional (number_template last_address) (get (codes "Address") members)) _
+    (optional_none _ (number_template_none last_address) (get (codes "Address") members)) (λ address.
+    then_none (setting_of members) _ (setting_none members) (λ setting. tt)))
+
 body_none : (members : Data) (kind : List ℕ) → NamesNoPattern (body_of members kind)
 unfolding body_of
 body_none members kind =
-    where_none (bytes_eq kind (codes "Fan")) _ _ tt
+    where_none (bytes_eq kind (codes "Sensor")) _ _ (then_none (sensor_of members) _ (sensor_none members) (λ part. tt))
+    (where_none (bytes_eq kind (codes "Fan")) _ _ tt
     (where_none (bytes_eq kind (codes "Pid.Zone")) _ _ (then_none (zone_of members) _ (zone_none members) (λ setting. tt))
     (where_none (bytes_eq kind (codes "Mux")) _ _
     (then_none (required (get (codes "Channels") members) >>= mux_of) _
     (then_none (required (get (codes "Channels") members)) _ (required_none (get (codes "Channels") members)) mux_none) (λ part. tt))
-    (where_none (is_unread kind) (Err ExposeForm) (Ok Passive) tt tt)))
+    (where_none (is_unread kind) (Err ExposeForm) (Ok Passive) tt tt))))
 
 expose_none : (value : Data) → NamesNoPattern (expose_of value)
 expose_none value =

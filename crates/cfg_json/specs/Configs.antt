@@ -6,7 +6,7 @@ use Rattle.probe_lang.specs.Matches.{texts_of}
 use Rattle.probe_lang.specs.declared.pattern_text.Member.{Member}
 use Rattle.cfg_json.specs.declared.expose.Expose.{Expose}
 use Rattle.cfg_json.specs.declared.expose.Body.{Body}
-use Rattle.cfg_json.specs.declared.expose.Body.TheVariants.{Fan, Zone, Mux, Passive}
+use Rattle.cfg_json.specs.declared.expose.Body.TheVariants.{Sensor, Fan, Zone, Mux, Passive}
 use Rattle.cfg_json.specs.declared.counts.Counts.{Counts}
 
 -- its name, the probe by which it is found, the patterns of the probe by number, and its exposes
@@ -23,12 +23,14 @@ pattern_texts config = flat_map texts_of config.patterns
 -- the buses to which the fixed channels of an expose lead, and the templates of those to which its moving channels lead
 abbrev pub fixed_in : Body → List ℕ
 fixed_in (Mux part) = part.fixed
+fixed_in (Sensor part) = []
 fixed_in Fan = []
 fixed_in (Zone setting) = []
 fixed_in Passive = []
 
 abbrev pub moving_in : Body → List (List ℕ)
 moving_in (Mux part) = part.moving
+moving_in (Sensor part) = []
 moving_in Fan = []
 moving_in (Zone setting) = []
 moving_in Passive = []
@@ -40,12 +42,23 @@ fixed_of config = flat_map (λ (expose : Expose). fixed_in expose.body) config.e
 abbrev pub moving_of : Config → List (List ℕ)
 moving_of config = flat_map (λ (expose : Expose). moving_in expose.body) config.exposes
 
--- whether an expose is a zone, and whether it is a fan
+-- whether an expose is a sensor, whether it is a zone, and whether it is a fan
+abbrev pub is_sensor : Expose → Bool
+is_sensor expose = sensor expose.body
+  where
+    sensor : Body → Bool
+    sensor (Sensor part) = true
+    sensor Fan = false
+    sensor (Zone setting) = false
+    sensor (Mux part) = false
+    sensor Passive = false
+
 abbrev pub is_zone : Expose → Bool
 is_zone expose = zone expose.body
   where
     zone : Body → Bool
     zone (Zone setting) = true
+    zone (Sensor part) = false
     zone Fan = false
     zone (Mux part) = false
     zone Passive = false
@@ -55,10 +68,15 @@ is_fan expose = fan expose.body
   where
     fan : Body → Bool
     fan Fan = true
+    fan (Sensor part) = false
     fan (Zone setting) = false
     fan (Mux part) = false
     fan Passive = false
 
 -- how many exposes of each kind there are
 abbrev pub counts_of : List Expose → Counts
-counts_of exposes = record { zones = length (filter is_zone exposes); fans = length (filter is_fan exposes) }
+counts_of exposes = record {
+  sensors = length (filter is_sensor exposes);
+  zones = length (filter is_zone exposes);
+  fans = length (filter is_fan exposes);
+}

@@ -7,11 +7,12 @@ use Rattle.cfg_json.specs.declared.config_fault.ConfigFault.{ConfigFault}
 use Rattle.cfg_json.specs.declared.config_fault.ConfigFault.TheVariants.{TemplateSyntax, ExposeForm}
 use Rattle.cfg_json.specs.declared.expose.Expose.{Expose}
 use Rattle.cfg_json.specs.declared.expose.Body.{Body}
-use Rattle.cfg_json.specs.declared.expose.Body.TheVariants.{Fan, Zone, Mux, Passive}
+use Rattle.cfg_json.specs.declared.expose.Body.TheVariants.{Sensor, Fan, Zone, Mux, Passive}
 use Rattle.cfg_json.specs.declared.expose.ZoneSetting.{ZoneSetting}
 use Rattle.cfg_json.specs.Configs.{moving_in}
 use Rattle.cfg_json.specs.Values.{◌>>=◌, required, text_only, object_only, list_within, with_length, short_text, milli_within, any_milli, each}
 use Rattle.cfg_json.specs.Channels.{mux_of}
+use Rattle.cfg_json.specs.Sensors.{sensor_of}
 
 -- the most exposes of a configuration
 abbrev pub most_exposes : ℕ
@@ -34,12 +35,13 @@ zone_of members =
 
 -- the types that are known and not read yet
 abbrev pub is_unread : List ℕ → Bool
-is_unread kind = bytes_eq kind (codes "Sensor") || bytes_eq kind (codes "Pid") || bytes_eq kind (codes "Stepwise")
+is_unread kind = bytes_eq kind (codes "Pid") || bytes_eq kind (codes "Stepwise")
 
 -- the body of an expose of this type; one of any other type is passive
 unfoldable pub body_of : Data → List ℕ → Result Body ConfigFault
 body_of members kind =
-    if bytes_eq kind (codes "Fan") then Ok Fan
+    if bytes_eq kind (codes "Sensor") then sensor_of members >>= (λ part. Ok (Sensor part))
+    else if bytes_eq kind (codes "Fan") then Ok Fan
     else if bytes_eq kind (codes "Pid.Zone") then zone_of members >>= (λ setting. Ok (Zone setting))
     else if bytes_eq kind (codes "Mux") then required (get (codes "Channels") members) >>= mux_of >>= (λ part. Ok (Mux part))
     else if is_unread kind then Err ExposeForm

@@ -1,8 +1,12 @@
--- Laws of verdicts.
-use Rattle.std.specs.Prelude.{◌≡◌, ◌≢◌, ◌++◌, Result, Err}
+-- Laws of verdicts, and of settings.
+use Rattle.std.specs.Prelude.{◌≡◌, ◌≢◌, ◌++◌, Result, Ok, Err}
 use Rattle.pat_gate.specs.Makers.{Maker}
+use Rattle.serde_json.specs.Data.{Data}
+use Rattle.sensor_core.specs.declared.setting.SensorSetting.{SensorSetting}
+use Rattle.sensor_core.specs.Settings.{IsValidSetting}
 use Rattle.cfg_json.specs.Configs.{Config}
 use Rattle.cfg_json.specs.Readings.{GivesConfig}
+use Rattle.cfg_json.specs.Sensors.{setting_of}
 use Rattle.cfg_json.specs.Verdicts.{TiedToReading, large_in, verdict_of}
 use Rattle.cfg_json.specs.declared.config_fault.ConfigFault.{ConfigFault}
 use Rattle.cfg_json.specs.declared.config_fault.ConfigFault.TheVariants.{OutOfMemory}
@@ -11,3 +15,7 @@ use Rattle.cfg_json.specs.declared.config_fault.ConfigFault.TheVariants.{OutOfMe
 abbrev pub AnswersAreVerdicts : Type 0
 AnswersAreVerdicts = (old new : Maker) (result read : Result Config ConfigFault) → GivesConfig old new result read → result ≢ Err OutOfMemory
     → TiedToReading read (verdict_of result) × (new.refused ≡ old.refused ++ large_in (verdict_of result))
+
+-- all numbers of a setting that is read are in their ranges
+abbrev pub SettingsAreValid : Type 0
+SettingsAreValid = (members : Data) (setting : SensorSetting) → setting_of members ≡ Ok setting → IsValidSetting setting

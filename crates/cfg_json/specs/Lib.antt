@@ -2,6 +2,7 @@ pub mod Configs
 pub mod Values
 pub mod Probes
 pub mod Channels
+pub mod Sensors
 pub mod Exposes
 pub mod Documents
 pub mod Readings

@@ -76,9 +76,12 @@ is_between least most value = int_le least value && int_le value most
 abbrev pub int_within : ℤ → ℤ → ℤ → Result ℤ ConfigFault
 int_within least most value = if is_between least most value then Ok value else Err OutOfRange
 
+abbrev pub whole_number : ℤ → ℤ → Num → Result ℤ ConfigFault
+whole_number least most n = kind_only (as_integer n) >>= int_within least most
+
 -- a whole number of units, from so many to so many, in thousandths
 abbrev pub whole_units : ℤ → ℤ → Num → Result Milli ConfigFault
-whole_units least most n = kind_only (as_integer n) >>= int_within least most >>= λ units. Ok (record { 0 = units *ℤ pos 1000 })
+whole_units least most n = whole_number least most n >>= λ units. Ok (record { 0 = units *ℤ pos 1000 })
 
 -- the text of a decimal with up to three places, from so many units to so many, in thousandths
 abbrev pub decimal_units_within : ℤ → ℤ → List ℕ → Result Milli ConfigFault
@@ -97,3 +100,26 @@ milli_within least most (object ms) = Err WrongKind
 -- thousandths in the widest range: a million units to either side of 0
 abbrev pub any_milli : Data → Result Milli ConfigFault
 any_milli value = milli_within (neg_ℤ (pos 1000000)) (pos 1000000) value
+
+-- no thousandths
+abbrev pub no_units : Milli
+no_units = record { 0 = pos 0 }
+
+-- a whole number from so many to so many
+abbrev pub whole_within : ℤ → ℤ → Data → Result ℤ ConfigFault
+whole_within least most (number n) = whole_number least most n
+whole_within least most null = Err WrongKind
+whole_within least most (boolean b) = Err WrongKind
+whole_within least most (string text) = Err WrongKind
+whole_within least most (array items) = Err WrongKind
+whole_within least most (object ms) = Err WrongKind
+
+-- a member that may be missing, in whose place this value stands
+abbrev pub member_or : {A : Type 0} → A → (Data → Result A ConfigFault) → Option Data → Result A ConfigFault
+member_or value read None = Ok value
+member_or value read (Some member) = read member
+
+-- a member that may be missing
+abbrev pub optional : {A : Type 0} → (Data → Result A ConfigFault) → Option Data → Result (Option A) ConfigFault
+optional read None = Ok None
+optional read (Some member) = read member >>= λ value. Ok (Some value)

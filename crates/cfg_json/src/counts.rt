@@ -6,6 +6,8 @@ use crate::{Body, Expose};
 /// How many exposes of each kind a configuration has.
 #[derive(Clone, Copy, Debug, PartialEq, Eq)]
 pub struct Counts {
+    /// How many are sensors.
+    pub sensors: usize,
     /// How many are zones.
     pub zones: usize,
     /// How many are fans.
@@ -17,9 +19,14 @@ impl Counts {
     pub fn of(exposes: &[Expose]) -> Counts
         ensures { result ≡ counts_of exposes.now }
     {
-        let mut counts = Counts { zones: 0, fans: 0 };
+        let mut counts = Counts {
+            sensors: 0,
+            zones: 0,
+            fans: 0,
+        };
         for expose in exposes {
             match &expose.body {
+                Body::Sensor(_) => counts.sensors += 1,
                 Body::Zone(_) => counts.zones += 1,
                 Body::Fan => counts.fans += 1,
                 Body::Mux(_) | Body::Passive => {}

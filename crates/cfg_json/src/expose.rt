@@ -1,6 +1,7 @@
 ghost use Rattle.std.specs.Prelude.{◌≡◌, ◌∷◌, ◌++◌, [], IfOk, OnOk, OnErr};
 
 use bmc_base::{Bytes, Milli, Name, OutOfMemory};
+use sensor_core::SensorSetting;
 use std::alloc::Global;
 use std::marker::Model;
 use tmpl::Template;
@@ -19,6 +20,8 @@ pub struct Expose {
 /// What an expose has by its type.
 #[derive(Drop)]
 pub enum Body {
+    /// A sensor (type `Sensor`).
+    Sensor(SensorPart),
     /// A fan (type `Fan`).
     Fan,
     /// A zone of fans (type `Pid.Zone`).
@@ -27,6 +30,18 @@ pub enum Body {
     Mux(MuxPart),
     /// An expose of any other type, of which nothing else is read.
     Passive,
+}
+
+/// A sensor. Its bus and its address are rendered for the place, the record and the index of a board: each is a fixed
+/// number, of which the template has the decimal digits, or one substitution.
+#[derive(Drop)]
+pub struct SensorPart {
+    /// What gives the bus at which it is, 0 to 255, if that is given.
+    pub bus: Option<Template>,
+    /// What gives the address at which it is, 0 to 127, if that is given.
+    pub address: Option<Template>,
+    /// How its values come of raw numbers, when they are too old, and its limits.
+    pub setting: SensorSetting,
 }
 
 /// The setting of a zone. Both numbers are thousandths.

@@ -6,6 +6,7 @@ ghost use Rattle.cfg_json.specs.Values.{each};
 ghost use Rattle.cfg_json.specs.Readings.{Gives};
 
 use crate::channels::read_mux;
+use crate::sensors::read_sensor;
 use crate::values::{check_length, list, milli_within, required, short_text, text};
 use crate::{Body, ConfigFault, Expose, Exposes, ZoneSetting};
 use bmc_base::Name;
@@ -68,10 +69,11 @@ fn read_body(alloc: Global, members: &Value, kind: &Name) -> Result<Body, Config
     ensures { Gives result (body_of (view members.now) kind.now) }
 {
     match kind.as_str() {
+        "Sensor" => Ok(Body::Sensor(read_sensor(alloc, members)?)),
         "Fan" => Ok(Body::Fan),
         "Pid.Zone" => Ok(Body::Zone(read_zone(members)?)),
         "Mux" => Ok(Body::Mux(read_mux(alloc, required(members, "Channels")?)?)),
-        "Sensor" | "Pid" | "Stepwise" => Err(ConfigFault::ExposeForm),
+        "Pid" | "Stepwise" => Err(ConfigFault::ExposeForm),
         _ => Ok(Body::Passive),
     }
 }

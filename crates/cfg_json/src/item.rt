@@ -2,6 +2,7 @@ ghost use Rattle.std.specs.Prelude.{◌≡◌, IfOk};
 
 use crate::ZoneSetting;
 use bmc_base::{Bytes, Name, OutOfMemory, Place};
+use sensor_core::SensorSetting;
 use std::alloc::Global;
 
 /// Which item it is: an expose of a board.
@@ -29,6 +30,8 @@ pub struct Item {
 /// What an item has by the type of its expose.
 #[derive(Drop)]
 pub enum ItemPart {
+    /// A sensor.
+    Sensor(SensorItem),
     /// A fan.
     Fan,
     /// A zone of fans.
@@ -37,6 +40,17 @@ pub enum ItemPart {
     Mux(MuxItem),
     /// An item of any other type.
     Passive,
+}
+
+/// A sensor at a board.
+#[derive(Clone, Copy, Debug, PartialEq, Eq)]
+pub struct SensorItem {
+    /// The bus at which it is, if one is given that has a rendering at the board.
+    pub bus: Option<u8>,
+    /// The address at which it is, 0 to 127, if one is given that has a rendering at the board.
+    pub address: Option<u8>,
+    /// How its values come of raw numbers, when they are too old, and its limits.
+    pub setting: SensorSetting,
 }
 
 /// A multiplexer at a board.
@@ -67,6 +81,7 @@ impl ItemPart {
         ensures { IfOk result (λ part. part ≡ self.now) }
     {
         match self {
+            ItemPart::Sensor(sensor) => Ok(ItemPart::Sensor(*sensor)),
             ItemPart::Fan => Ok(ItemPart::Fan),
             ItemPart::Zone(setting) => Ok(ItemPart::Zone(*setting)),
             ItemPart::Mux(mux) => Ok(ItemPart::Mux(MuxItem {

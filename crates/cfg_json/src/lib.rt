@@ -14,6 +14,7 @@ mod fraction;
 mod item;
 mod law;
 mod probe_texts;
+mod sensors;
 mod shelf;
 #[cfg(test)]
 mod tests;
@@ -22,7 +23,7 @@ mod values;
 pub use config::Config;
 pub use config_fault::ConfigFault;
 pub use counts::Counts;
-pub use expose::{Body, Expose, Exposes, MuxPart, Templates, ZoneSetting};
-pub use item::{Item, ItemId, ItemPart, MuxItem};
-pub use law::answers_are_verdicts;
+pub use expose::{Body, Expose, Exposes, MuxPart, SensorPart, Templates, ZoneSetting};
+pub use item::{Item, ItemId, ItemPart, MuxItem, SensorItem};
+pub use law::{answers_are_verdicts, settings_are_valid};
 pub use shelf::{MOST_CONFIGS, Shelf};

@@ -2,6 +2,7 @@ ghost use Rattle.std.specs.Prelude.{◌≡◌, ◌&&◌, nat_le, if◌then◌els
 ghost use Rattle.serde_json.specs.View.{view, number_view};
 ghost use Rattle.serde_json.specs.Find.{get};
 ghost use Rattle.cfg_json.specs.Values.{required, text_only, list_within, short_text, is_between, whole_units, decimal_units_within, milli_within};
+ghost use Rattle.cfg_json.specs.Values.{whole_number, whole_within, no_units, member_or};
 ghost use Rattle.cfg_json.specs.declared.config_fault.ConfigFault.TheVariants.{OutOfRange};
 ghost use Rattle.cfg_json.specs.Readings.{GivesMember, GivesText, GivesList};
 
@@ -66,23 +67,31 @@ fn is_between(value: i64, least: i64, most: i64) -> bool
     least <= value && value <= most
 }
 
-// Reads a whole number of units, from so many to so many, in thousandths.
-fn whole_units(number: &Number, least: i32, most: i32) -> Result<Milli, ConfigFault>
-    ensures { result ≡ whole_units least most (number_view number.now) }
+// Reads a number that is whole, from so many to so many.
+fn whole_number(number: &Number, least: i32, most: i32) -> Result<i64, ConfigFault>
+    ensures { result ≡ whole_number least most (number_view number.now) }
 {
     if number.is_f64() {
         return Err(ConfigFault::WrongKind);
     }
     match number.as_i64() {
-        Some(units) => {
-            if i64::from(least) <= units && units <= i64::from(most) {
-                Ok(Milli(units * THOUSAND))
+        Some(value) => {
+            if is_between(value, i64::from(least), i64::from(most)) {
+                Ok(value)
             } else {
                 Err(ConfigFault::OutOfRange)
             }
         }
         None => Err(ConfigFault::OutOfRange),
     }
+}
+
+// Reads a whole number of units, from so many to so many, in thousandths.
+fn whole_units(number: &Number, least: i32, most: i32) -> Result<Milli, ConfigFault>
+    ensures { result ≡ whole_units least most (number_view number.now) }
+{
+    let units = whole_number(number, least, most)?;
+    Ok(Milli(units * THOUSAND))
 }
 
 // Reads a decimal with up to three places, from so many units to so many, in thousandths.
@@ -110,5 +119,46 @@ pub(crate) fn milli_within(value: &Value, least: i32, most: i32) -> Result<Milli
         Value::Number(number) => whole_units(number, least, most),
         Value::String(text) => decimal_units(text.as_str(), least, most),
         _ => Err(ConfigFault::WrongKind),
+    }
+}
+
+// Reads a whole number from so many to so many.
+pub(crate) fn whole_within(value: &Value, least: i32, most: i32) -> Result<i64, ConfigFault>
+    ensures { result ≡ whole_within least most (view value.now) }
+{
+    match value {
+        Value::Number(number) => whole_number(number, least, most),
+        _ => Err(ConfigFault::WrongKind),
+    }
+}
+
+// Reads a whole number from so many to so many in a member that may be missing, in whose place another number stands.
+pub(crate) fn whole_or(
+    members: &Value,
+    key: &str,
+    least: i32,
+    most: i32,
+    missing: i32,
+) -> Result<i64, ConfigFault>
+    ensures { result ≡ member_or missing (whole_within least most) (get key.now (view members.now)) }
+{
+    match members.get(key) {
+        Some(value) => whole_within(value, least, most),
+        None => Ok(i64::from(missing)),
+    }
+}
+
+// Reads thousandths from so many units to so many in a member that may be missing, in whose place 0 stands.
+pub(crate) fn milli_or_none(
+    members: &Value,
+    key: &str,
+    least: i32,
+    most: i32,
+) -> Result<Milli, ConfigFault>
+    ensures { result ≡ member_or no_units (milli_within least most) (get key.now (view members.now)) }
+{
+    match members.get(key) {
+        Some(value) => milli_within(value, least, most),
+        None => Ok(Milli(0)),
     }
 }

@@ -1,5 +1,5 @@
 -- The holders of names among items, one item after another.
-use Rattle.std.proofs.Common.{◌≡◌, ◌∙◌, ℕ, zero, suc, ◌+◌, ◌<◌, Bool, true, false, cond, ◌&&◌, List, [], ◌∷◌, ◌++◌, length, take, map, filter, Option}
+use Rattle.std.proofs.Common.{◌≡◌, ◌∙◌, ℕ, zero, suc, ◌<◌, Bool, true, false, cond, ◌&&◌, List, [], ◌∷◌, ◌++◌, length, take, map, filter, Option}
 use Rattle.std.proofs.Common.{Some, None, option_map, slice_get, refl, sym, ap, ap₂, subst, arith, true≢false}
 use Rattle.std.specs.Prelude.{bytes_eq, find, filter_map}
 use Rattle.std.specs.Option.{is_some, option_or, option_eq, unwrap_or}
@@ -10,15 +10,17 @@ use Rattle.std.proofs.lemmas.List.{map-append}
 use Rattle.std.proofs.lemmas.List.Elements.{filter-append}
 use Rattle.std.proofs.lemmas.List.Folds.{find-append}
 use Rattle.std.proofs.lemmas.Option.{slice_get_within}
+use denote.Enum.Bare.{sameb}
 use Rattle.indexmap.specs.IndexMap.{insert_entry}
 use Rattle.cfg_json.specs.declared.item.Item.{Item}
 use Rattle.cfg_json.specs.declared.item.ItemId.{ItemId}
+use Rattle.inventory.specs.contracts.family.Family.{the_type}
 use Rattle.inventory.specs.declared.family.Family.{Family}
 use Rattle.inventory.specs.declared.family.Family.TheVariants as families
 use Rattle.inventory.specs.declared.holders.Held.{Held}
 use Rattle.inventory.specs.Items.{family_of, family_eq, has_name, holder, id_eq, is_item, is_live, live}
 use Rattle.inventory.specs.Orders.{HaveOwnIds}
-use Rattle.inventory.specs.Holders.{held_eq, held_of, position_of, positions_of, AreAt, AreHolders}
+use Rattle.inventory.specs.Holders.{held_eq, held_of, position_of, positions_of, AreHolders}
 use Rattle.inventory.specs.Laws.{NamesDiffer}
 use Rattle.inventory.proofs.BoardLemmas.{and_first, and_second, and_both}
 use Rattle.inventory.proofs.ListLemmas.{all_filter, all_map, all_mapped, all_passes, all_weaker, filter_alike}
@@ -27,20 +29,46 @@ use Rattle.inventory.proofs.IdsLemmas.{id_itself, id_same}
 -- ---- families and names
 
 pub family_same : (family other : Family) → family_eq family other ≡ true → family ≡ other
+family_same families.Sensor families.Sensor same = refl
 family_same families.Zone families.Zone same = refl
 family_same families.Fan families.Fan same = refl
+family_same families.Sensor families.Zone same = absurd (cc)
+family_same families.Sensor families.Fan same = absurd (cc)
+family_same families.Zone families.Sensor same = absurd (cc)
 family_same families.Zone families.Fan same = absurd (cc)
+family_same families.Fan families.Sensor same = absurd (cc)
 family_same families.Fan families.Zone same = absurd (cc)
 
 family_itself : (family : Family) → family_eq family family ≡ true
+family_itself families.Sensor = refl
 family_itself families.Zone = refl
 family_itself families.Fan = refl
 
 family_swap : (family other : Family) → family_eq family other ≡ family_eq other family
+family_swap families.Sensor families.Sensor = refl
 family_swap families.Zone families.Zone = refl
 family_swap families.Fan families.Fan = refl
+family_swap families.Sensor families.Zone = refl
+family_swap families.Sensor families.Fan = refl
+family_swap families.Zone families.Sensor = refl
 family_swap families.Zone families.Fan = refl
+family_swap families.Fan families.Sensor = refl
 family_swap families.Fan families.Zone = refl
+
+-- the derived test of families says the same
+abbrev pub family_test : Family → Family → Bool
+family_test family other = sameb the_type family other
+
+pub family_test_is : (family other : Family) → family_test family other ≡ family_eq family other
+family_test_is families.Sensor families.Sensor = refl
+family_test_is families.Zone families.Zone = refl
+family_test_is families.Fan families.Fan = refl
+family_test_is families.Sensor families.Zone = refl
+family_test_is families.Sensor families.Fan = refl
+family_test_is families.Zone families.Sensor = refl
+family_test_is families.Zone families.Fan = refl
+family_test_is families.Fan families.Sensor = refl
+family_test_is families.Fan families.Zone = refl
 
 module _ (item : Item) (family : Family) (of_family : family_of item.part ≡ Some family) where
   -- an item of a family has a name in another one exactly if both are one, and the name is its own

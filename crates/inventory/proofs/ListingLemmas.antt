@@ -208,7 +208,7 @@ pub config_names : (configs : List Config) (number : ℕ) (config : Config) → 
     → is_naming configs (key_of number None) ≡ has_families (counts_of config.exposes)
 config_names configs number config is =
     ap (λ (found : Option Config).
-    has_families (unwrap_or (option_map (λ (config : Config). counts_of config.exposes) found) (record { zones = 0; fans = 0 }))) is
+    has_families (unwrap_or (option_map (λ (config : Config). counts_of config.exposes) found) (record { sensors = 0; zones = 0; fans = 0 }))) is
 
 module _ (configs : List Config) (kept : ℕ → List (Option Place)) (number : ℕ) where
   -- the boards of one configuration are all naming, or none is

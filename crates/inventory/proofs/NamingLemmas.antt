@@ -17,7 +17,7 @@ use Rattle.bmc_base.specs.Places.{Place, place_cmp, place_eq}
 use Rattle.fru_area.specs.declared.field.Field.{Field}
 use Rattle.match_rows.proofs.PlacesLemmas.{place_total}
 use Rattle.tmpl.specs.Rendering.{rendered}
-use Rattle.cfg_json.specs.Configs.{Config, counts_of, is_fan, is_zone}
+use Rattle.cfg_json.specs.Configs.{Config, counts_of, is_fan, is_sensor, is_zone}
 use Rattle.cfg_json.specs.declared.expose.Body.{Body}
 use Rattle.cfg_json.specs.declared.expose.Body.TheVariants as bodies
 use Rattle.cfg_json.specs.declared.expose.Expose.{Expose}
@@ -86,34 +86,38 @@ module _ (all : List Item) where
 
 -- ---- items of boards that are not naming
 
--- an item is of a family exactly where its expose is a zone or a fan
+-- an item is of a family exactly where its expose is a sensor, a zone or a fan
 kin_is : (place : Option Place) (fields : Option (List Field)) (index : ℕ) (expose : Expose)
-    → is_some (family_of (part_of place fields index expose.body)) ≡ (is_zone expose || is_fan expose)
+    → is_some (family_of (part_of place fields index expose.body)) ≡ (is_sensor expose || (is_zone expose || is_fan expose))
 kin_is place fields index expose = by expose.body
   where
     by : (body : Body) → is_some (family_of (part_of place fields index body))
-        ≡ (is_zone (record expose { body = body }) || is_fan (record expose { body = body }))
+        ≡ (is_sensor (record expose { body = body }) || (is_zone (record expose { body = body }) || is_fan (record expose { body = body })))
+    by (bodies.Sensor part) = refl
     by bodies.Fan = refl
     by (bodies.Zone setting) = refl
     by (bodies.Mux part) = refl
     by bodies.Passive = refl
 
--- where none passes either test, each fails both
-all_fail : {X : Type 0} (one other : X → Bool) (xs : List X) → length (filter one xs) + length (filter other xs) ≡ 0
-    → AllByRecursion (λ (each : X). (one each || other each) ≡ false) xs
-all_fail one other [] none = tt
-all_fail {X} one other (first ∷ xs) none = by (one first) (other first) refl refl none (all_fail one other xs)
+-- where none passes a test, each fails it
+all_fail : {X : Type 0} (test : X → Bool) (xs : List X) → length (filter test xs) ≡ 0 → AllByRecursion (λ (each : X). test each ≡ false) xs
+all_fail test [] none = tt
+all_fail {X} test (first ∷ xs) none = by (test first) refl none (all_fail test xs)
   where
-    by : (is also : Bool) → one first ≡ is → other first ≡ also
-        → length (cond is (first ∷ filter one xs) (filter one xs)) + length (cond also (first ∷ filter other xs) (filter other xs)) ≡ 0
-        → (length (filter one xs) + length (filter other xs) ≡ 0 → AllByRecursion (λ (each : X). (one each || other each) ≡ false) xs)
-        → AllByRecursion (λ (each : X). (one each || other each) ≡ false) (first ∷ xs)
-    by true also is_one is_other none rest = absurd (omega (arith, none))
-    by false true is_one is_other none rest = absurd (omega (arith, none))
-    by false false is_one is_other none rest = (ap₂ (λ (a b : Bool). a || b) is_one is_other, rest none)
+    by : (is : Bool) → test first ≡ is → length (cond is (first ∷ filter test xs) (filter test xs)) ≡ 0
+        → (length (filter test xs) ≡ 0 → AllByRecursion (λ (each : X). test each ≡ false) xs)
+        → AllByRecursion (λ (each : X). test each ≡ false) (first ∷ xs)
+    by true is none rest = absurd (omega (arith, none))
+    by false is none rest = (is, rest none)
+
+-- what fails both tests fails either
+both_fail : {X : Type 0} (one other : X → Bool) (xs : List X) → AllByRecursion (λ (each : X). one each ≡ false) xs
+    → AllByRecursion (λ (each : X). other each ≡ false) xs → AllByRecursion (λ (each : X). (one each || other each) ≡ false) xs
+both_fail one other [] fails also = tt
+both_fail one other (first ∷ xs) fails also = (ap₂ (λ (a b : Bool). a || b) fails.0 also.0, both_fail one other xs fails.1 also.1)
 
 module _ (board : Board) (fields : Option (List Field)) where
-  no_kin : (from : ℕ) (exposes : List Expose) → AllByRecursion (λ (each : Expose). (is_zone each || is_fan each) ≡ false) exposes
+  no_kin : (from : ℕ) (exposes : List Expose) → AllByRecursion (λ (each : Expose). (is_sensor each || (is_zone each || is_fan each)) ≡ false) exposes
       → filter is_kin (filter_map (rendered_item board fields) (enumerate_from from exposes)) ≡ []
   no_kin from [] none = refl
   no_kin from (expose ∷ exposes) none =
@@ -135,24 +139,34 @@ module _ (board : Board) (fields : Option (List Field)) where
           ap₂ (λ (kin : Bool) (more : List Item). cond kin (item name ∷ more) more)
           (kin_is board.key.place fields board.index expose ∙ none.0) later
 
-no_counts : (zones fans : ℕ) → not (zones + fans == 0) ≡ false → zones + fans ≡ 0
-no_counts zones fans none = by (zones + fans == 0) refl none
+no_count : (count : ℕ) → not (count == 0) ≡ false → count ≡ 0
+no_count count none = by (count == 0) refl none
   where
-    by : (is : Bool) → (zones + fans == 0) ≡ is → not is ≡ false → zones + fans ≡ 0
-    by true is none = eqb-true (zones + fans) 0 is
+    by : (is : Bool) → (count == 0) ≡ is → not is ≡ false → count ≡ 0
+    by true is none = eqb-true count 0 is
     by false is none = absurd (cc)
+
+-- an expose of a configuration without families is of none
+none_of_kin : (exposes : List Expose) → has_families (counts_of exposes) ≡ false
+    → AllByRecursion (λ (each : Expose). (is_sensor each || (is_zone each || is_fan each)) ≡ false) exposes
+none_of_kin exposes none =
+    both_fail is_sensor (λ each. is_zone each || is_fan each) exposes (all_fail is_sensor exposes (omega (arith, all)))
+    (both_fail is_zone is_fan exposes (all_fail is_zone exposes (omega (arith, all))) (all_fail is_fan exposes (omega (arith, all))))
+  where
+    all : length (filter is_sensor exposes) + length (filter is_zone exposes) + length (filter is_fan exposes) ≡ 0
+    all = no_count (length (filter is_sensor exposes) + length (filter is_zone exposes) + length (filter is_fan exposes)) none
 
 module _ (configs : List Config) (fields_at : Place → Option (List Field)) where
   idle_items : (board : Board) → is_naming configs board.key ≡ false → filter is_kin (board_items configs fields_at board) ≡ []
   idle_items board idle = by (slice_get configs board.key.config) idle
     where
       by : (config : Option Config)
-          → has_families (unwrap_or (option_map (λ (config : Config). counts_of config.exposes) config) (record { zones = 0; fans = 0 })) ≡ false
+          → has_families (unwrap_or (option_map (λ (config : Config). counts_of config.exposes) config) (record { sensors = 0; zones = 0; fans = 0 })) ≡ false
           → filter is_kin (rendered_items board (board_fields fields_at board)
           (unwrap_or (option_map (λ (config : Config). config.exposes) config) [])) ≡ []
       by None idle = refl
       by (Some config) idle =
-          no_kin board (board_fields fields_at board) 0 config.exposes (all_fail is_zone is_fan config.exposes (no_counts _ _ idle))
+          no_kin board (board_fields fields_at board) 0 config.exposes (none_of_kin config.exposes idle)
 
   -- the items of a family are those of the naming boards
   kin_items : (boards : List Board) → filter is_kin (items configs fields_at (naming configs boards)) ≡ filter is_kin (items configs fields_at boards)

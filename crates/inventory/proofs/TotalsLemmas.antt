@@ -13,7 +13,7 @@ use Rattle.inventory.specs.declared.board.BoardKey.{BoardKey}
 use Rattle.inventory.specs.Boards.{has_board}
 use Rattle.inventory.specs.Differences.{key_of, keys_left}
 use Rattle.inventory.specs.Indexes.{except}
-use Rattle.inventory.specs.Limits.{board_counts, fans_of, totals_of, totals_after, zones_of}
+use Rattle.inventory.specs.Limits.{board_counts, fans_of, sensors_of, totals_of, totals_after, zones_of}
 use Rattle.inventory.specs.Lists.{keys_of}
 use Rattle.inventory.specs.Moments.{AreAscending}
 use Rattle.inventory.proofs.BoardLemmas.{board_same, board_swap}
@@ -162,6 +162,9 @@ sum_block count weight alike number (place ∷ places) =
 
 -- how many exposes of a kind a board has is told by its configuration
 module _ (configs : List Config) where
+  abbrev sensors_at : BoardKey → ℕ
+  sensors_at key = (board_counts configs key).sensors
+
   abbrev zones_at : BoardKey → ℕ
   zones_at key = (board_counts configs key).zones
 
@@ -173,12 +176,19 @@ pub totals_add_up : (configs : List Config) (count : ℕ) (before after : ℕ �
     → ((number : ℕ) → AreAscending (after number))
     → totals_after configs (totals_of configs (keys_of count before)) (keys_left count before after) (keys_left count after before)
     ≡ totals_of configs (keys_of count after)
-totals_add_up configs count before after ascend ascend_after = λ i. record { boards = boards i; zones = zones i; fans = fans i }
+totals_add_up configs count before after ascend ascend_after = λ i. record { boards = boards i; sensors = sensors i; zones = zones i; fans = fans i }
   where
     boards : length (keys_of count before) - length (keys_left count before after) + length (keys_left count after before) ≡ length (keys_of count after)
     boards =
         measure_after length (λ number. 1) refl (λ front back. length-append front back)
         (λ number places. length-map places (key_of number) ∙ omega arith) before after ascend ascend_after count
+
+    sensors : sensors_of configs (keys_of count before) - sensors_of configs (keys_left count before after) + sensors_of configs (keys_left count after before)
+        ≡ sensors_of configs (keys_of count after)
+    sensors =
+        measure_after (sensors_of configs) (λ number. sensors_at configs (record { config = number; place = None })) refl
+        (λ front back. sum_by-append (sensors_at configs) front back)
+        (sum_block (sensors_at configs) _ (λ number place. refl)) before after ascend ascend_after count
 
     zones : zones_of configs (keys_of count before) - zones_of configs (keys_left count before after) + zones_of configs (keys_left count after before)
         ≡ zones_of configs (keys_of count after)

@@ -1,10 +1,10 @@
 -- What the boards of one moment expose: their items, and which of them are live.
-use Rattle.std.specs.Prelude.{ℕ, ◌+◌, Bool, true, false, not, ◌==◌, ◌&&◌, bytes_eq, List, [], ◌∷◌, map, filter, filter_map, find, Option, Some, None}
+use Rattle.std.specs.Prelude.{ℕ, Bool, true, false, not, ◌==◌, ◌&&◌, bytes_eq, List, [], filter, filter_map, find, Option, Some, None}
 use Rattle.std.specs.Prelude.{option_map}
 use Rattle.std.specs.Prelude.{option_and_then, slice_get}
 use Rattle.std.specs.Option.{option_eq, unwrap_or}
 use Rattle.std.specs.List.{flat_map, list_any, enumerate_from}
-use Rattle.bmc_base.specs.Places.{Place, place_eq, last_bus}
+use Rattle.bmc_base.specs.Places.{Place, place_eq, last_bus, last_address}
 use Rattle.fru_area.specs.declared.field.Field.{Field}
 use Rattle.probe_lang.specs.declared.rows.Entry.{Entry}
 use Rattle.probe_lang.specs.Presents.{is_entry_at}
@@ -13,6 +13,8 @@ use Rattle.cfg_json.specs.Configs.{Config}
 use Rattle.cfg_json.specs.declared.expose.Expose.{Expose}
 use Rattle.cfg_json.specs.declared.expose.Body.{Body}
 use Rattle.cfg_json.specs.declared.expose.Body.TheVariants as bodies
+use Rattle.cfg_json.specs.declared.expose.SensorPart.{SensorPart}
+use Rattle.cfg_json.specs.declared.item.SensorItem.{SensorItem}
 use Rattle.cfg_json.specs.declared.item.ItemId.{ItemId}
 use Rattle.cfg_json.specs.declared.item.Item.{Item}
 use Rattle.cfg_json.specs.declared.item.ItemPart.{ItemPart}
@@ -25,8 +27,22 @@ use Rattle.inventory.specs.declared.family.Family.TheVariants as families
 abbrev pub exposes_of : List Config → ℕ → List Expose
 exposes_of configs number = unwrap_or (option_map (λ (config : Config). config.exposes) (slice_get configs number)) []
 
+-- the number that a template gives at a board with this place, the fields of the record there, and this index, if there is a template and the
+-- number is at most so many
+abbrev pub number_at : Option Place → Option (List Field) → ℕ → ℕ → Option (List ℕ) → Option ℕ
+number_at place fields index most template = option_and_then (λ template. rendered_number place fields index template most) template
+
+-- what a sensor is at a board
+abbrev pub sensor_at : Option Place → Option (List Field) → ℕ → SensorPart → SensorItem
+sensor_at place fields index part = record {
+  bus = number_at place fields index last_bus part.bus;
+  address = number_at place fields index last_address part.address;
+  setting = part.setting;
+}
+
 -- what a body is at a board with this place, the fields of the record there, and this index
 abbrev pub part_of : Option Place → Option (List Field) → ℕ → Body → ItemPart
+part_of place fields index (bodies.Sensor part) = parts.Sensor (sensor_at place fields index part)
 part_of place fields index bodies.Fan = parts.Fan
 part_of place fields index (bodies.Zone setting) = parts.Zone setting
 part_of place fields index (bodies.Mux part) =
@@ -67,16 +83,22 @@ items configs fields_at boards = flat_map (board_items configs fields_at) boards
 
 -- the family of an item, in which names are given once
 abbrev pub family_of : ItemPart → Option Family
+family_of (parts.Sensor sensor) = Some families.Sensor
 family_of parts.Fan = Some families.Fan
 family_of (parts.Zone setting) = Some families.Zone
 family_of (parts.Mux part) = None
 family_of parts.Passive = None
 
 abbrev pub family_eq : Family → Family → Bool
-family_eq families.Fan families.Fan = true
+family_eq families.Sensor families.Sensor = true
 family_eq families.Zone families.Zone = true
-family_eq families.Fan families.Zone = false
+family_eq families.Fan families.Fan = true
+family_eq families.Sensor families.Zone = false
+family_eq families.Sensor families.Fan = false
+family_eq families.Zone families.Sensor = false
 family_eq families.Zone families.Fan = false
+family_eq families.Fan families.Sensor = false
+family_eq families.Fan families.Zone = false
 
 -- whether an item is of a family and has a name
 abbrev pub has_name : Family → List ℕ → Item → Bool

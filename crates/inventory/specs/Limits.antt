@@ -6,11 +6,14 @@ use Rattle.cfg_json.specs.declared.counts.Counts.{Counts}
 use Rattle.inventory.specs.declared.board.BoardKey.{BoardKey}
 use Rattle.inventory.specs.declared.limits.Totals.{Totals}
 use Rattle.inventory.specs.declared.fault.InventoryFault.{InventoryFault}
-use Rattle.inventory.specs.declared.fault.InventoryFault.TheVariants.{BoardLimit, ZoneLimit, FanLimit}
+use Rattle.inventory.specs.declared.fault.InventoryFault.TheVariants.{BoardLimit, SensorLimit, ZoneLimit, FanLimit}
 
--- the most boards, and the most exposes of boards that are zones and that are fans
+-- the most boards, and the most exposes of boards that are sensors, that are zones and that are fans
 abbrev pub most_boards : ℕ
 most_boards = 1024
+
+abbrev pub most_sensors : ℕ
+most_sensors = 4096
 
 abbrev pub most_zones : ℕ
 most_zones = 32
@@ -21,9 +24,12 @@ most_fans = 128
 -- how many exposes of each kind a board has, whether they are rendered or not
 abbrev pub board_counts : List Config → BoardKey → Counts
 board_counts configs key =
-    unwrap_or (option_map (λ (config : Config). counts_of config.exposes) (slice_get configs key.config)) (record { zones = 0; fans = 0 })
+    unwrap_or (option_map (λ (config : Config). counts_of config.exposes) (slice_get configs key.config)) (record { sensors = 0; zones = 0; fans = 0 })
 
--- how many of the exposes of boards are zones, and how many are fans
+-- how many of the exposes of boards are sensors, how many are zones, and how many are fans
+abbrev pub sensors_of : List Config → List BoardKey → ℕ
+sensors_of configs keys = sum_by (λ key. (board_counts configs key).sensors) keys
+
 abbrev pub zones_of : List Config → List BoardKey → ℕ
 zones_of configs keys = sum_by (λ key. (board_counts configs key).zones) keys
 
@@ -32,16 +38,22 @@ fans_of configs keys = sum_by (λ key. (board_counts configs key).fans) keys
 
 -- the totals of boards
 abbrev pub totals_of : List Config → List BoardKey → Totals
-totals_of configs keys = record { boards = length keys; zones = zones_of configs keys; fans = fans_of configs keys }
+totals_of configs keys = record {
+  boards = length keys;
+  sensors = sensors_of configs keys;
+  zones = zones_of configs keys;
+  fans = fans_of configs keys;
+}
 
 -- the totals of no boards
 abbrev pub no_totals : Totals
-no_totals = record { boards = 0; zones = 0; fans = 0 }
+no_totals = record { boards = 0; sensors = 0; zones = 0; fans = 0 }
 
 -- totals where some boards go and others come
 abbrev pub totals_after : List Config → Totals → List BoardKey → List BoardKey → Totals
 totals_after configs totals gone new = record {
   boards = totals.boards - length gone + length new;
+  sensors = totals.sensors - sensors_of configs gone + sensors_of configs new;
   zones = totals.zones - zones_of configs gone + zones_of configs new;
   fans = totals.fans - fans_of configs gone + fans_of configs new;
 }
@@ -50,6 +62,7 @@ totals_after configs totals gone new = record {
 abbrev pub limit_of : Totals → Option InventoryFault
 limit_of totals =
     if nat_lt most_boards totals.boards then Some BoardLimit
+    else if nat_lt most_sensors totals.sensors then Some SensorLimit
     else if nat_lt most_zones totals.zones then Some ZoneLimit
     else if nat_lt most_fans totals.fans then Some FanLimit
     else None

@@ -13,7 +13,7 @@ use Rattle.inventory.specs.Lists.{board_list}
 
 -- whether there are exposes among these that are of a family
 abbrev pub has_families : Counts → Bool
-has_families counts = not (counts.zones + counts.fans == 0)
+has_families counts = not (counts.sensors + counts.zones + counts.fans == 0)
 
 -- whether a board is naming: it has such exposes
 abbrev pub is_naming : List Config → BoardKey → Bool

@@ -6,6 +6,9 @@ pub enum InventoryFault {
     /// There would be more than 1,024 boards.
     #[error("too many boards")]
     BoardLimit,
+    /// The boards would have more than 4,096 exposes that are sensors, whether they are rendered or not.
+    #[error("too many sensors")]
+    SensorLimit,
     /// The boards would have more than 32 exposes that are zones, whether they are rendered or not.
     #[error("too many zones")]
     ZoneLimit,

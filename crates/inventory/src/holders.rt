@@ -40,6 +40,7 @@ fn family_of(part: &ItemPart) -> Option<Family>
     ensures { result ≡ family_of part.now }
 {
     match part {
+        ItemPart::Sensor(_) => Some(Family::Sensor),
         ItemPart::Fan => Some(Family::Fan),
         ItemPart::Zone(_) => Some(Family::Zone),
         ItemPart::Mux(_) => None,

@@ -46,7 +46,7 @@ fn is_naming<L: Ledger>(shelf: &Shelf<L>, plus: Option<&Config<L>>, key: &BoardK
     ensures { result ≡ is_naming (shelf.now ++ option_to_list (option_map (λ config. config.now) plus.entry)) key.now }
 {
     let counts = counts_at(shelf, plus, key);
-    counts.zones > 0 || counts.fans > 0
+    counts.sensors > 0 || counts.zones > 0 || counts.fans > 0
 }
 
 // Whether one of these boards is naming.

@@ -1,18 +1,32 @@
 ghost use Rattle.std.specs.Prelude.{◌≡◌, ◌++◌, filter_map, option_map, option_to_list, IfOk, OnOk};
 ghost use Rattle.bmc_base.specs.Places.{last_bus};
 ghost use Rattle.tmpl.specs.Rendering.{fields_of, rendered_number};
-ghost use Rattle.inventory.specs.Items.{board_fields, entry_fields, exposes_of, items, part_of, rendered_item, rendered_items};
+ghost use Rattle.inventory.specs.Items.{number_at, sensor_at, part_of};
+ghost use Rattle.inventory.specs.Items.{board_fields, entry_fields, exposes_of, items, rendered_item, rendered_items};
 
 use crate::configs::config_at;
 use crate::{Board, Moment};
 use bmc_base::{Bytes, Ledger, OutOfMemory};
-use cfg_json::{Body, Config, Expose, Item, ItemId, ItemPart, MuxItem, MuxPart, Shelf};
+use cfg_json::{
+    Body, Config, Expose, Item, ItemId, ItemPart, MuxItem, MuxPart, SensorItem, SensorPart, Shelf,
+};
 use fru_record::FruRecord;
 use std::alloc::Global;
 use tmpl::{Rendered, Spot, Template};
 
-// The greatest bus.
-const LAST_BUS: u32 = 255;
+// The greatest bus, and the greatest address.
+const LAST_BUS: u8 = 255;
+
+const LAST_ADDRESS: u8 = 127;
+
+// Returns the number that a template gives at a spot, if there is a template and the number is at most so many.
+fn render_number(template: Option<&Template>, spot: &Spot<'_>, most: u8) -> Option<u8>
+    ensures { result ≡ number_at spot.now.place (fields_of spot.now.fru) spot.now.index most
+        (option_map (λ template. template.now) template.entry) }
+{
+    let number = template?.render_number(spot, u32::from(most))?;
+    Some(number as u8)
+}
 
 // Returns the buses that templates give at a spot; one that gives none is left out.
 fn render_buses(
@@ -25,8 +39,8 @@ fn render_buses(
 {
     let mut buses = Vec::new(alloc);
     for template in templates {
-        if let Some(bus) = template.render_number(spot, LAST_BUS) {
-            buses.push(bus as u8)?;
+        if let Some(bus) = render_number(Some(template), spot, LAST_BUS) {
+            buses.push(bus)?;
         }
     }
     Ok(Bytes::from(buses))
@@ -44,11 +58,23 @@ fn render_mux(alloc: Global, part: &MuxPart, spot: &Spot<'_>) -> Result<MuxItem,
     })
 }
 
+// Renders a sensor at a spot.
+fn render_sensor(part: &SensorPart, spot: &Spot<'_>) -> SensorItem
+    ensures { result ≡ sensor_at spot.now.place (fields_of spot.now.fru) spot.now.index part.now }
+{
+    SensorItem {
+        bus: render_number(part.bus.as_ref(), spot, LAST_BUS),
+        address: render_number(part.address.as_ref(), spot, LAST_ADDRESS),
+        setting: part.setting,
+    }
+}
+
 // Renders the body of an expose at a spot.
 fn render_part(alloc: Global, body: &Body, spot: &Spot<'_>) -> Result<ItemPart, OutOfMemory>
     ensures { IfOk result (λ part. part ≡ part_of spot.now.place (fields_of spot.now.fru) spot.now.index body.now) }
 {
     match body {
+        Body::Sensor(part) => Ok(ItemPart::Sensor(render_sensor(part, spot))),
         Body::Fan => Ok(ItemPart::Fan),
         Body::Zone(setting) => Ok(ItemPart::Zone(*setting)),
         Body::Mux(part) => Ok(ItemPart::Mux(render_mux(alloc, part, spot)?)),

@@ -4,6 +4,7 @@ ghost use Rattle.inventory.specs.Limits.{
   fans_of,
   limit_of,
   no_totals,
+  sensors_of,
   totals_after,
   totals_of,
   zones_of,
@@ -15,8 +16,10 @@ use crate::{Board, BoardKey, Difference, InventoryFault};
 use bmc_base::Ledger;
 use cfg_json::{Config, Counts, Shelf};
 
-// The most boards, and the most exposes of boards that are zones and that are fans.
+// The most boards, and the most exposes of boards that are sensors, that are zones and that are fans.
 const MOST_BOARDS: usize = 1024;
+
+const MOST_SENSORS: usize = 4096;
 
 const MOST_ZONES: usize = 32;
 
@@ -27,11 +30,20 @@ const MOST_FANS: usize = 128;
 pub struct Totals {
     /// The boards, at most 1,024.
     pub boards: usize,
+    /// The sensors, at most 4,096.
+    pub sensors: usize,
     /// The zones, at most 32.
     pub zones: usize,
     /// The fans, at most 128.
     pub fans: usize,
 }
+
+// The counts of no exposes.
+const NO_COUNTS: Counts = Counts {
+    sensors: 0,
+    zones: 0,
+    fans: 0,
+};
 
 // Counts the exposes of a board; there are none where no configuration has its number.
 pub(crate) fn counts_at<L: Ledger>(
@@ -43,16 +55,18 @@ pub(crate) fn counts_at<L: Ledger>(
 {
     match config_at(shelf, plus, key.config as usize) {
         Some(config) => config.counts(),
-        None => Counts { zones: 0, fans: 0 },
+        None => NO_COUNTS,
     }
 }
 
 // Adds two counts, up to the greatest number.
 fn add_counts(sums: Counts, counts: Counts) -> Counts
+    ensures sensors { result.sensors ≡ min (sums.sensors + counts.sensors) usize.MAX }
     ensures zones { result.zones ≡ min (sums.zones + counts.zones) usize.MAX }
     ensures fans { result.fans ≡ min (sums.fans + counts.fans) usize.MAX }
 {
     Counts {
+        sensors: sums.sensors.saturating_add(counts.sensors),
         zones: sums.zones.saturating_add(counts.zones),
         fans: sums.fans.saturating_add(counts.fans),
     }
@@ -60,10 +74,11 @@ fn add_counts(sums: Counts, counts: Counts) -> Counts
 
 // Counts the exposes of the boards with these keys, up to the greatest number.
 fn sum_counts<L: Ledger>(shelf: &Shelf<L>, plus: Option<&Config<L>>, keys: &[BoardKey]) -> Counts
+    ensures sensors { result.sensors ≡ min (sensors_of (shelf.now ++ option_to_list (option_map (λ config. config.now) plus.entry)) keys.now) usize.MAX }
     ensures zones { result.zones ≡ min (zones_of (shelf.now ++ option_to_list (option_map (λ config. config.now) plus.entry)) keys.now) usize.MAX }
     ensures fans { result.fans ≡ min (fans_of (shelf.now ++ option_to_list (option_map (λ config. config.now) plus.entry)) keys.now) usize.MAX }
 {
-    let mut sums = Counts { zones: 0, fans: 0 };
+    let mut sums = NO_COUNTS;
     for key in keys {
         sums = add_counts(sums, counts_at(shelf, plus, key));
     }
@@ -84,6 +99,7 @@ impl Totals {
     {
         Totals {
             boards: 0,
+            sensors: 0,
             zones: 0,
             fans: 0,
         }
@@ -95,6 +111,8 @@ impl Totals {
     {
         if self.boards > MOST_BOARDS {
             Some(InventoryFault::BoardLimit)
+        } else if self.sensors > MOST_SENSORS {
+            Some(InventoryFault::SensorLimit)
         } else if self.zones > MOST_ZONES {
             Some(InventoryFault::ZoneLimit)
         } else if self.fans > MOST_FANS {
@@ -132,6 +150,7 @@ impl Totals {
         let new = sum_counts(shelf, plus, new_keys);
         let totals = Totals {
             boards: replaced(self.boards, gone_keys.len(), new_keys.len()),
+            sensors: replaced(self.sensors, gone.sensors, new.sensors),
             zones: replaced(self.zones, gone.zones, new.zones),
             fans: replaced(self.fans, gone.fans, new.fans),
         };

@@ -93,7 +93,7 @@ fn has_families<L: Ledger>(config: &Config<L>) -> bool
     ensures { result ≡ has_families (counts_of config.now.exposes) }
 {
     let counts = config.counts();
-    counts.zones > 0 || counts.fans > 0
+    counts.sensors > 0 || counts.zones > 0 || counts.fans > 0
 }
 
 // Lists the naming boards at a moment, as [`list_all`] lists all boards.

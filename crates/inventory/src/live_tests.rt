@@ -4,7 +4,8 @@ ghost use Rattle.inventory.specs.Orders.{AreById};
 use crate::less::is_before;
 use crate::{Family, Holders, ItemList, Live, push_less};
 use bmc_base::{Milli, Name, Place};
-use cfg_json::{Item, ItemId, ItemPart, ZoneSetting};
+use cfg_json::{Item, ItemId, ItemPart, SensorItem, ZoneSetting};
+use sensor_core::{Limit, SensorSetting};
 use std::alloc::Global;
 use std::process::Abort;
 use std::test::Fail;
@@ -12,13 +13,37 @@ use std::test::Fail;
 // An item: its configuration, its bus, the position of its expose, its name, and its family, if it is of one.
 type Row<'r> = (u32, u32, u32, &'r str, Option<Family>);
 
+const SENSOR: Option<Family> = Some(Family::Sensor);
+
 const ZONE: Option<Family> = Some(Family::Zone);
 
 const FAN: Option<Family> = Some(Family::Fan);
 
+const UNUSED: Limit = Limit {
+    above: false,
+    severity: 0,
+    value: Milli(0),
+    hysteresis: Milli(0),
+};
+
+// A sensor whose values are its raw numbers.
+const PLAIN: SensorItem = SensorItem {
+    bus: None,
+    address: None,
+    setting: SensorSetting {
+        num: 1,
+        den: 1,
+        offset: Milli(0),
+        timeout: 0,
+        limits: [UNUSED; 8],
+        count: 0,
+    },
+};
+
 fn item(row: Row<'_>) -> Result<Item, Fail> {
     let (config, bus, expose, name, family) = row;
     let part = match family {
+        Some(Family::Sensor) => ItemPart::Sensor(PLAIN),
         Some(Family::Zone) => ItemPart::Zone(ZoneSetting {
             min_thermal: Milli(0),
             failsafe: Milli(100_000),
@@ -68,14 +93,15 @@ fn items(alloc: Global, rows: &[Row<'_>]) -> Result<ItemList, Fail>
     }
 }
 
-// Names that occur twice: in one family, in both, and at an item of no family.
-const ROWS: [Row<'static>; 6] = [
+// Names that occur twice: in one family, in several, and at an item of no family.
+const ROWS: [Row<'static>; 7] = [
     (0, 1, 0, "Fan 1", FAN),
     (0, 1, 1, "Zone 1", ZONE),
     (0, 2, 0, "Fan 1", FAN),
     (1, 1, 0, "Zone 1", FAN),
     (1, 1, 1, "Fan 1", None),
     (1, 2, 0, "Fan 2", FAN),
+    (1, 2, 1, "Fan 2", SENSOR),
 ];
 
 // The live items are at these positions, and the names are held at those.
@@ -109,15 +135,17 @@ fn the_first_item_holds_its_name(rt: HostRuntime) -> Result<(), Fail> {
         (Family::Fan, "Zone 1", Some(3)),
         (Family::Fan, "Fan 2", Some(5)),
         (Family::Fan, "Fan 3", None),
+        (Family::Sensor, "Fan 2", Some(6)),
+        (Family::Sensor, "Fan 1", None),
     ];
-    assert_held(&rt, rt.alloc(), &ROWS, &[0, 1, 3, 5], &held)?;
+    assert_held(&rt, rt.alloc(), &ROWS, &[0, 1, 3, 5, 6], &held)?;
     // the first holder goes, and the second item has the name
     let held = [
         (Family::Fan, "Fan 1", Some(1)),
         (Family::Zone, "Zone 1", Some(0)),
         (Family::Fan, "Zone 1", Some(2)),
     ];
-    assert_held(&rt, rt.alloc(), &ROWS[1..], &[0, 1, 2, 4], &held)?;
+    assert_held(&rt, rt.alloc(), &ROWS[1..], &[0, 1, 2, 4, 5], &held)?;
     assert_held(&rt, rt.alloc(), &[], &[], &[(Family::Fan, "Fan 1", None)])
 }
 
@@ -158,8 +186,8 @@ fn live_items_go_and_come(rt: HostRuntime) -> Result<(), Fail> {
     // what is before and after, and of what is live what goes and what comes
     let rows = [
         (&ROWS[..], &ROWS[..], &[][..], &[][..]),
-        (&[], &ROWS[2..], &[], &[ROWS[2], ROWS[3], ROWS[5]]),
-        (&ROWS[2..], &[], &[ROWS[2], ROWS[3], ROWS[5]], &[]),
+        (&[], &ROWS[2..], &[], &[ROWS[2], ROWS[3], ROWS[5], ROWS[6]]),
+        (&ROWS[2..], &[], &[ROWS[2], ROWS[3], ROWS[5], ROWS[6]], &[]),
         // a name goes with its holder, and comes with the next item
         (&ROWS, &ROWS[1..], &[ROWS[0]], &[ROWS[2]]),
         (&ROWS[1..], &ROWS, &[ROWS[2]], &[ROWS[0]]),

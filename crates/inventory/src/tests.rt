@@ -187,32 +187,43 @@ fn first_found(alloc: Global) -> Result<Facts, Fail> {
     Ok(set.facts())
 }
 
-// A fan, a zone whose name asks for a record, a multiplexer whose name asks for a place, and an expose of another type.
+// A fan, a zone whose name asks for a record, a multiplexer whose name asks for a place, an expose of another type, and
+// a sensor whose bus and address ask for the place and the index.
 const EXPOSES: &str = r#"{"Name":"A","Probe":"TRUE","Exposes":[
     {"Name":"Fan $index","Type":"Fan"},
     {"Name":"$BOARD_PRODUCT_NAME zone","Type":"Pid.Zone","MinThermalOutput":30,"FailSafePercent":70},
     {"Name":"Mux $bus","Type":"Mux","Channels":[20,"$bus + 20","$bus * 200","$bus - 2"]},
-    {"Name":"Plain","Type":"Other"}]}"#;
+    {"Name":"Plain","Type":"Other"},
+    {"Name":"Sensor","Type":"Sensor","Bus":"$bus + 1","Address":"$index * 30","ScaleNum":-2}]}"#;
 
 // An item: its configuration, the bus of its place, if it has one, its expose, its name, and what it has by its type.
-const ITEMS: [&str; 9] = [
+const ITEMS: [&str; 12] = [
     "0 Some(1) 0 Fan 3 fan",
     "0 Some(1) 1 RSR1 zone zone 30.000 70.000",
     // one channel leads below bus 0
     "0 Some(1) 2 Mux 1 mux [20] [21, 200]",
     "0 Some(1) 3 Plain passive",
+    "0 Some(1) 4 Sensor sensor Some(2) Some(90) -2",
     // here is no record, and one channel leads beyond bus 255
     "0 Some(2) 0 Fan 4 fan",
     "0 Some(2) 2 Mux 2 mux [20] [22, 0]",
     "0 Some(2) 3 Plain passive",
-    // here is no place
+    "0 Some(2) 4 Sensor sensor Some(3) Some(120) -2",
+    // here is no place, so the sensor has no bus, and its address is beyond 127
     "0 None 0 Fan 7 fan",
     "0 None 3 Plain passive",
+    "0 None 4 Sensor sensor None None -2",
 ];
 
 // What an item has by its type.
 fn part_text(alloc: Global, part: &ItemPart) -> Result<String, Fail> {
     Ok(match part {
+        ItemPart::Sensor(sensor) => {
+            format!(in alloc;
+                "sensor {:?} {:?} {}",
+                sensor.bus, sensor.address, sensor.setting.num
+            )?
+        }
         ItemPart::Fan => String::from_str(alloc, "fan")?,
         ItemPart::Zone(setting) => {
             format!(in alloc; "zone {} {}", setting.min_thermal, setting.failsafe)?

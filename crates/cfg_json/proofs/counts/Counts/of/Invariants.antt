@@ -6,6 +6,7 @@ use Rattle.cfg_json.proofs.counts.Counts.of.Given as goal
 abbrev pub invariant-loop-expose : goal.invariant-loop-expose
 invariant-loop-expose l = record {
   counted : l.counts ≡ counts_of (take l.expose-index l.exposes);
+  sensors : l.counts.sensors ≤ l.expose-index;
   zones : l.counts.zones ≤ l.expose-index;
   fans : l.counts.fans ≤ l.expose-index;
 }
