@@ -17,6 +17,7 @@ mod row;
 mod sensor_row;
 #[cfg(test)]
 mod tests;
+mod topic;
 mod zone_row;
 
 pub use board_row::{ItemRow, push_board_row, push_index_row, push_item_row};
@@ -28,4 +29,5 @@ pub use log_row::push_log_row;
 pub use refusal::{Refusal, push_refused_line, refusal_text};
 pub use row::push_fru_row;
 pub use sensor_row::{SensorRow, push_sensor_row};
+pub use topic::Topic;
 pub use zone_row::{push_fan_row, push_zone_row};

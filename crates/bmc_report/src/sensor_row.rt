@@ -18,7 +18,7 @@ pub struct SensorRow<'a> {
     /// How many ticks of 100 milliseconds ago it was last read, if ever.
     pub age: Option<u64>,
     /// Which of its alarms are on, by position.
-    pub alarms: [bool; 8],
+    pub alarms: &'a [bool],
 }
 
 // The state of a sensor.
@@ -66,7 +66,7 @@ fn push_positions(out: &mut String, alarms: &[bool]) -> Result<(), OutOfMemory>
 #[tactic(auto, using(std::proofs::Common::append_assoc), unfolding(crate::specs::SensorRows::sensor_row))]
 pub fn push_sensor_row(out: &mut String, row: &SensorRow<'_>) -> Result<(), OutOfMemory>
     ensures { OnOk result (string_bytes out.new ≡ string_bytes out.old
-        ++ sensor_row row.now.name.now row.now.value row.now.failed row.now.age row.now.alarms) }
+        ++ sensor_row row.now.name.now row.now.value row.now.failed row.now.age row.now.alarms.now) }
 {
     out.push_str("sensor ")?;
     push_quoted(out, row.name.as_str())?;
@@ -76,7 +76,7 @@ pub fn push_sensor_row(out: &mut String, row: &SensorRow<'_>) -> Result<(), OutO
     out.push_str(state(row.failed))?;
     out.push(' ')?;
     push_age(out, row.age)?;
-    push_positions(out, &row.alarms)?;
+    push_positions(out, row.alarms)?;
     out.push('\n')?;
     Ok(())
 }

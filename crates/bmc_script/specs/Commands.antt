@@ -1,12 +1,17 @@
 -- The command of a line of a script.
-use Rattle.std.specs.Prelude.{ℕ, ◌≡◌, ⊤, ◌==◌, ◌||◌, if◌then◌else◌, List, [], ◌∷◌, length, codes, bytes_eq, Option, Some, None, Result, Ok, Err}
+use Rattle.std.specs.Prelude.{ℕ, ◌≡◌, ⊤, ◌==◌, ◌||◌, if◌then◌else◌, List, [], ◌∷◌, length, reverse, codes, bytes_eq, Option, Some, None, option_map, Result, Ok, Err}
+use Rattle.std.specs.Str.{is_utf8}
 use Rattle.std.specs.List.{list_any}
 use Rattle.std.specs.Option.{ok_or, unwrap_or}
+use Rattle.bmc_base.specs.Names.{name_of}
+use Rattle.bmc_base.specs.declared.name.NameFault.{NameFault}
 use Rattle.bmc_base.specs.Places.{Place, place_of}
+use Rattle.bmc_report.specs.declared.topic.Topic.{Topic}
+use Rattle.bmc_report.specs.declared.topic.Topic.TheVariants.{Frus, Inventory, Sensors, Indexes}
 use Rattle.bmc_text.specs.Hex.{hex_decoded}
-use Rattle.bmc_text.specs.Words.{split_space, number}
+use Rattle.bmc_text.specs.Words.{split_space, number, raw}
 use Rattle.bmc_script.specs.declared.command.Command.{Command}
-use Rattle.bmc_script.specs.declared.command.Command.TheVariants.{Config, Plug, Unplug, Nothing}
+use Rattle.bmc_script.specs.declared.command.Command.TheVariants.{Config, Plug, Unplug, Good, Lost, Show, Nothing}
 use Rattle.bmc_script.specs.declared.command.ScriptFault.{ScriptFault}
 use Rattle.bmc_script.specs.declared.command.ScriptFault.TheVariants.{UnknownCommand, BadArguments, PlaceRange, BadHex, OutOfMemory}
 
@@ -50,12 +55,56 @@ config_of rest = do
   size ← ok_or (number rest) BadArguments
   Ok (Config size)
 
+-- a text at its last space: what stands before it, and what behind it
+abbrev pub split_last_space : List ℕ → Option (List ℕ × List ℕ)
+split_last_space text = option_map (λ parts. (reverse parts.1, reverse parts.0)) (split_space (reverse text))
+
+-- the name in these bytes, if they are one
+abbrev pub name_in : List ℕ → Result (List ℕ) ScriptFault
+name_in bytes = if is_utf8 bytes then named (name_of bytes) else Err BadArguments
+  where
+    named : Result (List ℕ) NameFault → Result (List ℕ) ScriptFault
+    named (Ok name) = Ok name
+    named (Err fault) = Err BadArguments
+
+-- `read NAME RAW`, behind its first word
+unfoldable pub read_of : List ℕ → Result Command ScriptFault
+read_of rest = do
+  parts ← ok_or (split_last_space rest) BadArguments
+  name ← name_in parts.0
+  number ← ok_or (raw parts.1) BadArguments
+  Ok (Good name number)
+
+-- `lose NAME`, behind its first word
+unfoldable pub lose_of : List ℕ → Result Command ScriptFault
+lose_of rest = do
+  name ← name_in rest
+  Ok (Lost name)
+
+-- the topic of this word, if there is one
+abbrev pub topic_of : List ℕ → Option Topic
+topic_of word =
+    if bytes_eq word (codes "frus") then Some Frus
+    else if bytes_eq word (codes "inventory") then Some Inventory
+    else if bytes_eq word (codes "sensors") then Some Sensors
+    else if bytes_eq word (codes "indexes") then Some Indexes
+    else None
+
+-- `show TOPIC`, behind its first word
+unfoldable pub show_of : List ℕ → Result Command ScriptFault
+show_of rest = do
+  topic ← ok_or (topic_of rest) BadArguments
+  Ok (Show topic)
+
 -- the command of this first word with what stands behind it
 abbrev pub verb_command : List ℕ → List ℕ → Result Command ScriptFault
 verb_command verb rest =
     if bytes_eq verb (codes "plug") then plug_of rest
     else if bytes_eq verb (codes "unplug") then unplug_of rest
     else if bytes_eq verb (codes "config") then config_of rest
+    else if bytes_eq verb (codes "read") then read_of rest
+    else if bytes_eq verb (codes "lose") then lose_of rest
+    else if bytes_eq verb (codes "show") then show_of rest
     else Err UnknownCommand
 
 -- the first word of a line, and what stands behind the first space: nothing where there is no space

@@ -1,9 +1,11 @@
 ghost use Rattle.std.specs.Prelude.{◌≡◌, ◌<◌, ◌==◌, length, IfSome, option_map, position};
 ghost use Rattle.bmc_text.specs.Words.{split_space};
 ghost use Rattle.bmc_script.specs.Commands.{GivesCommand, command_of, first_word, words_of, plug_of, unplug_of, config_of, place_named};
+ghost use Rattle.bmc_script.specs.Commands.{split_last_space, name_in, read_of, lose_of, topic_of, show_of};
 
-use bmc_base::{Bytes, Place};
-use bmc_text::{HexFault, hex_bytes, read_number};
+use bmc_base::{Bytes, Name, Place};
+use bmc_report::Topic;
+use bmc_text::{HexFault, hex_bytes, read_number, read_raw};
 use std::alloc::Global;
 use thiserror::Error;
 
@@ -18,6 +20,14 @@ pub enum Command {
     Plug(Place, Bytes),
     /// `unplug B A`: the FRU at a place goes away.
     Unplug(Place),
+    /// `read NAME RAW`: a sensor was read, and this is the raw number: an optional `-` and 1 to 18 decimal digits. The name
+    /// has 1 to 64 bytes of UTF-8, spaces among them, and ends at the last space of the line.
+    Good(Name, i64),
+    /// `lose NAME`: a reading of a sensor was lost. The name has 1 to 64 bytes of UTF-8, and is all that stands behind the
+    /// first space.
+    Lost(Name),
+    /// `show TOPIC`: a list is asked for, of `frus`, `inventory`, `sensors` or `indexes`.
+    Show(Topic),
     /// An empty line, or a comment, which begins with `#`.
     Nothing,
 }
@@ -115,6 +125,63 @@ fn read_config(rest: &[u8]) -> Result<Command, ScriptFault>
     Ok(Command::Config(size))
 }
 
+// Splits bytes at the last space: what stands before it, and what behind it.
+fn last_word(bytes: &[u8]) -> Option<(&[u8], &[u8])>
+    ensures { option_map (λ parts. (parts.0.now, parts.1.now)) result ≡ split_last_space bytes.now }
+{
+    let at = bytes.iter().rposition(|byte| *byte == b' ')?;
+    Some((&bytes[..at], &bytes[at + 1..]))
+}
+
+// Reads a name.
+fn read_name(bytes: &[u8]) -> Result<Name, ScriptFault>
+    ensures { result ≡ name_in bytes.now }
+{
+    let text = std::str::from_utf8(bytes).map_err(|_| ScriptFault::BadArguments)?;
+    Name::new(text).map_err(|_| ScriptFault::BadArguments)
+}
+
+// Reads what stands behind `read `.
+#[tactic(auto, unfolding(crate::specs::Commands::read_of))]
+fn read_read(rest: &[u8]) -> Result<Command, ScriptFault>
+    ensures { result ≡ read_of rest.now }
+{
+    let (name, number) = last_word(rest).ok_or(ScriptFault::BadArguments)?;
+    let name = read_name(name)?;
+    let raw = read_raw(number).ok_or(ScriptFault::BadArguments)?;
+    Ok(Command::Good(name, raw))
+}
+
+// Reads what stands behind `lose `.
+#[tactic(auto, unfolding(crate::specs::Commands::lose_of))]
+fn read_lose(rest: &[u8]) -> Result<Command, ScriptFault>
+    ensures { result ≡ lose_of rest.now }
+{
+    Ok(Command::Lost(read_name(rest)?))
+}
+
+// Returns the topic of a word, if there is one.
+fn topic_of(word: &[u8]) -> Option<Topic>
+    ensures { result ≡ topic_of word.now }
+{
+    match word {
+        b"frus" => Some(Topic::Frus),
+        b"inventory" => Some(Topic::Inventory),
+        b"sensors" => Some(Topic::Sensors),
+        b"indexes" => Some(Topic::Indexes),
+        _ => None,
+    }
+}
+
+// Reads what stands behind `show `.
+#[tactic(auto, unfolding(crate::specs::Commands::show_of))]
+fn read_show(rest: &[u8]) -> Result<Command, ScriptFault>
+    ensures { result ≡ show_of rest.now }
+{
+    let topic = topic_of(rest).ok_or(ScriptFault::BadArguments)?;
+    Ok(Command::Show(topic))
+}
+
 // Reads a line that is no comment.
 #[tactic(auto, unfolding(crate::specs::Commands::words_of))]
 fn read_words(alloc: Global, line: &[u8]) -> Result<Command, ScriptFault>
@@ -125,6 +192,9 @@ fn read_words(alloc: Global, line: &[u8]) -> Result<Command, ScriptFault>
         b"plug" => read_plug(alloc, rest),
         b"unplug" => read_unplug(rest),
         b"config" => read_config(rest),
+        b"read" => read_read(rest),
+        b"lose" => read_lose(rest),
+        b"show" => read_show(rest),
         _ => Err(ScriptFault::UnknownCommand),
     }
 }

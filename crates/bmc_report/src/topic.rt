@@ -1,0 +1,12 @@
+/// What a list is about.
+#[derive(Clone, Copy, Debug, PartialEq, Eq)]
+pub enum Topic {
+    /// The FRUs that are present, with their fields.
+    Frus,
+    /// The boards, with what they expose.
+    Inventory,
+    /// The live sensors.
+    Sensors,
+    /// The indexes that boards have for good.
+    Indexes,
+}
