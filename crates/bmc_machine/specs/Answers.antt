@@ -7,7 +7,8 @@ use Rattle.bmc_script.specs.declared.command.Command.{Command}
 use Rattle.bmc_script.specs.declared.command.Command.TheVariants as commands
 use Rattle.bmc_script.specs.declared.command.ScriptFault.{ScriptFault}
 use Rattle.bmc_report.specs.Refusals.{refused_line}
-use Rattle.bmc_report.specs.Rows.{fru_row}
+use Rattle.bmc_report.specs.declared.topic.Topic.{Topic}
+use Rattle.bmc_report.specs.declared.topic.Topic.TheVariants.{Frus}
 use Rattle.bmc_report.specs.Changes.{change_line}
 use Rattle.bmc_report.specs.declared.refusal.Refusal.{Refusal}
 use Rattle.bmc_report.specs.declared.refusal.Refusal.TheVariants as refusals
@@ -16,9 +17,9 @@ use Rattle.cfg_json.specs.Configs.{Config}
 use Rattle.cfg_json.specs.Documents.{config_read}
 use Rattle.cfg_json.specs.Verdicts.{Verdict, Accepted, BadPattern, LargePattern}
 use Rattle.cfg_json.specs.declared.config_fault.ConfigFault.{ConfigFault}
-use Rattle.bmc_machine.specs.Standings.{Fru, fields_of}
-use Rattle.bmc_machine.specs.Histories.{Step, Configure, Plug, RefusedPlug, Unplug, standing, tick_of}
-use Rattle.bmc_machine.specs.Refusals.{command_refusal, config_refusal, refusal_of}
+use Rattle.bmc_machine.specs.Shows.{shown}
+use Rattle.bmc_machine.specs.Histories.{Step, Configure, Plug, RefusedPlug, Unplug, Read, Lose, standing, tick_of}
+use Rattle.bmc_machine.specs.Refusals.{command_refusal, config_refusal, refusal_after}
 use Rattle.bmc_machine.specs.Changes.{changes}
 
 -- what comes of items after a history: the history then, what is printed of them, and whether one of them was refused
@@ -30,6 +31,10 @@ pub record Answer : Type 0 where
 -- nothing happens
 abbrev pub silent : List Step → Answer
 silent past = record { past = past; text = []; refused = false }
+
+-- a list is printed, and nothing else happens
+abbrev pub showing : List Step → Topic → Answer
+showing past topic = record { past = past; text = shown topic past; refused = false }
 
 -- a step is accepted: it joins the history, and its changes are printed
 abbrev pub accepting : List Step → Step → Answer
@@ -45,6 +50,8 @@ past_refused past (Plug place bytes) refusal = RefusedPlug place bytes refusal �
 past_refused past (Configure config) refusal = past
 past_refused past (RefusedPlug place bytes reason) refusal = past
 past_refused past (Unplug place) refusal = past
+past_refused past (Read name raw) refusal = past
+past_refused past (Lose name) refusal = past
 
 abbrev pub answer_by : Option Refusal → (Refusal → List ℕ) → List Step → Step → Answer
 answer_by None line past step = accepting past step
@@ -52,7 +59,7 @@ answer_by (Some refusal) line past step = refusing line (past_refused past step 
 
 -- what comes of a step
 abbrev pub answer_step : (Refusal → List ℕ) → List Step → Step → Answer
-answer_step line past step = answer_by (refusal_of (standing past) step) line past step
+answer_step line past step = answer_by (refusal_after past step) line past step
 
 abbrev pub answer_broken : Option Refusal → (Refusal → List ℕ) → List Step → Answer
 answer_broken None line past = silent past
@@ -64,6 +71,9 @@ answer_command line past (Ok commands.Nothing) = silent past
 answer_command line past (Ok (commands.Config size)) = refusing line past ConfigShort
 answer_command line past (Ok (commands.Plug place bytes)) = answer_step line past (Plug place bytes)
 answer_command line past (Ok (commands.Unplug place)) = answer_step line past (Unplug place)
+answer_command line past (Ok (commands.Good name raw)) = answer_step line past (Read name raw)
+answer_command line past (Ok (commands.Lost name)) = answer_step line past (Lose name)
+answer_command line past (Ok (commands.Show topic)) = showing past topic
 answer_command line past (Err fault) = answer_broken (command_refusal fault) line past
 
 -- what comes of a configuration that was read of its block, with this verdict on its patterns
@@ -108,17 +118,9 @@ answer_of verdicts script = answers 1 [] verdicts (items_of script)
 abbrev pub whole_answer_of : List Verdict → List ℕ → Answer
 whole_answer_of verdicts bytes = answers 1 [] verdicts (whole_items bytes)
 
--- the row of a FRU that is present, read from its bytes
-abbrev pub row_of : Fru → List ℕ
-row_of fru = fru_row fru.place (fields_of fru)
-
--- the final list
-unfoldable pub final_list : List Fru → List ℕ
-final_list frus = flat_map row_of frus
-
--- all that is printed of an answer to a whole script: its text, and then the final list
+-- all that is printed of an answer to a whole script: its text, and then the list of FRUs
 abbrev pub with_list : Answer → List ℕ
-with_list answer = answer.text ++ final_list (standing answer.past).frus
+with_list answer = answer.text ++ shown Frus answer.past
 
 -- what is printed for a script
 abbrev pub out : List Verdict → List ℕ → List ℕ

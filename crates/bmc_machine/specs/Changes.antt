@@ -1,5 +1,6 @@
--- What a step changes: the boards that go and those that come, and the live items.
-use Rattle.std.specs.Prelude.{ℕ, Bool, true, false, List, ◌∷◌, ◌++◌, length, map, filter_map, Option, Some, None, option_map}
+-- What a step changes: the boards that go and those that come, the live items, and what sensors show.
+use Rattle.std.specs.Prelude.{ℕ, ◌==◌, Bool, true, false, bool_eq, if◌then◌else◌, List, [], ◌∷◌, ◌++◌, length, map, filter_map, Option, Some, None, option_map}
+use Rattle.std.specs.List.{flat_map, enumerate_from}
 use Rattle.bmc_base.specs.Places.{Place}
 use Rattle.cfg_json.specs.Configs.{Config}
 use Rattle.cfg_json.specs.declared.item.Item.{Item}
@@ -11,12 +12,17 @@ use Rattle.inventory.specs.Differences.{keys_left}
 use Rattle.inventory.specs.declared.board.BoardKey.{BoardKey}
 use Rattle.bmc_report.specs.declared.change.Change.{Change}
 use Rattle.bmc_report.specs.declared.change.Change.TheVariants as changes_of
-use Rattle.bmc_report.specs.declared.change.Change.TheVariants.{Board}
+use Rattle.bmc_report.specs.declared.change.Change.TheVariants.{Board, Failure, Alarm}
 use Rattle.bmc_report.specs.declared.live_kind.LiveKind.{LiveKind}
 use Rattle.bmc_report.specs.declared.live_kind.LiveKind.TheVariants as kinds
+use Rattle.sensor_core.specs.Limits.{most_severe}
+use Rattle.sensor_core.specs.Sensors.{Sensor, has_failed, has_alarm}
+use Rattle.sensor_core.specs.Settings.{limits_of}
+use Rattle.sensor_core.specs.declared.limit.Limit.{Limit}
 use Rattle.bmc_machine.specs.Boards.{boards, name_of}
 use Rattle.bmc_machine.specs.Histories.{Step, standing}
 use Rattle.bmc_machine.specs.Indexes.{kept, live_now}
+use Rattle.bmc_machine.specs.Lives.{has_id, item_sensor}
 
 -- the configurations of one moment; by number the boards of each, and all that it ever had; and the items that are live
 pub record Inventory : Type 0 where
@@ -59,6 +65,36 @@ unfoldable pub changes_between : Inventory → Inventory → List Change
 changes_between before after =
     boards_left true before after ++ boards_left false after before ++ items_left true before after ++ items_left false after before
 
--- the changes of a step
+-- a sensor failed, or works again
+abbrev pub failure_change : List ℕ → Bool → Bool → List Change
+failure_change name was is = if bool_eq was is then [] else Failure is name ∷ []
+
+-- the alarm of a limit went on or off
+abbrev pub alarm_change : List ℕ → Sensor → Sensor → ℕ × Limit → List Change
+alarm_change name before after (position, limit) =
+    if bool_eq (has_alarm before position) (has_alarm after position) then []
+    else Alarm (has_alarm after position) name position limit.above (limit.severity == most_severe) ∷ []
+
+-- what a sensor of this name shows otherwise than before: whether it failed, and then its alarms by position
+unfoldable pub sensor_changes : List ℕ → Sensor → Sensor → List Change
+sensor_changes name before after =
+    failure_change name (has_failed before) (has_failed after) ++ flat_map (alarm_change name before after) (enumerate_from 0 (limits_of after.setting))
+
+-- the same, where there was a sensor and is one
+abbrev pub changes_of_sensor : List ℕ → Option Sensor → Option Sensor → List Change
+changes_of_sensor name (Some before) (Some after) = sensor_changes name before after
+changes_of_sensor name (Some before) None = []
+changes_of_sensor name None after = []
+
+-- what the sensor of a live item shows otherwise than before a step, where the item was live before it
+abbrev pub changes_of_item : List Step → Step → Item → List Change
+changes_of_item past step item =
+    if has_id (live_now past) item.id then changes_of_sensor item.name (item_sensor past item) (item_sensor (step ∷ past) item) else []
+
+-- what the sensors of live items show otherwise than before a step
+abbrev pub changes_of_sensors : List Step → Step → List Change
+changes_of_sensors past step = flat_map (changes_of_item past step) (live_now (step ∷ past))
+
+-- the changes of a step: of boards and live items, and then of sensors
 abbrev pub changes : List Step → Step → List Change
-changes past step = changes_between (inventory past) (inventory (step ∷ past))
+changes past step = changes_between (inventory past) (inventory (step ∷ past)) ++ changes_of_sensors past step

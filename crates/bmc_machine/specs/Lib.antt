@@ -4,8 +4,10 @@ pub mod Histories
 pub mod Indexes
 pub mod Names
 pub mod Meetings
+pub mod Lives
 pub mod Refusals
 pub mod Changes
+pub mod Shows
 pub mod Answers
 pub mod Ties
 pub mod Examples

@@ -1,5 +1,5 @@
 -- Why an item is refused.
-use Rattle.std.specs.Prelude.{ℕ, ◌≡◌, ⊤, Bool, nat_le, is_some, if◌then◌else◌, List, [], ◌∷◌, length, Option, Some, None, option_map}
+use Rattle.std.specs.Prelude.{ℕ, ◌≡◌, ⊤, Bool, nat_le, nat_lt, ℤ, unsigned_abs, is_some, is_none, if◌then◌else◌, List, [], ◌∷◌, length, Option, Some, None, option_map}
 use Rattle.std.specs.Prelude.{Result, Ok, Err}
 use Rattle.fru_area.specs.declared.field.Field.{Field}
 use Rattle.fru_area.specs.declared.fault.FruFault.{FruFault}
@@ -18,12 +18,18 @@ use Rattle.bmc_report.specs.declared.refusal.Refusal.TheVariants.{DuplicateName,
 use Rattle.bmc_report.specs.declared.refusal.Refusal.TheVariants.{FruShort, FruTooLong, HeaderVersion, HeaderChecksum, AreaOutside, AreaVersion}
 use Rattle.bmc_report.specs.declared.refusal.Refusal.TheVariants.{AreaLength, AreaChecksum, FieldOutside, NoEnd, FruLimit}
 use Rattle.bmc_report.specs.declared.refusal.Refusal.TheVariants.{BoardLimit, SensorLimit, ZoneLimit, FanLimit, NotPresent}
+use Rattle.bmc_report.specs.declared.refusal.Refusal.TheVariants.{UnknownSensor, ReadingRange}
+use Rattle.sensor_core.specs.Settings.{most_raw}
+use Rattle.cfg_json.specs.declared.item.Item.{Item}
+use Rattle.inventory.specs.Items.{holder}
+use Rattle.inventory.specs.declared.family.Family.TheVariants as families
 use Rattle.inventory.specs.Limits.{passed_limit}
 use Rattle.inventory.specs.declared.fault.InventoryFault.{InventoryFault}
 use Rattle.inventory.specs.declared.fault.InventoryFault.TheVariants as limits
 use Rattle.bmc_machine.specs.Standings.{Standing, is_present}
 use Rattle.bmc_machine.specs.Boards.{board_keys}
-use Rattle.bmc_machine.specs.Histories.{Step, Configure, Plug, RefusedPlug, Unplug, standing, after_step}
+use Rattle.bmc_machine.specs.Histories.{Step, Configure, Plug, RefusedPlug, Unplug, Read, Lose, standing, after_step}
+use Rattle.bmc_machine.specs.Indexes.{live_now}
 
 -- the refusal by a rule that bytes break to be a record; want of memory is no rule
 abbrev pub record_refusal : FruFault → Option Refusal
@@ -88,25 +94,40 @@ abbrev pub ◌or_else◌ : Option Refusal → Option Refusal → Option Refusal
 (Some refusal) or_else later = Some refusal
 None or_else later = later
 
--- why a step is refused where this stands, or none
-abbrev pub refusal_of : Standing → Step → Option Refusal
-refusal_of now (Configure config) =
+-- whether no live sensor has this name
+abbrev pub is_unknown : List Item → List ℕ → Bool
+is_unknown live name = is_none (holder live families.Sensor name)
+
+-- why a step is refused where this stands and these items are live, or none
+abbrev pub refusal_of : Standing → List Item → Step → Option Refusal
+refusal_of now live (Configure config) =
     if now.plugged then Some ConfigAfterPlug
     else if is_some (number_of now.configs config.name) then Some DuplicateName
     else if nat_le most_configs (length now.configs) then Some ConfigLimit
     else refusal_by_limit (after_step now (Configure config))
-refusal_of now (Plug place bytes) =
+refusal_of now live (Plug place bytes) =
     if is_present now.frus place then Some Occupied
     else plug_refusal (nat_le most_frus (length now.frus)) (record_of bytes) or_else refusal_by_limit (after_step now (Plug place bytes))
-refusal_of now (RefusedPlug place bytes refusal) = None
-refusal_of now (Unplug place) = if is_present now.frus place then None else Some NotPresent
+refusal_of now live (RefusedPlug place bytes refusal) = None
+refusal_of now live (Unplug place) = if is_present now.frus place then None else Some NotPresent
+refusal_of now live (Read name raw) =
+    if is_unknown live name then Some UnknownSensor
+    else if nat_lt most_raw (unsigned_abs raw) then Some ReadingRange
+    else None
+refusal_of now live (Lose name) = if is_unknown live name then Some UnknownSensor else None
+
+-- why a step is refused after a history, or none
+abbrev pub refusal_after : List Step → Step → Option Refusal
+refusal_after past step = refusal_of (standing past) (live_now past) step
 
 -- a step may follow a history: it is not refused there, or it says for which reason a plug is
 abbrev pub IsLegalStep : List Step → Step → Type 0
-IsLegalStep past (Configure config) = refusal_of (standing past) (Configure config) ≡ None
-IsLegalStep past (Plug place bytes) = refusal_of (standing past) (Plug place bytes) ≡ None
-IsLegalStep past (RefusedPlug place bytes refusal) = refusal_of (standing past) (Plug place bytes) ≡ Some refusal
-IsLegalStep past (Unplug place) = refusal_of (standing past) (Unplug place) ≡ None
+IsLegalStep past (Configure config) = refusal_after past (Configure config) ≡ None
+IsLegalStep past (Plug place bytes) = refusal_after past (Plug place bytes) ≡ None
+IsLegalStep past (RefusedPlug place bytes refusal) = refusal_after past (Plug place bytes) ≡ Some refusal
+IsLegalStep past (Unplug place) = refusal_after past (Unplug place) ≡ None
+IsLegalStep past (Read name raw) = refusal_after past (Read name raw) ≡ None
+IsLegalStep past (Lose name) = refusal_after past (Lose name) ≡ None
 
 -- each step of a history may follow those before it
 unfoldable pub IsLegal : List Step → Type 0
