@@ -1,6 +1,8 @@
 ghost use Rattle.std.specs.Prelude.{◌≡◌, [], false, find, IfOk, OnOk, OnErr, IsSomeAnd, Some};
 ghost use Rattle.bmc_machine.specs.Histories as histories;
-ghost use Rattle.bmc_watch.specs.Watches.{no_view, IsSame};
+ghost use Rattle.bmc_watch.specs.Watches.{no_view, view_items, view_list, IsSame};
+ghost use Rattle.fru_rows.specs.Idle.{busy};
+ghost use Rattle.inventory.specs.Items.{entry_fields, board_items, live};
 ghost use Rattle.probe_lang.specs.Presents.{holds_place, is_entry_at};
 ghost use Rattle.match_rows.specs.Matching.{entry_of};
 ghost use Rattle.fru_rows.specs.Idle.{is_idle};
@@ -18,17 +20,21 @@ use crate::readings::{Glimpse, append_reading};
 use crate::refusing::{limit_refused, record_refused};
 use bmc_base::{Ledger, Name, OutOfMemory, Place, Steps};
 use bmc_report::{Change, Refusal};
-use cfg_json::{Config, MOST_CONFIGS, Shelf};
+use cfg_json::{Config, Item, MOST_CONFIGS, Shelf};
 use found_set::FoundSet;
 use fru_record::FruRecord;
 use fru_rows::{Entries, FruRows, is_idle};
-use inventory::{IndexKeep, Inventory, Moment, Totals, difference, difference_by};
+use inventory::{
+    Board, IndexKeep, Inventory, Live, Moment, Totals, difference, difference_by, list_all,
+    list_items,
+};
 use live_sensors::LiveSensors;
 use match_rows::make;
 use probe_lang::Entry;
 use sensor_core::Sensor;
 use std::alloc::Global;
 use std::marker::Model;
+use std::slice;
 
 // The most FRUs that are present at one time.
 const MOST_FRUS: usize = 256;
@@ -96,6 +102,43 @@ impl<L: Ledger> Watch<L> {
         ensures { result.now ≡ self.now.changes }
     {
         &self.changes
+    }
+
+    /// Borrows the configurations.
+    pub fn configs(&self) -> &Shelf<L>
+        ensures { result.now ≡ self.now.configs }
+    {
+        &self.shelf
+    }
+
+    /// Borrows the boards that each configuration ever had, which have their indexes for good.
+    pub fn keep(&self) -> &IndexKeep
+        ensures { result.now.kept ≡ self.now.kept }
+    {
+        &self.keep
+    }
+
+    /// Returns the live items, by board and expose.
+    pub fn live(&self) -> Live<'_>
+        ensures { result ≡ live (view_items self.now) }
+    {
+        self.inventory.live()
+    }
+
+    /// Lists the boards, by configuration and place.
+    pub fn boards(&self, alloc: Global) -> Result<Vec<Board>, OutOfMemory>
+        ensures { IfOk result (λ boards. boards.items ≡ view_list self.now) }
+    {
+        let moment = Moment::of(self.set.facts(), self.rows.busy());
+        list_all(alloc, &self.shelf, None, &self.keep, &moment)
+    }
+
+    /// Lists what a board exposes, in the order of its configuration.
+    pub fn board_items(&self, alloc: Global, board: &Board) -> Result<Vec<Item>, OutOfMemory>
+        ensures { IfOk result (λ items. items.items ≡ board_items self.now.configs (entry_fields (busy self.now.entries)) board.now) }
+    {
+        let moment = Moment::of(self.set.facts(), self.rows.busy());
+        list_items(alloc, &self.shelf, None, slice::from_ref(board), &moment)
     }
 
     /// Lists what a sensor of this name shows otherwise than before, in place of the last changes. It takes no memory.

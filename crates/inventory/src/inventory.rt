@@ -122,6 +122,13 @@ impl Inventory {
         self.items.get(position as usize)
     }
 
+    /// Returns the live items, in the order of the items.
+    pub fn live(&self) -> Live<'_>
+        ensures { result ≡ live self.now }
+    {
+        Live::of(&self.items, &self.holders)
+    }
+
     /// Lists copies of the live items that are here and not in another inventory.
     pub fn less(&self, alloc: Global, other: &Inventory) -> Result<ItemList, OutOfMemory>
         ensures { IfOk result (λ list. list ≡ items_less (live self.now) (live other.now)) }
