@@ -17,15 +17,16 @@ slot_of sensors name = lookup (bytes_eq name) sensors.names
 abbrev pub sensor_in : LiveSensors → List ℕ → Option Sensor
 sensor_in sensors name = option_and_then (λ slot. slice_index_or sensors.slots slot None) (slot_of sensors name)
 
--- each name has a slot of its own, with a sensor
+-- a name has this slot
+pub record ContainsSlot (names : List (List ℕ × ℕ)) (slot : ℕ) : Type 0 where
+  pub name : List ℕ
+  pub has : lookup (bytes_eq name) names ≡ Some slot
+
+-- each name has a slot of its own with a sensor, and no other slot has one
 pub record IsTied (names : List (List ℕ × ℕ)) (slots : List (Option Sensor)) : Type 0 where
   pub filled : (name : List ℕ) (slot : ℕ) → lookup (bytes_eq name) names ≡ Some slot → IsSome (slice_index_or slots slot None)
   pub apart : (name other : List ℕ) (slot : ℕ) → lookup (bytes_eq name) names ≡ Some slot → lookup (bytes_eq other) names ≡ Some slot → name ≡ other
-
--- a name has the slot
-pub record ContainsSlot (sensors : LiveSensors) (slot : ℕ) : Type 0 where
-  pub name : List ℕ
-  pub has : slot_of sensors name ≡ Some slot
+  pub named : (slot : ℕ) → IsSome (slice_index_or slots slot None) → ContainsSlot names slot
 
 -- this holds of the sensor of each name that has the slot
 abbrev pub AtSlot : LiveSensors → ℕ → (Sensor → Type 0) → Type 0

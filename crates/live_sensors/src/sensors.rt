@@ -83,14 +83,14 @@ impl LiveSensors {
     pub fn slot(&self, name: &Name) -> Option<usize>
         ensures slot { result ≡ slot_of self.now name.now }
         ensures sensor { is_none result ≡ is_none (sensor_in self.now name.now) }
-        ensures contains { IfSome result (ContainsSlot self.now) }
+        ensures contains { IfSome result (ContainsSlot self.now.names) }
     {
         self.slots.get(name).copied()
     }
 
     /// Borrows the sensor in a slot that a name has.
     pub fn at(&self, slot: usize) -> &Sensor
-        requires { ContainsSlot self.now slot }
+        requires { ContainsSlot self.now.names slot }
         ensures { (name : List ℕ) → slot_of self.now name ≡ Some slot → sensor_in self.now name ≡ Some result.now }
     {
         match self.table.get(slot) {
@@ -101,7 +101,7 @@ impl LiveSensors {
 
     /// Takes a good reading of the sensor in a slot that a name has, as [`Sensor::good`] does.
     pub fn good(&mut self, slot: usize, raw: i64, tick: u64) -> Result<(), ReadingRange>
-        requires { ContainsSlot self.old slot }
+        requires { ContainsSlot self.old.names slot }
         ensures range { IsOk result ↔ IsRaw raw }
         ensures changes { OnOk result (Changes self.old self.new slot (λ sensor. good_after sensor raw tick)) }
         ensures takes { OnOk result (AtSlot self.old slot (λ sensor. Takes sensor (good_after sensor raw tick) (Good raw tick))) }
@@ -112,7 +112,7 @@ impl LiveSensors {
 
     /// Takes a loss of the sensor in a slot that a name has, as [`Sensor::lost`] does.
     pub fn lost(&mut self, slot: usize)
-        requires { ContainsSlot self.old slot }
+        requires { ContainsSlot self.old.names slot }
         ensures changes { Changes self.old self.new slot lost_after }
         ensures takes { AtSlot self.old slot (λ sensor. Takes sensor (lost_after sensor) Lost) }
     {
@@ -130,16 +130,19 @@ impl LiveSensors {
     }
 
     // Starts a blank sensor under a name that has none.
-    fn put(&mut self, name: &Name, setting: SensorSetting)
+    fn put(&mut self, name: Name, setting: SensorSetting)
         requires valid { IsValidSetting setting }
         requires room { 0 < self.old.room }
-        requires free { sensor_in self.old name.now ≡ None }
+        requires free { sensor_in self.old name ≡ None }
         ensures sensors { (other : List ℕ)
-            → sensor_in self.new other ≡ (if bytes_eq name.now other then Some (sensor_of setting []) else sensor_in self.old other) }
+            → sensor_in self.new other ≡ (if bytes_eq name other then Some (sensor_of setting []) else sensor_in self.old other) }
         ensures room { self.old.room ≤ self.new.room + 1 }
     {
         let slot = self.table.put(Sensor::new(setting));
-        let _ = self.slots.insert(name.copied(), slot);
+        match self.slots.insert(name, slot) {
+            Ok(_) => {}
+            Err(_) => unreachable!(),
+        }
     }
 
     // Drops the sensor of an item that is gone.
@@ -161,7 +164,7 @@ impl LiveSensors {
     {
         if let Some(setting) = setting_in(&item.part) {
             self.forget(&item.name);
-            self.put(&item.name, setting);
+            self.put(item.name.copied(), setting);
         }
     }
 
