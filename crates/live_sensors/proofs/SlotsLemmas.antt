@@ -8,7 +8,7 @@ use Rattle.std.specs.Cmp.Lexicographic.{bytes_decides}
 use Rattle.std.proofs.lemmas.Bool.{eqb-true, eqb-false}
 use Rattle.std.proofs.lemmas.Option.{same_Some, none-some}
 use Rattle.sensor_core.specs.Sensors.{Sensor}
-use Rattle.live_sensors.specs.Sensors.{ContainsSlot, IsTied}
+use Rattle.live_sensors.specs.Sensors.{LiveSensors, slot_of, sensor_in, ContainsSlot, IsTied, Changes}
 
 -- what is in a slot
 abbrev pub at : List (Option Sensor) → ℕ → Option Sensor
@@ -50,31 +50,57 @@ pub at_names : {T E : Type 0} (result : Result T E) (names : List (List ℕ × �
 at_names (Ok x) names slots slot P holds = λ name has. subst (λ found. IfSome found P) (sym (ap (option_and_then (at slots)) has)) holds
 at_names (Err e) names slots slot P holds = tt
 
+-- another name has another slot
+other_slot : (names : List (List ℕ × ℕ)) (slots : List (Option Sensor)) (name each : List ℕ) (slot its : ℕ) → IsTied names slots
+    → lookup (bytes_eq name) names ≡ Some slot → bytes_eq name each ≡ false → lookup (bytes_eq each) names ≡ Some its → its ≢ slot
+other_slot names slots name each slot its tied had differ has same =
+    let one : name ≡ each = tied.apart name each slot had (has ∙ ap Some same) in
+    true≢false (sym ((bytes_decides name each).1 one) ∙ differ)
+
+-- where all other slots stay, each other name keeps its sensor
+stays : (names : List (List ℕ × ℕ)) (slots slots' : List (Option Sensor)) (name each : List ℕ) (slot : ℕ) → IsTied names slots
+    → lookup (bytes_eq name) names ≡ Some slot → ((other : ℕ) → other ≢ slot → at slots' other ≡ at slots other) → bytes_eq name each ≡ false
+    → option_and_then (at slots') (lookup (bytes_eq each) names) ≡ option_and_then (at slots) (lookup (bytes_eq each) names)
+stays names slots slots' name each slot tied had others differ = of (lookup (bytes_eq each) names) refl
+  where
+    of : (its : Option ℕ) → lookup (bytes_eq each) names ≡ its → option_and_then (at slots') its ≡ option_and_then (at slots) its
+    of None has = refl
+    of (Some its) has = others its (other_slot names slots name each slot its tied had differ has)
+
+-- ---- a sensor that changes
+
+pub changes : (now old new : LiveSensors) (slot : ℕ) (change : Sensor → Sensor) → old ≡ now → IsTied old.names old.slots
+    → new.names ≡ old.names → new.room ≡ old.room → at new.slots slot ≡ option_map change (at old.slots slot)
+    → ((other : ℕ) → other ≢ slot → at new.slots other ≡ at old.slots other) → Changes now new slot change
+changes now old new slot change is tied names room changed others =
+    subst (λ (before : LiveSensors). Changes before new slot change) is (record { names = names; room = room; sensors = sensors })
+  where
+    sensors : (name : List ℕ) → slot_of old name ≡ Some slot → (other : List ℕ)
+        → sensor_in new other ≡ cond (bytes_eq name other) (option_map change (sensor_in old other)) (sensor_in old other)
+    sensors name has other =
+        ap (λ (each : List (List ℕ × ℕ)). option_and_then (at new.slots) (lookup (bytes_eq other) each)) names ∙ of (bytes_eq name other) refl
+      where
+        of : (same : Bool) → bytes_eq name other ≡ same
+            → option_and_then (at new.slots) (slot_of old other) ≡ cond same (option_map change (sensor_in old other)) (sensor_in old other)
+        of true is =
+            let also : slot_of old other ≡ Some slot = ap (slot_of old) (sym ((bytes_decides name other).0 is)) ∙ has in
+            ap (option_and_then (at new.slots)) also ∙ changed ∙ ap (option_map change) (sym (ap (option_and_then (at old.slots)) also))
+        of false is = stays old.names old.slots new.slots name other slot tied has others is
+
 -- ---- a sensor that goes
 
 module _ (names names' : List (List ℕ × ℕ)) (slots slots' : List (Option Sensor)) (name : List ℕ) (slot : ℕ)
     (tied : IsTied names slots) (had : lookup (bytes_eq name) names ≡ Some slot)
     (freed : at slots' slot ≡ None) (others : (other : ℕ) → other ≢ slot → at slots' other ≡ at slots other)
     (out : (each : List ℕ) → lookup (bytes_eq each) names' ≡ cond (bytes_eq name each) None (lookup (bytes_eq each) names)) where
-  -- another name has another slot
-  other_slot : (each : List ℕ) (its : ℕ) → bytes_eq name each ≡ false → lookup (bytes_eq each) names ≡ Some its → its ≢ slot
-  other_slot each its differ has same =
-      let one : name ≡ each = tied.apart name each slot had (has ∙ ap Some same) in
-      true≢false (sym ((bytes_decides name each).1 one) ∙ differ)
-
   pub gone_shows : (each : List ℕ) → option_and_then (at slots') (lookup (bytes_eq each) names')
       ≡ cond (bytes_eq name each) None (option_and_then (at slots) (lookup (bytes_eq each) names))
   gone_shows each = ap (option_and_then (at slots')) (out each) ∙ of (bytes_eq name each) refl
     where
-      stays : bytes_eq name each ≡ false → (its : Option ℕ) → lookup (bytes_eq each) names ≡ its
-          → option_and_then (at slots') its ≡ option_and_then (at slots) its
-      stays differ None has = refl
-      stays differ (Some its) has = others its (other_slot each its differ has)
-
       of : (same : Bool) → bytes_eq name each ≡ same → option_and_then (at slots') (cond same None (lookup (bytes_eq each) names))
           ≡ cond same None (option_and_then (at slots) (lookup (bytes_eq each) names))
       of true is = refl
-      of false is = stays is (lookup (bytes_eq each) names) refl
+      of false is = stays names slots slots' name each slot tied had others is
 
   -- a name that has a slot now is another one, and had it
   left : (each : List ℕ) (its : ℕ) → lookup (bytes_eq each) names' ≡ Some its
@@ -100,7 +126,7 @@ module _ (names names' : List (List ℕ × ℕ)) (slots slots' : List (Option Se
   gone_tied = record {
     filled = λ each its has.
         let was : (bytes_eq name each ≡ false) × (lookup (bytes_eq each) names ≡ Some its) = left each its has in
-        subst IsSome (sym (others its (other_slot each its was.0 was.1))) (tied.filled each its was.1);
+        subst IsSome (sym (others its (other_slot names slots name each slot its tied had was.0 was.1))) (tied.filled each its was.1);
     apart = λ each other its has also. tied.apart each other its (left each its has).1 (left other its also).1;
     named = by_slot (λ its. IsSome (at slots' its) → ContainsSlot names' its) slot
         (λ filled. absurd (true≢false (sym (subst IsSome freed filled))))
