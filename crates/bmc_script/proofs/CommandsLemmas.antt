@@ -23,15 +23,29 @@ pub six_bytes : (bytes : List ℕ) → length bytes ≡ 6
 six_bytes (a ∷ b ∷ c ∷ d ∷ e ∷ f ∷ []) six = refl
 six_bytes others six = absurd (omega arith)
 
+-- seven bytes are a list of them
+pub seven_bytes : (bytes : List ℕ) → length bytes ≡ 7
+    → bytes ≡ get_or bytes 0 0 ∷ get_or bytes 1 0 ∷ get_or bytes 2 0 ∷ get_or bytes 3 0 ∷ get_or bytes 4 0 ∷ get_or bytes 5 0 ∷ get_or bytes 6 0 ∷ []
+seven_bytes (a ∷ b ∷ c ∷ d ∷ e ∷ f ∷ g ∷ []) seven = refl
+seven_bytes others seven = absurd (omega arith)
+
+-- nine bytes are a list of them
+pub nine_bytes : (bytes : List ℕ) → length bytes ≡ 9
+    → bytes ≡ get_or bytes 0 0 ∷ get_or bytes 1 0 ∷ get_or bytes 2 0 ∷ get_or bytes 3 0 ∷ get_or bytes 4 0 ∷ get_or bytes 5 0 ∷ get_or bytes 6 0 ∷ get_or bytes 7 0 ∷ get_or bytes 8 0 ∷ []
+nine_bytes (a ∷ b ∷ c ∷ d ∷ e ∷ f ∷ g ∷ h ∷ i ∷ []) nine = refl
+nine_bytes others nine = absurd (omega arith)
+
 -- the first word of a line says how the rest is read
 pub verb_words : (line : List ℕ) (words : List ℕ × List ℕ) (verb : List ℕ) → words ≡ first_word line → words.0 ≡ verb
     → words_of line ≡ verb_command verb words.1
 unfolding words_of
 verb_words line words verb split is = ap (λ both. verb_command both.0 both.1) (sym split) ∙ ap (λ first. verb_command first words.1) is
 
--- a first word that is none of the three is no command
+-- a first word that is none of the six is no command
 pub other_words : (line : List ℕ) (words : List ℕ × List ℕ) → words ≡ first_word line
-    → words.0 ≢ codes "plug" → words.0 ≢ codes "unplug" → words.0 ≢ codes "config" → words_of line ≡ Err UnknownCommand
+    → words.0 ≢ codes "plug" → words.0 ≢ codes "unplug" → words.0 ≢ codes "config"
+    → words.0 ≢ codes "read" → words.0 ≢ codes "lose" → words.0 ≢ codes "show"
+    → words_of line ≡ Err UnknownCommand
 unfolding words_of
-other_words line words split no_plug no_unplug no_config =
+other_words line words split no_plug no_unplug no_config no_read no_lose no_show =
     ap (λ both. verb_command both.0 both.1) (sym split) ∙ grind (arith, nat_tests, bytes_eq-Decides)

@@ -3,8 +3,8 @@ use Rattle.std.specs.Prelude.{ℕ, ◌≡◌, ⊤, ◌==◌, ◌||◌, if◌then
 use Rattle.std.specs.Str.{is_utf8}
 use Rattle.std.specs.List.{list_any}
 use Rattle.std.specs.Option.{ok_or, unwrap_or}
+use Rattle.std.specs.Result.{result_ok}
 use Rattle.bmc_base.specs.Names.{name_of}
-use Rattle.bmc_base.specs.declared.name.NameFault.{NameFault}
 use Rattle.bmc_base.specs.Places.{Place, place_of}
 use Rattle.bmc_report.specs.declared.topic.Topic.{Topic}
 use Rattle.bmc_report.specs.declared.topic.Topic.TheVariants.{Frus, Inventory, Sensors, Indexes}
@@ -59,26 +59,22 @@ config_of rest = do
 abbrev pub split_last_space : List ℕ → Option (List ℕ × List ℕ)
 split_last_space text = option_map (λ parts. (reverse parts.1, reverse parts.0)) (split_space (reverse text))
 
--- the name in these bytes, if they are one
-abbrev pub name_in : List ℕ → Result (List ℕ) ScriptFault
-name_in bytes = if is_utf8 bytes then named (name_of bytes) else Err BadArguments
-  where
-    named : Result (List ℕ) NameFault → Result (List ℕ) ScriptFault
-    named (Ok name) = Ok name
-    named (Err fault) = Err BadArguments
+-- the name of these bytes, if they are UTF-8 and as many as a name has
+abbrev pub name_in : List ℕ → Option (List ℕ)
+name_in bytes = if is_utf8 bytes then result_ok (name_of bytes) else None
 
 -- `read NAME RAW`, behind its first word
 unfoldable pub read_of : List ℕ → Result Command ScriptFault
 read_of rest = do
   parts ← ok_or (split_last_space rest) BadArguments
-  name ← name_in parts.0
+  name ← ok_or (name_in parts.0) BadArguments
   number ← ok_or (raw parts.1) BadArguments
   Ok (Good name number)
 
 -- `lose NAME`, behind its first word
 unfoldable pub lose_of : List ℕ → Result Command ScriptFault
 lose_of rest = do
-  name ← name_in rest
+  name ← ok_or (name_in rest) BadArguments
   Ok (Lost name)
 
 -- the topic of this word, if there is one

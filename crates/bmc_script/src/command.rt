@@ -7,6 +7,7 @@ use bmc_base::{Bytes, Name, Place};
 use bmc_report::Topic;
 use bmc_text::{HexFault, hex_bytes, read_number, read_raw};
 use std::alloc::Global;
+use std::str;
 use thiserror::Error;
 
 /// What a line asks for. A numeral, as B, A and N here, has 1 to 9 decimal digits, leading zeros among them.
@@ -129,16 +130,19 @@ fn read_config(rest: &[u8]) -> Result<Command, ScriptFault>
 fn last_word(bytes: &[u8]) -> Option<(&[u8], &[u8])>
     ensures { option_map (λ parts. (parts.0.now, parts.1.now)) result ≡ split_last_space bytes.now }
 {
-    let at = bytes.iter().rposition(|byte| *byte == b' ')?;
-    Some((&bytes[..at], &bytes[at + 1..]))
+    match bytes.iter().rposition(|byte| *byte == b' ') {
+        Some(at) => Some((&bytes[..at], &bytes[at + 1..])),
+        None => None,
+    }
 }
 
-// Reads a name.
-fn read_name(bytes: &[u8]) -> Result<Name, ScriptFault>
+// Reads a name: 1 to 64 bytes of UTF-8.
+#[tactic(auto, using(crate::proofs::NamesLemmas::name_in_text, crate::proofs::NamesLemmas::name_in_other))]
+fn read_name(bytes: &[u8]) -> Option<Name>
     ensures { result ≡ name_in bytes.now }
 {
-    let text = std::str::from_utf8(bytes).map_err(|_| ScriptFault::BadArguments)?;
-    Name::new(text).map_err(|_| ScriptFault::BadArguments)
+    let text = str::from_utf8(bytes).ok()?;
+    Name::new(text).ok()
 }
 
 // Reads what stands behind `read `.
@@ -147,7 +151,7 @@ fn read_read(rest: &[u8]) -> Result<Command, ScriptFault>
     ensures { result ≡ read_of rest.now }
 {
     let (name, number) = last_word(rest).ok_or(ScriptFault::BadArguments)?;
-    let name = read_name(name)?;
+    let name = read_name(name).ok_or(ScriptFault::BadArguments)?;
     let raw = read_raw(number).ok_or(ScriptFault::BadArguments)?;
     Ok(Command::Good(name, raw))
 }
@@ -157,7 +161,8 @@ fn read_read(rest: &[u8]) -> Result<Command, ScriptFault>
 fn read_lose(rest: &[u8]) -> Result<Command, ScriptFault>
     ensures { result ≡ lose_of rest.now }
 {
-    Ok(Command::Lost(read_name(rest)?))
+    let name = read_name(rest).ok_or(ScriptFault::BadArguments)?;
+    Ok(Command::Lost(name))
 }
 
 // Returns the topic of a word, if there is one.
