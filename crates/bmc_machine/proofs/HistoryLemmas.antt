@@ -1,5 +1,5 @@
 -- Items add legal steps alone to a history.
-use Rattle.std.proofs.Common.{◌≡◌, ℕ, ◌+◌, List, [], ◌∷◌, Option, Some, None, refl}
+use Rattle.std.proofs.Common.{◌≡◌, ℕ, ◌+◌, ℤ, List, [], ◌∷◌, Option, Some, None, refl}
 use Rattle.std.specs.Prelude.{Result, Ok, Err}
 use Rattle.bmc_base.specs.Places.{Place}
 use Rattle.bmc_text.specs.Items.{Item, Line, LineTooLong, Block, BlockTooLong, BlockShort}
@@ -13,20 +13,20 @@ use Rattle.cfg_json.specs.Configs.{Config}
 use Rattle.cfg_json.specs.Documents.{config_read}
 use Rattle.cfg_json.specs.Verdicts.{Verdict, Accepted, BadPattern, LargePattern}
 use Rattle.cfg_json.specs.declared.config_fault.ConfigFault.{ConfigFault}
-use Rattle.bmc_machine.specs.Histories.{Step, Configure, Plug, Unplug, standing}
-use Rattle.bmc_machine.specs.Refusals.{command_refusal, config_refusal, refusal_of, IsLegalStep, IsLegal}
+use Rattle.bmc_machine.specs.Histories.{Step, Configure, Plug, Unplug, Read, Lose}
+use Rattle.bmc_machine.specs.Refusals.{command_refusal, config_refusal, refusal_after, IsLegalStep, IsLegal}
 use Rattle.bmc_machine.specs.Answers.{past_refused, answer_by, answer_step, answer_command, answer_broken, answer_config, answer}
 use Rattle.bmc_machine.specs.Answers.{first_verdict, later_verdicts, answers}
 
 module _ (line : Refusal → List ℕ) (past : List Step) (legal : IsLegal past) where
   -- what comes of a step, where it may follow once it is not refused, and what is left once it is
-  step_is_legal : (step : Step) → (refusal_of (standing past) step ≡ None → IsLegalStep past step)
-      → ((refusal : Refusal) → refusal_of (standing past) step ≡ Some refusal → IsLegal (past_refused past step refusal))
+  step_is_legal : (step : Step) → (refusal_after past step ≡ None → IsLegalStep past step)
+      → ((refusal : Refusal) → refusal_after past step ≡ Some refusal → IsLegal (past_refused past step refusal))
       → IsLegal (answer_step line past step).past
   unfolding IsLegal
-  step_is_legal step may_follow is_left = by (refusal_of (standing past) step) refl
+  step_is_legal step may_follow is_left = by (refusal_after past step) refl
     where
-      by : (refusal : Option Refusal) → refusal_of (standing past) step ≡ refusal → IsLegal (answer_by refusal line past step).past
+      by : (refusal : Option Refusal) → refusal_after past step ≡ refusal → IsLegal (answer_by refusal line past step).past
       by None accepted = (legal, may_follow accepted)
       by (Some refusal) refused = is_left refusal refused
 
@@ -41,6 +41,12 @@ module _ (line : Refusal → List ℕ) (past : List Step) (legal : IsLegal past)
   unplug_is_legal : (place : Place) → IsLegal (answer_step line past (Unplug place)).past
   unplug_is_legal place = step_is_legal (Unplug place) (λ accepted. accepted) (λ refusal refused. legal)
 
+  read_is_legal : (name : List ℕ) (raw : ℤ) → IsLegal (answer_step line past (Read name raw)).past
+  read_is_legal name raw = step_is_legal (Read name raw) (λ accepted. accepted) (λ refusal refused. legal)
+
+  lose_is_legal : (name : List ℕ) → IsLegal (answer_step line past (Lose name)).past
+  lose_is_legal name = step_is_legal (Lose name) (λ accepted. accepted) (λ refusal refused. legal)
+
   broken_is_legal : (refusal : Option Refusal) → IsLegal (answer_broken refusal line past).past
   broken_is_legal None = legal
   broken_is_legal (Some refusal) = legal
@@ -50,6 +56,9 @@ module _ (line : Refusal → List ℕ) (past : List Step) (legal : IsLegal past)
   command_is_legal (Ok (commands.Config size)) = legal
   command_is_legal (Ok (commands.Plug place bytes)) = plug_is_legal place bytes
   command_is_legal (Ok (commands.Unplug place)) = unplug_is_legal place
+  command_is_legal (Ok (commands.Good name raw)) = read_is_legal name raw
+  command_is_legal (Ok (commands.Lost name)) = lose_is_legal name
+  command_is_legal (Ok (commands.Show topic)) = legal
   command_is_legal (Err fault) = broken_is_legal (command_refusal fault)
 
   config_is_legal : (verdict : Verdict) (config : Result Config ConfigFault) → IsLegal (answer_config line past verdict config).past

@@ -12,3 +12,7 @@ pub mod MadeLemmas
 pub mod StayLemmas
 pub mod FewerLemmas
 pub mod LimitLemmas
+pub mod IdleLemmas
+pub mod HolderLemmas
+pub mod LivesLemmas
+pub mod SettledLemmas

@@ -21,7 +21,7 @@ use Rattle.inventory.specs.declared.fault.InventoryFault.{InventoryFault}
 use Rattle.inventory.specs.declared.fault.InventoryFault.TheVariants as limits
 use Rattle.bmc_machine.specs.Standings.{Fru, is_at, is_present, without, Standing}
 use Rattle.bmc_machine.specs.Boards.{sights_of, boards, board_keys}
-use Rattle.bmc_machine.specs.Histories.{Step, Configure, Plug, RefusedPlug, Unplug, after_step, standing}
+use Rattle.bmc_machine.specs.Histories.{Step, Configure, Plug, RefusedPlug, Unplug, Read, Lose, after_step, standing}
 use Rattle.bmc_machine.specs.Refusals.{limit_refusal, refusal_by_limit, ◌or_else◌, IsLegalStep, IsLegal}
 use Rattle.bmc_machine.proofs.FewerLemmas.{boards_fewer}
 
@@ -201,6 +201,8 @@ within_next past (Plug place bytes) legal within =
     by false broken none = last_of broken by_limit none
 within_next past (RefusedPlug place bytes refusal) legal within = within
 within_next past (Unplug place) legal within = without_within (standing past) place within
+within_next past (Read name raw) legal within = within
+within_next past (Lose name) legal within = within
 
 pub limits_hold : (past : List Step) → IsLegal past → passed_limit (standing past).configs (board_keys (standing past)) ≡ None
 unfolding IsLegal standing board_keys passed_limit

@@ -112,7 +112,7 @@ module _ (past : List Step) where
         (enumerate_from 0 exposes)
         (all_enumerated _ 0 exposes (λ i position expose is at. let same : i ≡ position = omega (arith, is) in ap (slice_get exposes) (sym same) ∙ at))
 
-  items_are : AllByRecursion (IsItem past) (items_now past)
+  pub items_are : AllByRecursion (IsItem past) (items_now past)
   unfolding items_now items
   items_are =
       all_flat_map (IsItem past) (IsBoard past) (board_items (standing past).configs (fields_at (standing past).frus)) of_board (boards_now past) boards_are

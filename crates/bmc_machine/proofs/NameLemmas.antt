@@ -21,7 +21,7 @@ use Rattle.bmc_machine.specs.Refusals.{IsLegal}
 use Rattle.bmc_machine.proofs.ItemLemmas.{ids_differ}
 
 -- what holds of each element beside what else does
-all_both : {X : Type 0} (Fact Other : X → Type 0) (xs : List X) → AllByRecursion Fact xs → AllByRecursion Other xs
+pub all_both : {X : Type 0} (Fact Other : X → Type 0) (xs : List X) → AllByRecursion Fact xs → AllByRecursion Other xs
     → AllByRecursion (λ each. Fact each × Other each) xs
 all_both Fact Other [] facts others = tt
 all_both Fact Other (first ∷ xs) facts others = ((facts.0, others.0), all_both Fact Other xs facts.1 others.1)
@@ -37,7 +37,7 @@ own_ids_left test (first ∷ items) differ = by (test first) (own_ids_left test 
     by false rest = rest
 
 -- an item of a family is live where it holds its name there
-live_is : (family : Family) (items : List Item) (id : ItemId) (name : List ℕ) (part : ItemPart)
+pub live_is : (family : Family) (items : List Item) (id : ItemId) (name : List ℕ) (part : ItemPart)
     → is_of family (record { id = id; name = name; part = part }) ≡ true
     → is_live items (record { id = id; name = name; part = part }) ≡ is_item id (holder items family name)
 live_is families.Sensor items id name (parts.Sensor sensor) is = refl

@@ -14,7 +14,7 @@ use Rattle.inventory.specs.Boards.{places_or_none, config_places, board_places, 
 use Rattle.inventory.proofs.BoardLemmas.{place_cmp_eq, place_same}
 use Rattle.bmc_machine.specs.Standings.{Fru, fields_of, is_at, is_present, put, without, Standing}
 use Rattle.bmc_machine.specs.Boards.{sights_of, sights, boards, fields_at}
-use Rattle.bmc_machine.specs.Histories.{Step, Configure, Plug, RefusedPlug, Unplug, after_step, standing}
+use Rattle.bmc_machine.specs.Histories.{Step, Configure, Plug, RefusedPlug, Unplug, Read, Lose, after_step, standing}
 use Rattle.bmc_machine.specs.Refusals.{IsLegalStep}
 use Rattle.bmc_machine.proofs.StandingLemmas.{free_place}
 
@@ -103,6 +103,8 @@ config_stays now (Configure config) number place has = get_front now.configs (co
 config_stays now (Plug at bytes) number place has = refl
 config_stays now (RefusedPlug at bytes refusal) number place has = refl
 config_stays now (Unplug at) number place has = refl
+config_stays now (Read name raw) number place has = refl
+config_stays now (Lose name) number place has = refl
 
 -- ---- its record
 
@@ -154,6 +156,8 @@ fields_stay past (Plug at bytes) number (Some place) legal has has_then =
     (ap (is_present (standing past).frus) (sym (place_same place at (sym (place_cmp_eq place at) ∙ here)))
     ∙ board_is_present (standing past) number place has))))
 fields_stay past (RefusedPlug at bytes refusal) number (Some place) legal has has_then = refl
+fields_stay past (Read name raw) number (Some place) legal has has_then = refl
+fields_stay past (Lose name) number (Some place) legal has has_then = refl
 fields_stay past (Unplug at) number (Some place) legal has has_then =
     ap (option_map fields_of) (find_without place at (standing past).frus (λ same.
     both_ways _ (none_left at (standing past).frus)

@@ -12,9 +12,9 @@ use Rattle.cfg_json.specs.Configs.{Config}
 use Rattle.cfg_json.specs.Documents.{config_read}
 use Rattle.cfg_json.specs.Verdicts.{Verdict, Accepted, BadPattern, LargePattern}
 use Rattle.cfg_json.specs.declared.config_fault.ConfigFault.{ConfigFault}
-use Rattle.bmc_machine.specs.Histories.{Step, Configure, Plug, RefusedPlug, Unplug, standing}
+use Rattle.bmc_machine.specs.Histories.{Step, Configure, Plug, RefusedPlug, Unplug, Read, Lose, standing}
 use Rattle.bmc_machine.specs.Indexes.{kept}
-use Rattle.bmc_machine.specs.Refusals.{command_refusal, config_refusal, refusal_of}
+use Rattle.bmc_machine.specs.Refusals.{command_refusal, config_refusal, refusal_after}
 use Rattle.bmc_machine.specs.Answers.{past_refused, answer_by, answer_step, answer_command, answer_broken, answer_config, answer}
 use Rattle.bmc_machine.proofs.IndexLemmas.{kept_idle}
 
@@ -30,7 +30,7 @@ pub kept_refused_plug : (past : List Step) (place : Place) (bytes : List ℕ) (r
 kept_refused_plug past place bytes refusal number = kept_idle (RefusedPlug place bytes refusal) past number (standing_refused_plug past place bytes refusal)
 
 -- the history after a step that is refused
-pub past_of_refused : (line : Refusal → List ℕ) (past : List Step) (step : Step) (refusal : Refusal) → refusal_of (standing past) step ≡ Some refusal
+pub past_of_refused : (line : Refusal → List ℕ) (past : List Step) (step : Step) (refusal : Refusal) → refusal_after past step ≡ Some refusal
     → (answer_step line past step).past ≡ past_refused past step refusal
 past_of_refused line past step refusal refused = ap (λ (why : Option Refusal). (answer_by why line past step).past) refused
 
@@ -51,9 +51,11 @@ module _ (line : Refusal → List ℕ) (past : List Step) where
       record { standing = standing_refused_plug past place bytes refusal; kept = kept_refused_plug past place bytes refusal }
   step_refused (RefusedPlug place bytes reason) refusal = the_same
   step_refused (Unplug place) refusal = the_same
+  step_refused (Read name raw) refusal = the_same
+  step_refused (Lose name) refusal = the_same
 
   step_is_idle : (step : Step) → (answer_step line past step).refused ≡ true → IsAlike past (answer_step line past step).past
-  step_is_idle step = by (refusal_of (standing past) step)
+  step_is_idle step = by (refusal_after past step)
     where
       by : (refusal : Option Refusal) → (answer_by refusal line past step).refused ≡ true → IsAlike past (answer_by refusal line past step).past
       by None refused = absurd (cc)
@@ -69,6 +71,9 @@ module _ (line : Refusal → List ℕ) (past : List Step) where
   command_is_idle (Ok (commands.Config size)) refused = the_same
   command_is_idle (Ok (commands.Plug place bytes)) refused = step_is_idle (Plug place bytes) refused
   command_is_idle (Ok (commands.Unplug place)) refused = step_is_idle (Unplug place) refused
+  command_is_idle (Ok (commands.Good name raw)) refused = step_is_idle (Read name raw) refused
+  command_is_idle (Ok (commands.Lost name)) refused = step_is_idle (Lose name) refused
+  command_is_idle (Ok (commands.Show topic)) refused = the_same
   command_is_idle (Err fault) refused = broken_is_idle (command_refusal fault)
 
   config_is_idle : (verdict : Verdict) (config : Result Config ConfigFault) → (answer_config line past verdict config).refused ≡ true

@@ -20,8 +20,8 @@ use Rattle.fru_record.proofs.RecordsLemmas.{record_of-rule}
 use Rattle.bmc_report.specs.declared.refusal.Refusal.{Refusal}
 use Rattle.bmc_report.specs.declared.refusal.Refusal.TheVariants.{Occupied}
 use Rattle.bmc_machine.specs.Standings.{Fru, is_at, is_present, put, without}
-use Rattle.bmc_machine.specs.Histories.{Step, Configure, Plug, RefusedPlug, Unplug, after_step, standing}
-use Rattle.bmc_machine.specs.Refusals.{record_refusal, plug_refusal, ◌or_else◌, refusal_by_limit, most_frus, refusal_of, IsLegalStep, IsLegal}
+use Rattle.bmc_machine.specs.Histories.{Step, Configure, Plug, RefusedPlug, Unplug, Read, Lose, after_step, standing}
+use Rattle.bmc_machine.specs.Refusals.{record_refusal, plug_refusal, ◌or_else◌, refusal_by_limit, most_frus, refusal_after, IsLegalStep, IsLegal}
 use Rattle.inventory.proofs.BoardLemmas.{place_cmp_eq}
 use Rattle.inventory.proofs.ListLemmas.{all_weaker, ascending_filter}
 
@@ -32,7 +32,7 @@ abbrev pub places : List Fru → List Place
 places frus = map (λ fru. fru.place) frus
 
 -- a plug that is accepted found its place free
-pub free_place : (past : List Step) (place : Place) (bytes : List ℕ) → refusal_of (standing past) (Plug place bytes) ≡ None
+pub free_place : (past : List Step) (place : Place) (bytes : List ℕ) → refusal_after past (Plug place bytes) ≡ None
     → is_present (standing past).frus place ≡ false
 free_place past place bytes accepted = by (is_present (standing past).frus place) _ accepted
   where
@@ -71,6 +71,8 @@ frus_ascend_next past (Plug place bytes) legal ascend =
     put_ascends (record { place = place; bytes = bytes }) (standing past).frus (free_place past place bytes legal) ascend
 frus_ascend_next past (RefusedPlug place bytes refusal) legal ascend = ascend
 frus_ascend_next past (Unplug place) legal ascend = ascending_filter (λ fru. fru.place) place_cmp (λ fru. not (is_at place fru)) (standing past).frus ascend
+frus_ascend_next past (Read name raw) legal ascend = ascend
+frus_ascend_next past (Lose name) legal ascend = ascend
 
 -- after a legal history they ascend by place
 pub frus_ascend : (past : List Step) → IsLegal past → IsStrictlySortedBy place_cmp (places (standing past).frus)
@@ -105,7 +107,7 @@ none_first None later none = refl
 none_first (Some refusal) later none = absurd (cc)
 
 -- a plug that is accepted found room
-room_before : (past : List Step) (place : Place) (bytes : List ℕ) → refusal_of (standing past) (Plug place bytes) ≡ None
+room_before : (past : List Step) (place : Place) (bytes : List ℕ) → refusal_after past (Plug place bytes) ≡ None
     → length (standing past).frus < most_frus
 room_before past place bytes accepted =
     by (is_present (standing past).frus place) (record_of bytes) refl (nat_le most_frus (length (standing past).frus)) refl accepted
@@ -148,6 +150,8 @@ frus_few_next past (Plug place bytes) legal few =
     omega (arith, room, more)
 frus_few_next past (RefusedPlug place bytes refusal) legal few = few
 frus_few_next past (Unplug place) legal few = let less = length_without place (standing past).frus in omega (arith, less, few)
+frus_few_next past (Read name raw) legal few = few
+frus_few_next past (Lose name) legal few = few
 
 -- after a legal history they are no more than the limit
 pub frus_few : (past : List Step) → IsLegal past → length (standing past).frus ≤ most_frus

@@ -55,7 +55,7 @@ module _ (past : List Step) (step : Step) (legal : IsLegalStep past step) where
       index : index_in (kept (step ∷ past) id.config) id.place ≡ index_in (kept past id.config) id.place
       index = index_stays (step ∷ []) past id.config id.place (had_now past id.config id.place has)
 
-  same_item : (item other : Item) → IsItem past item → IsItem (step ∷ past) other → item.id ≡ other.id → item ≡ other
+  pub same_item : (item other : Item) → IsItem past item → IsItem (step ∷ past) other → item.id ≡ other.id → item ≡ other
   same_item item other is is_other same =
       let has_then : has_board (boards (standing (step ∷ past)) item.id.config) item.id.place ≡ true =
       ap (λ (id : ItemId). has_board (boards (standing (step ∷ past)) id.config) id.place) same ∙ is_other.board in
@@ -63,9 +63,13 @@ module _ (past : List Step) (step : Step) (legal : IsLegalStep past step) where
       sym is.made ∙ sym (same_at item.id is.board has_then) ∙ ap (item_at (step ∷ past)) same ∙ is_other.made in
       cc
 
-legal_step : (past : List Step) (step : Step) → IsLegal (step ∷ past) → IsLegalStep past step
+pub legal_step : (past : List Step) (step : Step) → IsLegal (step ∷ past) → IsLegalStep past step
 unfolding IsLegal
 legal_step past step legal = legal.1
+
+pub legal_before : (past : List Step) (step : Step) → IsLegal (step ∷ past) → IsLegal past
+unfolding IsLegal
+legal_before past step legal = legal.0
 
 pub items_stay : (step : Step) (past : List Step) (item other : Item) → IsLegal (step ∷ past) → Contains (items_now past) item
     → Contains (items_now (step ∷ past)) other → item.id ≡ other.id → item ≡ other

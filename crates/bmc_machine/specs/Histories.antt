@@ -1,5 +1,5 @@
 -- What has happened.
-use Rattle.std.specs.Prelude.{ℕ, ℤ, true, false, List, [], ◌∷◌, ◌++◌}
+use Rattle.std.specs.Prelude.{ℕ, ℤ, Bool, true, false, List, [], ◌∷◌, ◌++◌}
 use Rattle.bmc_base.specs.Places.{Place}
 use Rattle.cfg_json.specs.Configs.{Config}
 use Rattle.bmc_report.specs.declared.refusal.Refusal.{Refusal}
@@ -27,6 +27,15 @@ after_step now (Lose name) = now
 unfoldable pub standing : List Step → Standing
 standing [] = record { configs = []; frus = []; plugged = false }
 standing (step ∷ past) = after_step (standing past) step
+
+-- whether a step is none of a configuration, a plug and an unplug, which alone change what is present
+abbrev pub is_idle_step : Step → Bool
+is_idle_step (Configure config) = false
+is_idle_step (Plug place bytes) = false
+is_idle_step (RefusedPlug place bytes refusal) = true
+is_idle_step (Unplug place) = false
+is_idle_step (Read name raw) = true
+is_idle_step (Lose name) = true
 
 -- the tick count after a history: no step ticks yet
 abbrev pub tick_of : List Step → ℕ

@@ -8,7 +8,7 @@ ghost use Rattle.cfg_json.specs.Configs.{Config};
 ghost use Rattle.cfg_json.specs.Verdicts.{Verdict};
 ghost use Rattle.bmc_machine.specs.Histories.{Step, Configure, Plug, RefusedPlug, Unplug, standing};
 ghost use Rattle.bmc_machine.specs.Indexes.{kept};
-ghost use Rattle.bmc_machine.specs.Refusals.{refusal_of, most_frus, IsLegal};
+ghost use Rattle.bmc_machine.specs.Refusals.{refusal_after, most_frus, IsLegal};
 ghost use Rattle.bmc_machine.specs.Answers.{answer_step, answer, answers, answer_of, whole_answer_of};
 
 /// Each step of a history is one that may follow those before it: items leave a legal history of a legal one,
@@ -39,13 +39,13 @@ pub fn refused_plugs_are_idle()
     ensures kept { (past : List Step) (place : Place) (bytes : List ℕ) (refusal : Refusal) (number : ℕ)
         → kept (RefusedPlug place bytes refusal ∷ past) number ≡ kept past number }
     ensures plug { (line : Refusal → List ℕ) (past : List Step) (place : Place) (bytes : List ℕ) (refusal : Refusal)
-        → refusal_of (standing past) (Plug place bytes) ≡ Some refusal
+        → refusal_after past (Plug place bytes) ≡ Some refusal
         → (answer_step line past (Plug place bytes)).past ≡ RefusedPlug place bytes refusal ∷ past }
     ensures configuration { (line : Refusal → List ℕ) (past : List Step) (config : Config) (refusal : Refusal)
-        → refusal_of (standing past) (Configure config) ≡ Some refusal
+        → refusal_after past (Configure config) ≡ Some refusal
         → (answer_step line past (Configure config)).past ≡ past }
     ensures unplug { (line : Refusal → List ℕ) (past : List Step) (place : Place) (refusal : Refusal)
-        → refusal_of (standing past) (Unplug place) ≡ Some refusal
+        → refusal_after past (Unplug place) ≡ Some refusal
         → (answer_step line past (Unplug place)).past ≡ past }
 {}
 

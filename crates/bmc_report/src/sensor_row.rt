@@ -17,7 +17,7 @@ pub struct SensorRow<'a> {
     pub failed: bool,
     /// How many ticks of 100 milliseconds ago it was last read, if ever.
     pub age: Option<u64>,
-    /// Which of its alarms are on, by position.
+    /// Which of its alarms are on, by position: as many as it has limits.
     pub alarms: &'a [bool],
 }
 

@@ -44,8 +44,8 @@ split_parts front back none =
     let end : length front ≡ length front + 0 = omega arith in
     let here : get_or all (length front) 0 ≡ 32 = ap (λ (k : ℕ). get_or all k 0) end ∙ get_or-append-add front (32 ∷ back) 0 0 in
     let first = position_or_len_is is_space all (length front) 0 (omega arith)
-      (λ k below. ne_eqb (get_or all k 0) 32 (λ is. none k below (sym (get_or_append_left front (32 ∷ back) 0 k below) ∙ is)))
-      (λ within. eq-eqb (get_or all (length front) 0) 32 here) in
+    (λ k below. ne_eqb (get_or all k 0) 32 (λ is. none k below (sym (get_or_append_left front (32 ∷ back) 0 k below) ∙ is)))
+    (λ within. eq-eqb (get_or all (length front) 0) 32 here) in
     ap (parts all) first ∙ parts_at all (length front) within
     ∙ rw (take-append_seam front (32 ∷ back), drop-append-add front (32 ∷ back) 1) refl
 
@@ -61,7 +61,7 @@ last_none bytes none = rw (split_none (reverse bytes) (HasNoSpace-reverse bytes 
 last_parts : (front back : List ℕ) → HasNoSpace back → split_last_space (front ++ 32 ∷ back) ≡ Some (front, back)
 last_parts front back none =
     let turned : reverse (front ++ 32 ∷ back) ≡ reverse back ++ 32 ∷ reverse front =
-      reverse-append front (32 ∷ back) ∙ rw (reverse_onto back 32 [], append_assoc) refl in
+    reverse-append front (32 ∷ back) ∙ rw (reverse_onto back 32 [], append_assoc) refl in
     rw (turned, split_parts (reverse back) (reverse front) (HasNoSpace-reverse back none), reverse-reverse front, reverse-reverse back) refl
 
 -- bytes at the last space
@@ -72,7 +72,7 @@ last_at bytes at within here behind =
     let front = take at bytes in
     let back = drop (at + 1) bytes in
     let halves : bytes ≡ front ++ 32 ∷ back = sym (take-append-drop at bytes)
-      ∙ ap (λ (rest : List ℕ). front ++ rest) (drop_more bytes at 0 within ∙ ap (λ (byte : ℕ). byte ∷ back) here) in
+    ∙ ap (λ (rest : List ℕ). front ++ rest) (drop_more bytes at 0 within ∙ ap (λ (byte : ℕ). byte ∷ back) here) in
     let none : HasNoSpace back = λ k inside is. behind (at + 1 + k) (omega arith) (omega (arith, length-drop (at + 1) bytes)) (sym (get_or-drop (at + 1) bytes k 0) ∙ is) in
     ap split_last_space halves ∙ last_parts front back none
 

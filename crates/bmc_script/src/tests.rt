@@ -2,6 +2,7 @@ use crate::Command;
 use bmc_base::Place;
 use std::alloc::Global;
 use std::fmt::Write;
+use std::process::Abort;
 use std::test::Fail;
 
 // The place in words.
@@ -25,6 +26,9 @@ fn described(alloc: Global, line: &[u8]) -> Result<String, Fail> {
             words.push_str("unplug")?;
             push_place(&mut words, place)?;
         }
+        Ok(Command::Good(name, raw)) => write!(words, "read [{}] {raw}", name.as_str())?,
+        Ok(Command::Lost(name)) => write!(words, "lose [{}]", name.as_str())?,
+        Ok(Command::Show(topic)) => write!(words, "show {topic:?}")?,
         Err(fault) => write!(words, "{fault}")?,
     }
     Ok(words)
@@ -280,14 +284,223 @@ bad hexadecimal digits: plug 1 80 \u{e9}
 bad hexadecimal digits: plug 1 80 00\u{a0}
 bad hexadecimal digits: plug 000000001 000000080 0000z";
 
-#[test]
-fn reads_lines(rt: HostRuntime) -> Result<(), Fail> {
-    for row in LINES.split('\n') {
+// Lines of sensors that were read, each behind the words that it is described by.
+const READ_LINES: &str = "read [T] 5: read T 5
+read [T] 0: read T 0
+read [T] 0: read T -0
+read [T] 7: read T 007
+read [T] -7: read T -007
+read [T] -41000: read T -41000
+read [T] 999999999999999999: read T 999999999999999999
+read [T] -999999999999999999: read T -999999999999999999
+read [T] 1: read T 000000000000000001
+read [T] 0: read T -000000000000000000
+read [T ] 5: read T  5
+read [T  ] 5: read T   5
+read [ ] 5: read   5
+read [ T] 5: read  T 5
+read [Card 2 Temp] -3: read Card 2 Temp -3
+read [a  b] 3: read a  b 3
+read [1] 2: read 1 2
+read [1 2] 3: read 1 2 3
+read [T -] 5: read T - 5
+read [-] -5: read - -5
+read [T 5 ] 6: read T 5  6
+read [#T] 5: read #T 5
+read [read] 5: read read 5
+read [lose T] 5: read lose T 5
+read [\"T\"] 5: read \"T\" 5
+read ['] 5: read ' 5
+read [\\] 5: read \\ 5
+read [\0] 5: read \0 5
+read [T\0] 5: read T\0 5
+read [\t] 5: read \t 5
+read [T\t5] 6: read T\t5 6
+read [T\r] 5: read T\r 5
+read [\u{e9}] 5: read \u{e9} 5
+read [T\u{a0}] 5: read T\u{a0} 5
+read [\u{10ffff}] 5: read \u{10ffff} 5
+read [ABCDEFGHIJKLMNOPQRSTUVWXYZabcdefghijklmnopqrstuvwxyz0123456789+/] 1: read ABCDEFGHIJKLMNOPQRSTUVWXYZabcdefghijklmnopqrstuvwxyz0123456789+/ 1
+read [ABCDEFGHIJKLMNOPQRSTUVWXYZabcdefghijklmnopqrstuvwxyz0123456789\u{e9}] 1: read ABCDEFGHIJKLMNOPQRSTUVWXYZabcdefghijklmnopqrstuvwxyz0123456789\u{e9} 1
+read [ABCDEFGHIJKLMNOPQRSTUVWXYZabcdefghijklmnopqrstuvwxyz0123456789+ ] 1: read ABCDEFGHIJKLMNOPQRSTUVWXYZabcdefghijklmnopqrstuvwxyz0123456789+  1
+unknown command: reads T 5
+unknown command: rea T 5
+unknown command: readT 5
+unknown command: READ T 5
+unknown command: Read T 5
+unknown command: red T 5
+unknown command: read\tT 5
+unknown command: read\r
+unknown command: read\0 T 5
+unknown command: \x20read T 5
+unknown command: write T 5
+bad arguments: read
+bad arguments: read\x20
+bad arguments: read\x20\x20
+bad arguments: read\x20\x20\x20
+bad arguments: read 5
+bad arguments: read T
+bad arguments: read T\x20
+bad arguments: read  5
+bad arguments: read T 5\x20
+bad arguments: read T 5\x20\x20
+bad arguments: read T 5\t
+bad arguments: read T 5\r
+bad arguments: read T 5\0
+bad arguments: read T -
+bad arguments: read T --5
+bad arguments: read T +5
+bad arguments: read T -+5
+bad arguments: read T 5-
+bad arguments: read T -5-
+bad arguments: read T x
+bad arguments: read T 5x
+bad arguments: read T x5
+bad arguments: read T 0x5
+bad arguments: read T 5.0
+bad arguments: read T .5
+bad arguments: read T 1e3
+bad arguments: read T 1_000
+bad arguments: read T 1,000
+bad arguments: read T \u{661}
+bad arguments: read T \u{2212}5
+bad arguments: read T #
+bad arguments: read T 5 #
+bad arguments: read T 1000000000000000000
+bad arguments: read T -1000000000000000000
+bad arguments: read T 0000000000000000001
+bad arguments: read T 9223372036854775807
+bad arguments: read T\t5
+bad arguments: read T\u{a0}5
+bad arguments: read T,5
+bad arguments: read T=5
+bad arguments: read ABCDEFGHIJKLMNOPQRSTUVWXYZabcdefghijklmnopqrstuvwxyz0123456789+/= 1
+bad arguments: read ABCDEFGHIJKLMNOPQRSTUVWXYZabcdefghijklmnopqrstuvwxyz0123456789+\u{e9} 1
+bad arguments: read ABCDEFGHIJKLMNOPQRSTUVWXYZabcdefghijklmnopqrstuvwxyz0123456789+/  1
+bad arguments: read ABCDEFGHIJKLMNOPQRSTUVWXYZabcdefghijklmnopqrstuvwxyz0123456789+/= x";
+
+// Lines of sensors whose readings were lost.
+const LOSE_LINES: &str = "lose [T]: lose T
+lose [ T]: lose  T
+lose [T ]: lose T\x20
+lose [ ]: lose\x20\x20
+lose [  ]: lose\x20\x20\x20
+lose [Card 2 Temp]: lose Card 2 Temp
+lose [T 5]: lose T 5
+lose [5]: lose 5
+lose [#]: lose #
+lose [\"T\"]: lose \"T\"
+lose [\\]: lose \\
+lose [\0]: lose \0
+lose [\t]: lose \t
+lose [\tT]: lose \tT
+lose [T\r]: lose T\r
+lose [\u{e9}]: lose \u{e9}
+lose [ABCDEFGHIJKLMNOPQRSTUVWXYZabcdefghijklmnopqrstuvwxyz0123456789+/]: lose ABCDEFGHIJKLMNOPQRSTUVWXYZabcdefghijklmnopqrstuvwxyz0123456789+/
+lose [ABCDEFGHIJKLMNOPQRSTUVWXYZabcdefghijklmnopqrstuvwxyz0123456789\u{e9}]: lose ABCDEFGHIJKLMNOPQRSTUVWXYZabcdefghijklmnopqrstuvwxyz0123456789\u{e9}
+lose [ABCDEFGHIJKLMNOPQRSTUVWXYZabcdefghijklmnopqrstuvwxyz0123456789+ ]: lose ABCDEFGHIJKLMNOPQRSTUVWXYZabcdefghijklmnopqrstuvwxyz0123456789+\x20
+unknown command: loses T
+unknown command: los T
+unknown command: loseT
+unknown command: LOSE T
+unknown command: Lose T
+unknown command: lost T
+unknown command: loose T
+unknown command: lose\tT
+unknown command: lose\r
+unknown command: \x20lose T
+bad arguments: lose
+bad arguments: lose\x20
+bad arguments: lose ABCDEFGHIJKLMNOPQRSTUVWXYZabcdefghijklmnopqrstuvwxyz0123456789+/=
+bad arguments: lose ABCDEFGHIJKLMNOPQRSTUVWXYZabcdefghijklmnopqrstuvwxyz0123456789+/\x20
+bad arguments: lose ABCDEFGHIJKLMNOPQRSTUVWXYZabcdefghijklmnopqrstuvwxyz0123456789+\u{e9}";
+
+// Lines that ask for lists.
+const SHOW_LINES: &str = "show Frus: show frus
+show Inventory: show inventory
+show Sensors: show sensors
+show Indexes: show indexes
+unknown command: shows frus
+unknown command: sho frus
+unknown command: showfrus
+unknown command: SHOW frus
+unknown command: Show frus
+unknown command: shew frus
+unknown command: show\tfrus
+unknown command: show\r
+unknown command: \x20show frus
+unknown command: frus
+unknown command: sensors
+bad arguments: show
+bad arguments: show\x20
+bad arguments: show\x20\x20
+bad arguments: show frus\x20
+bad arguments: show  frus
+bad arguments: show frus frus
+bad arguments: show frus sensors
+bad arguments: show fru
+bad arguments: show fruss
+bad arguments: show frus1
+bad arguments: show Frus
+bad arguments: show FRUS
+bad arguments: show frus\r
+bad arguments: show frus\t
+bad arguments: show frus\0
+bad arguments: show \"frus\"
+bad arguments: show frus,
+bad arguments: show #
+bad arguments: show inventory\x20
+bad arguments: show inventor
+bad arguments: show inventorys
+bad arguments: show Inventory
+bad arguments: show inventory\r
+bad arguments: show inventorz
+bad arguments: show sensors\x20
+bad arguments: show sensor
+bad arguments: show sensorss
+bad arguments: show Sensors
+bad arguments: show sensorz
+bad arguments: show \rsensors
+bad arguments: show indexes\x20
+bad arguments: show index
+bad arguments: show indices
+bad arguments: show indexess
+bad arguments: show Indexes
+bad arguments: show indexez
+bad arguments: show zones
+bad arguments: show fans
+bad arguments: show log
+bad arguments: show configs
+bad arguments: show all
+bad arguments: show 1 80";
+
+fn assert_rows(rt: &impl Abort, alloc: Global, rows: &str) -> Result<(), Fail> {
+    for row in rows.split('\n') {
         let (words, line) = row.split_once(": ").unwrap_or((row, ""));
-        let described = described(rt.alloc(), line.as_bytes())?;
+        let described = described(alloc, line.as_bytes())?;
         assert_eq!(rt; described.as_str(), words, "{line:?}");
     }
     Ok(())
+}
+
+#[test]
+fn reads_lines(rt: HostRuntime) -> Result<(), Fail> {
+    assert_rows(&rt, rt.alloc(), LINES)
+}
+
+#[test]
+fn reads_lines_of_readings(rt: HostRuntime) -> Result<(), Fail> {
+    assert_rows(&rt, rt.alloc(), READ_LINES)
+}
+
+#[test]
+fn reads_lines_of_lost_readings(rt: HostRuntime) -> Result<(), Fail> {
+    assert_rows(&rt, rt.alloc(), LOSE_LINES)
+}
+
+#[test]
+fn reads_lines_that_ask_for_lists(rt: HostRuntime) -> Result<(), Fail> {
+    assert_rows(&rt, rt.alloc(), SHOW_LINES)
 }
 
 #[test]
@@ -308,6 +521,41 @@ fn reads_lines_that_are_no_text(rt: HostRuntime) -> Result<(), Fail> {
         (b"plug 1 80 \xff", "bad hexadecimal digits"),
         (b"plug 1 80 \xff\xff", "bad hexadecimal digits"),
         (b"plug 1 80 0\xe9", "bad hexadecimal digits"),
+    ];
+    for (line, words) in rows {
+        let described = described(rt.alloc(), line)?;
+        assert_eq!(rt; described.as_str(), words, "{line:?}");
+    }
+    Ok(())
+}
+
+#[test]
+fn reads_names_of_any_bytes(rt: HostRuntime) -> Result<(), Fail> {
+    let rows: [(&[u8], &str); 24] = [
+        (b"read \xc3\xa9 5", "read [\u{e9}] 5"),
+        (b"read \xf4\x8f\xbf\xbf 5", "read [\u{10ffff}] 5"),
+        (b"read T\nU 5", "read [T\nU] 5"),
+        (b"lose \xe2\x82\xac", "lose [\u{20ac}]"),
+        (b"lose T\n", "lose [T\n]"),
+        (b"re\xffd T 5", "unknown command"),
+        (b"read\xff T 5", "unknown command"),
+        (b"lose\x80 T", "unknown command"),
+        (b"show\xff frus", "unknown command"),
+        (b"read \xff 5", "bad arguments"),
+        (b"read T\x80 5", "bad arguments"),
+        (b"read \xc3 5", "bad arguments"),
+        (b"read \xc0\x80 5", "bad arguments"),
+        (b"read \xed\xa0\x80 5", "bad arguments"),
+        (b"read \xf4\x90\x80\x80 5", "bad arguments"),
+        (b"read T \xff", "bad arguments"),
+        (b"read \xff x", "bad arguments"),
+        (b"lose \xff", "bad arguments"),
+        (b"lose T\xc3", "bad arguments"),
+        (b"lose \xa9T", "bad arguments"),
+        (b"lose \xe2\x82", "bad arguments"),
+        (b"show \xff", "bad arguments"),
+        (b"show frus\xff", "bad arguments"),
+        (b"show \xffrus", "bad arguments"),
     ];
     for (line, words) in rows {
         let described = described(rt.alloc(), line)?;

@@ -151,15 +151,13 @@ fn items(rt: HostRuntime) -> Result<(), Fail> {
 
 #[test]
 fn sensors(rt: HostRuntime) -> Result<(), Fail> {
-    let none = [false; 8];
-    let ends = [true, false, false, false, false, false, false, true];
-    let rows = [
+    let rows: [(&str, Option<Milli>, bool, Option<u64>, &[bool], &str); 8] = [
         (
             "Card 2 Temp",
             None,
             false,
             None,
-            none,
+            &[],
             "sensor \"Card 2 Temp\" none ok -\n",
         ),
         (
@@ -167,16 +165,31 @@ fn sensors(rt: HostRuntime) -> Result<(), Fail> {
             Some(Milli(41_000)),
             false,
             Some(0),
-            none,
+            &[false, false],
             "sensor \"X\" 41.000 ok 0\n",
         ),
-        ("T", None, true, None, none, "sensor \"T\" none failed -\n"),
+        (
+            "T",
+            None,
+            true,
+            None,
+            &[false],
+            "sensor \"T\" none failed -\n",
+        ),
+        (
+            "T",
+            Some(Milli(100)),
+            false,
+            Some(1),
+            &[true],
+            "sensor \"T\" 0.100 ok 1 0\n",
+        ),
         (
             "T",
             Some(Milli(-1)),
             true,
             Some(36_000),
-            ends,
+            &[true, false, false, false, false, false, false, true],
             "sensor \"T\" -0.001 failed 36000 0 7\n",
         ),
         (
@@ -184,7 +197,7 @@ fn sensors(rt: HostRuntime) -> Result<(), Fail> {
             Some(Milli(i64::MIN)),
             false,
             Some(u64::MAX),
-            [true; 8],
+            &[true; 8],
             "sensor \"a\\\"b\" -9223372036854775.808 ok 18446744073709551615 0 1 2 3 4 5 6 7\n",
         ),
         (
@@ -192,8 +205,18 @@ fn sensors(rt: HostRuntime) -> Result<(), Fail> {
             Some(Milli(95_050)),
             false,
             Some(20),
-            [false, true, false, false, true, false, true, false],
+            &[false, true, false, false, true, false, true],
             "sensor \"T\" 95.050 ok 20 1 4 6\n",
+        ),
+        (
+            "T",
+            Some(Milli(95_050)),
+            false,
+            Some(20),
+            &[
+                false, false, false, false, false, false, false, false, false, false, true,
+            ],
+            "sensor \"T\" 95.050 ok 20 10\n",
         ),
     ];
     for (name, value, failed, age, alarms, text) in rows {

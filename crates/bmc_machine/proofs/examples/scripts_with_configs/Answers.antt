@@ -36,7 +36,8 @@ use Rattle.bmc_machine.specs.Histories.{standing}
 use Rattle.bmc_machine.specs.Boards.{boards, board_keys}
 use Rattle.bmc_machine.specs.Indexes.{kept, boards_now, items_now, live_now}
 use Rattle.bmc_machine.specs.Changes.{changes_between}
-use Rattle.bmc_machine.specs.Answers.{answers, final_list}
+use Rattle.bmc_machine.specs.Shows.{fru_list}
+use Rattle.bmc_machine.specs.Answers.{answers}
 use Rattle.bmc_machine.proofs.examples.scripts_with_configs.Goals as goal
 
 pub returns : goal.returns
@@ -45,5 +46,5 @@ unfolding chain_behind operand_digits operation_at fixed_number field_of word_of
     hex_decoded digits_in number place_named plug_of unplug_of config_command words_of command_of header area_at first_field walk raw_fields text_of name_text
     area_fields area_text refusal_name refusal_text quoted field_row fru_row fields_of_area fields_at fields_under record_of change_text
     serde_json_on_literals config_in config_of without_spaces between found_name term_of_word pattern_in read_from board_places boards_in boards kept
-    changes_between standing answers final_list passed_limit board_keys boards_now items_now live_now items live items_less
+    changes_between standing answers fru_list passed_limit board_keys boards_now items_now live_now items live items_less
 returns c = record { always = refl; never = refl; asked = refl; refused = refl; broken = refl; large = refl }

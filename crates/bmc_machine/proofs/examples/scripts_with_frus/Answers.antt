@@ -22,12 +22,13 @@ use Rattle.bmc_machine.specs.Histories.{standing}
 use Rattle.bmc_machine.specs.Boards.{boards, board_keys}
 use Rattle.bmc_machine.specs.Indexes.{kept, boards_now, items_now, live_now}
 use Rattle.bmc_machine.specs.Changes.{changes_between}
-use Rattle.bmc_machine.specs.Answers.{answers, final_list}
+use Rattle.bmc_machine.specs.Shows.{fru_list}
+use Rattle.bmc_machine.specs.Answers.{answers}
 use Rattle.bmc_machine.proofs.examples.scripts_with_frus.Goals as goal
 
 pub returns : goal.returns
 unfolding encode chars digits hex_on_literals without_return line_item whole_block whole_item cut_most cut block_size hex_decoded digits_in number
     place_named plug_of unplug_of config_of words_of command_of header area_at first_field walk raw_fields text_of name_text area_fields area_text refusal_name
-    refusal_text quoted field_row fru_row fields_of_area fields_at fields_under record_of boards kept changes_between standing answers final_list
+    refusal_text quoted field_row fru_row fields_of_area fields_at fields_under record_of boards kept changes_between standing answers fru_list
     passed_limit board_keys boards_now items_now live_now items live items_less
 returns c = record { empty = refl; listed = refl; by_place = refl; damaged = refl; twice = refl; silent = refl; refused = refl }
