@@ -87,6 +87,9 @@ module _ (family : Family) (name : List ℕ) where
       let is : Fact item × (has_name family name item ≡ true) = found_passes Fact (has_name family name) items item facts held in
       (is.0, and_first _ _ is.1, (bytes_decides item.name name).0 (and_second (is_of family item) _ is.1))
 
+  pub holder_name : (items : List Item) (item : Item) → holder items family name ≡ Some item → item.name ≡ name
+  holder_name items item held = (holder_is (λ item. ⊤) items item (all_any _ (λ item. tt) items) held).2
+
   -- its id is there
   pub holder_has_id : (items : List Item) (item : Item) → holder items family name ≡ Some item → has_id items item.id ≡ true
   holder_has_id items item held = (holder_is (λ (item : Item). has_id items item.id ≡ true) items item (have_ids items) held).0

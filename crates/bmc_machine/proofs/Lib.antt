@@ -16,3 +16,4 @@ pub mod IdleLemmas
 pub mod HolderLemmas
 pub mod LivesLemmas
 pub mod SettledLemmas
+pub mod ReadingLemmas

@@ -1,7 +1,8 @@
 -- What a step makes of the sensor of a name: one whose item stays live gets what the step is to it, and one whose item becomes live is blank.
 use Rattle.std.proofs.Common.{◌≡◌, ℕ, List, [], ◌∷◌, ◌++◌, Bool, true, false, cond, Option, Some, None, refl, sym, ap, ap₂, ◌∙◌, option_map, append-nil}
-use Rattle.std.specs.Prelude.{bool_eq, option_and_then}
+use Rattle.std.specs.Prelude.{option_and_then}
 use Rattle.std.specs.List.{flat_map, enumerate_from}
+use Rattle.std.proofs.Math.Bool.{beq}
 use Rattle.cfg_json.specs.declared.item.Item.{Item}
 use Rattle.inventory.specs.Items.{holder}
 use Rattle.inventory.specs.declared.family.Family.TheVariants as families
@@ -12,7 +13,7 @@ use Rattle.sensor_core.specs.declared.limit.Limit.{Limit}
 use Rattle.sensor_core.specs.declared.setting.SensorSetting.{SensorSetting}
 use Rattle.bmc_machine.specs.Histories.{Step, tick_of}
 use Rattle.bmc_machine.specs.Indexes.{live_now}
-use Rattle.bmc_machine.specs.Lives.{has_id, outcome_of, outcomes, setting_in, item_sensor, blank_in, sensor_now}
+use Rattle.bmc_machine.specs.Lives.{has_id, outcome_of, IsNoOutcome, outcomes, setting_in, item_sensor, blank_in, sensor_now}
 use Rattle.bmc_machine.specs.Refusals.{IsLegalStep}
 use Rattle.bmc_machine.specs.Changes.{inventory, changes_between, failure_change, alarm_change, sensor_changes, changes_of_sensor, changes_of_item}
 use Rattle.bmc_machine.specs.Changes.{changes_of_sensors, changes}
@@ -41,12 +42,12 @@ sensor_is past name held is = ap (option_and_then (item_sensor past)) is
 
 -- ---- a sensor that shows what it did
 
-same_bool : (b : Bool) → bool_eq b b ≡ true
+same_bool : (b : Bool) → beq b b ≡ true
 same_bool true = refl
 same_bool false = refl
 
 -- where an answer is the same nothing is told
-nothing_told : (b : Bool) (told : List Change) → cond (bool_eq b b) [] told ≡ []
+nothing_told : (b : Bool) (told : List Change) → cond (beq b b) [] told ≡ []
 nothing_told b told = ap (λ (same : Bool). cond same [] told) (same_bool b)
 
 pub no_change : (name : List ℕ) (sensor : Option Sensor) → changes_of_sensor name sensor sensor ≡ []
@@ -67,7 +68,7 @@ flat_none {X} {Y} image (first ∷ xs) none = ap₂ (λ (one other : List Y). on
 
 -- ---- a step that is nothing to any sensor
 
-module _ (past : List Step) (step : Step) (watched : (name : List ℕ) (tick : ℕ) → outcome_of name tick step ≡ []) where
+module _ (past : List Step) (step : Step) (watched : IsNoOutcome step) where
   -- the sensor of an item that was live shows what it did
   sensor_same : (item : Item) → has_id (live_now past) item.id ≡ true → item_sensor (step ∷ past) item ≡ item_sensor past item
   sensor_same item lived =

@@ -14,7 +14,7 @@ use Rattle.inventory.proofs.BoardLemmas.{and_first, and_second}
 use Rattle.sensor_core.specs.Sensors.{Sensor}
 use Rattle.bmc_machine.specs.Histories.{Step}
 use Rattle.bmc_machine.specs.Indexes.{live_now}
-use Rattle.bmc_machine.specs.Lives.{has_id, outcome_of, setting_in, item_sensor, sensor_now, dropped_one, dropped, blank_in, started_one, started, settled}
+use Rattle.bmc_machine.specs.Lives.{has_id, IsNoOutcome, setting_in, item_sensor, sensor_now, dropped_one, dropped, blank_in, started_one, started, settled}
 use Rattle.bmc_machine.specs.Names.{is_of, names_of}
 use Rattle.bmc_machine.specs.Refusals.{IsLegal}
 use Rattle.bmc_machine.proofs.HolderLemmas.{holder_is, holder_has_id, holder_was, holder_stays}
@@ -181,7 +181,7 @@ module _ (old new : List Item) (once : AreNamedOnce families.Sensor old) (once_n
 pub live_once : (past : List Step) → IsLegal past → AreNamedOnce families.Sensor (live_now past)
 live_once past legal = named_once families.Sensor (live_now past) (live_names_differ past families.Sensor legal)
 
-module _ (past : List Step) (step : Step) (legal : IsLegal (step ∷ past)) (watched : (name : List ℕ) (tick : ℕ) → outcome_of name tick step ≡ [])
+module _ (past : List Step) (step : Step) (legal : IsLegal (step ∷ past)) (watched : IsNoOutcome step)
     (name : List ℕ) where
   -- what is left of the sensor before the step, where this item held the name then
   abbrev left : Option Item → Option Sensor

@@ -1,6 +1,7 @@
 -- What a step changes: the boards that go and those that come, the live items, and what sensors show.
-use Rattle.std.specs.Prelude.{ℕ, ◌==◌, Bool, true, false, bool_eq, if◌then◌else◌, List, [], ◌∷◌, ◌++◌, length, map, filter_map, Option, Some, None, option_map}
+use Rattle.std.specs.Prelude.{ℕ, ◌==◌, Bool, true, false, if◌then◌else◌, List, [], ◌∷◌, ◌++◌, length, map, filter_map, Option, Some, None, option_map}
 use Rattle.std.specs.List.{flat_map, enumerate_from}
+use Rattle.std.proofs.Math.Bool.{beq}
 use Rattle.bmc_base.specs.Places.{Place}
 use Rattle.cfg_json.specs.Configs.{Config}
 use Rattle.cfg_json.specs.declared.item.Item.{Item}
@@ -67,12 +68,12 @@ changes_between before after =
 
 -- a sensor failed, or works again
 abbrev pub failure_change : List ℕ → Bool → Bool → List Change
-failure_change name was is = if bool_eq was is then [] else Failure is name ∷ []
+failure_change name was is = if beq was is then [] else Failure is name ∷ []
 
 -- the alarm of a limit went on or off
 abbrev pub alarm_change : List ℕ → Sensor → Sensor → ℕ × Limit → List Change
 alarm_change name before after (position, limit) =
-    if bool_eq (has_alarm before position) (has_alarm after position) then []
+    if beq (has_alarm before position) (has_alarm after position) then []
     else Alarm (has_alarm after position) name position limit.above (limit.severity == most_severe) ∷ []
 
 -- what a sensor of this name shows otherwise than before: whether it failed, and then its alarms by position

@@ -1,5 +1,5 @@
 -- What the sensors of live items show: what came of asking them since they became live.
-use Rattle.std.specs.Prelude.{ℕ, Bool, ◌&&◌, bytes_eq, if◌then◌else◌, List, [], ◌∷◌, ◌++◌, Option, Some, None, option_map, option_and_then}
+use Rattle.std.specs.Prelude.{ℕ, ◌≡◌, Bool, ◌&&◌, bytes_eq, if◌then◌else◌, List, [], ◌∷◌, ◌++◌, Option, Some, None, option_map, option_and_then}
 use Rattle.std.specs.List.{list_any}
 use Rattle.std.specs.Option.{is_some, option_or}
 use Rattle.cfg_json.specs.declared.item.Item.{Item}
@@ -25,6 +25,10 @@ outcome_of name tick (Configure config) = []
 outcome_of name tick (Plug place bytes) = []
 outcome_of name tick (RefusedPlug place bytes refusal) = []
 outcome_of name tick (Unplug place) = []
+
+-- a step is no outcome of any sensor
+abbrev pub IsNoOutcome : Step → Type 0
+IsNoOutcome step = (name : List ℕ) (tick : ℕ) → outcome_of name tick step ≡ []
 
 -- the outcomes of an item since it became live last, the newest first; the step by which it became live is not among them
 unfoldable pub outcomes : Item → List Step → List Outcome

@@ -1,4 +1,4 @@
-ghost use Rattle.std.specs.Prelude.{◌≡◌, ◌≤◌, ◌∷◌, true, ℕ, List, [], map, length, Some};
+ghost use Rattle.std.specs.Prelude.{◌≡◌, ◌≤◌, ◌∷◌, true, ℕ, ℤ, List, [], map, length, Some};
 ghost use Rattle.std.specs.List.{IsDistinct};
 ghost use Rattle.std.specs.List.Sorted.{IsStrictlySortedBy};
 ghost use Rattle.bmc_base.specs.Places.{Place, place_cmp, place_eq};
@@ -6,7 +6,7 @@ ghost use Rattle.bmc_text.specs.Items.{Item};
 ghost use Rattle.bmc_report.specs.declared.refusal.Refusal.{Refusal};
 ghost use Rattle.cfg_json.specs.Configs.{Config};
 ghost use Rattle.cfg_json.specs.Verdicts.{Verdict};
-ghost use Rattle.bmc_machine.specs.Histories.{Step, Configure, Plug, RefusedPlug, Unplug, standing};
+ghost use Rattle.bmc_machine.specs.Histories.{Step, Configure, Plug, RefusedPlug, Unplug, Read, Lose, standing};
 ghost use Rattle.bmc_machine.specs.Indexes.{kept};
 ghost use Rattle.bmc_machine.specs.Refusals.{refusal_after, most_frus, IsLegal};
 ghost use Rattle.bmc_machine.specs.Answers.{answer_step, answer, answers, answer_of, whole_answer_of};
@@ -47,6 +47,12 @@ pub fn refused_plugs_are_idle()
     ensures unplug { (line : Refusal → List ℕ) (past : List Step) (place : Place) (refusal : Refusal)
         → refusal_after past (Unplug place) ≡ Some refusal
         → (answer_step line past (Unplug place)).past ≡ past }
+    ensures reading { (line : Refusal → List ℕ) (past : List Step) (name : List ℕ) (raw : ℤ) (refusal : Refusal)
+        → refusal_after past (Read name raw) ≡ Some refusal
+        → (answer_step line past (Read name raw)).past ≡ past }
+    ensures loss { (line : Refusal → List ℕ) (past : List Step) (name : List ℕ) (refusal : Refusal)
+        → refusal_after past (Lose name) ≡ Some refusal
+        → (answer_step line past (Lose name)).past ≡ past }
 {}
 
 /// An item that is refused leaves the configurations, the FRUs that are present and the indexes as they are.

@@ -5,6 +5,7 @@ mod examples;
 mod histories;
 mod indexes;
 mod items;
+mod sensors;
 mod verdicts;
 
 pub use examples::{
@@ -17,4 +18,7 @@ pub use histories::{
 };
 pub use indexes::{indexes_are_kept, indexes_count};
 pub use items::{items_differ, items_stay, limits_hold};
+pub use sensors::{
+    idle_steps, sensors_are_told, sensors_settle, sensors_stay, sensors_wait,
+};
 pub use verdicts::verdicts_decide;

@@ -55,7 +55,7 @@ config_of rest = do
   size ← ok_or (number rest) BadArguments
   Ok (Config size)
 
--- a text at its last space: what stands before it, and what behind it
+-- a text at its last space, the first from behind: what stands before it, and what behind it
 abbrev pub split_last_space : List ℕ → Option (List ℕ × List ℕ)
 split_last_space text = option_map (λ parts. (reverse parts.1, reverse parts.0)) (split_space (reverse text))
 

@@ -1,8 +1,9 @@
 -- What the computed examples ask for.
-use Rattle.std.specs.Prelude.{[], ◌∷◌, Result, Ok, Err}
+use Rattle.std.specs.Prelude.{ℕ, ℤ, pos, List, [], ◌∷◌, codes, negsuc, replicate, Result, Ok, Err}
 use Rattle.bmc_base.specs.Places.{Place}
+use Rattle.bmc_report.specs.declared.topic.Topic.{Topic}
 use Rattle.bmc_script.specs.declared.command.Command.{Command}
-use Rattle.bmc_script.specs.declared.command.Command.TheVariants.{Config, Plug, Unplug, Nothing}
+use Rattle.bmc_script.specs.declared.command.Command.TheVariants.{Config, Plug, Unplug, Good, Lost, Show, Nothing}
 use Rattle.bmc_script.specs.declared.command.ScriptFault.{ScriptFault}
 use Rattle.bmc_script.specs.declared.command.ScriptFault.TheVariants.{UnknownCommand, BadArguments, PlaceRange, BadHex}
 
@@ -17,6 +18,24 @@ plugged = Ok (Plug bus_1_80 (10 ∷ 255 ∷ []))
 
 abbrev pub unplugged : Result Command ScriptFault
 unplugged = Ok (Unplug bus_1_80)
+
+-- a sensor of this name was read
+abbrev pub read_as : List ℕ → ℤ → Result Command ScriptFault
+read_as name number = Ok (Good name number)
+
+-- 41 degrees below zero, in thousandths
+abbrev pub frost : ℤ
+frost = negsuc 40999
+
+abbrev pub lost : List ℕ → Result Command ScriptFault
+lost name = Ok (Lost name)
+
+-- a name of as many bytes
+abbrev pub name_of_size : ℕ → List ℕ
+name_of_size count = replicate count 65
+
+abbrev pub shown : Topic → Result Command ScriptFault
+shown topic = Ok (Show topic)
 
 abbrev pub nothing : Result Command ScriptFault
 nothing = Ok Nothing

@@ -21,13 +21,12 @@ pub enum Command {
     Plug(Place, Bytes),
     /// `unplug B A`: the FRU at a place goes away.
     Unplug(Place),
-    /// `read NAME RAW`: a sensor was read, and this is the raw number: an optional `-` and 1 to 18 decimal digits. The name
-    /// has 1 to 64 bytes of UTF-8, spaces among them, and ends at the last space of the line.
+    /// `read NAME RAW`: the sensor of this name was read, and gave this raw number. RAW is an optional `-` and 1 to 18
+    /// decimal digits. NAME is 1 to 64 bytes of UTF-8 and goes on to the last space, so that it may have spaces itself.
     Good(Name, i64),
-    /// `lose NAME`: a reading of a sensor was lost. The name has 1 to 64 bytes of UTF-8, and is all that stands behind the
-    /// first space.
+    /// `lose NAME`: a reading of the sensor of this name was lost. NAME is all that stands behind the first space.
     Lost(Name),
-    /// `show TOPIC`: a list is asked for, of `frus`, `inventory`, `sensors` or `indexes`.
+    /// `show TOPIC`: a list is asked for. TOPIC is `frus`, `inventory`, `sensors` or `indexes`.
     Show(Topic),
     /// An empty line, or a comment, which begins with `#`.
     Nothing,
@@ -39,8 +38,10 @@ pub enum ScriptFault {
     /// The first word is no command. It is the text before the first space or else the whole line.
     #[error("unknown command")]
     UnknownCommand,
-    /// What stands behind the command has not its form: the number of words, a numeral that has not 1 to 9 digits, or
-    /// a HEX that is empty or has a space in it. A command that stands alone is such a line.
+    /// What stands behind the command has not its form: the number of words, a numeral that has not 1 to 9 digits, a
+    /// HEX that is empty or has a space in it, a NAME that is empty, longer than 64 bytes or no UTF-8, a RAW that is not
+    /// an optional `-` and 1 to 18 digits, or a TOPIC that is none of the four. A command that stands alone is such a
+    /// line.
     #[error("bad arguments")]
     BadArguments,
     /// A bus above 255 or an address above 127.

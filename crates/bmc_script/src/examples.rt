@@ -1,6 +1,8 @@
-ghost use Rattle.std.specs.Prelude.{◌≡◌, [], codes};
+ghost use Rattle.std.specs.Prelude.{◌≡◌, [], ◌∷◌, ◌++◌, codes, pos};
+ghost use Rattle.bmc_report.specs.declared.topic.Topic.TheVariants.{Frus, Inventory, Sensors, Indexes};
 ghost use Rattle.bmc_script.specs.Commands.{command_of};
 ghost use Rattle.bmc_script.specs.Examples.{configured, plugged, unplugged, nothing, unknown, malformed, out_of_range, not_hexadecimal};
+ghost use Rattle.bmc_script.specs.Examples.{read_as, frost, lost, name_of_size, shown};
 
 /// The commands of lines, computed from the definition: lines that do nothing, one of each command, with leading
 /// zeros, lines that break each of the rules, and lines that break two of them.
@@ -33,4 +35,37 @@ pub fn commands_of_lines()
     ensures space_before_range { command_of (codes "plug 256 80 00 ") ≡ malformed }
     ensures space_before_digits { command_of (codes "plug 1 80 zz zz") ≡ malformed }
     ensures range_before_digits { command_of (codes "plug 256 80 zz") ≡ out_of_range }
+{}
+
+/// The same of lines that speak of sensors and of lists: names with spaces, names that are empty, too long or no UTF-8,
+/// the longest numbers, and words that are no list.
+pub fn commands_of_sensor_lines()
+    ensures read { command_of (codes "read Card 2 Temp -41000") ≡ read_as (codes "Card 2 Temp") frost }
+    ensures read_zeros { command_of (codes "read T 007") ≡ read_as (codes "T") (pos 7) }
+    ensures read_no_sign_of_zero { command_of (codes "read T -0") ≡ read_as (codes "T") (pos 0) }
+    ensures read_longest { command_of (codes "read T 999999999999999999") ≡ read_as (codes "T") (pos 999999999999999999) }
+    ensures read_to_last_space { command_of (codes "read T  5") ≡ read_as (codes "T ") (pos 5) }
+    ensures read_numbers { command_of (codes "read 1 2 3") ≡ read_as (codes "1 2") (pos 3) }
+    ensures read_alone { command_of (codes "read") ≡ malformed }
+    ensures read_no_name { command_of (codes "read 5") ≡ malformed }
+    ensures read_empty_name { command_of (codes "read  5") ≡ malformed }
+    ensures read_no_number { command_of (codes "read T ") ≡ malformed }
+    ensures read_plus { command_of (codes "read T +5") ≡ malformed }
+    ensures read_two_signs { command_of (codes "read T --5") ≡ malformed }
+    ensures read_19_digits { command_of (codes "read T 0000000000000000005") ≡ malformed }
+    ensures read_return { command_of (codes "read T 5\r") ≡ malformed }
+    ensures lose { command_of (codes "lose Card 2 Temp") ≡ lost (codes "Card 2 Temp") }
+    ensures lose_spaces { command_of (codes "lose  T ") ≡ lost (codes " T ") }
+    ensures lose_64_bytes { command_of (codes "lose " ++ name_of_size 64) ≡ lost (name_of_size 64) }
+    ensures lose_65_bytes { command_of (codes "lose " ++ name_of_size 65) ≡ malformed }
+    ensures lose_no_name { command_of (codes "lose ") ≡ malformed }
+    ensures lose_two_bytes { command_of (codes "lose " ++ 195 ∷ 169 ∷ []) ≡ lost (195 ∷ 169 ∷ []) }
+    ensures lose_half_a_character { command_of (codes "lose " ++ 195 ∷ []) ≡ malformed }
+    ensures show_frus { command_of (codes "show frus") ≡ shown Frus }
+    ensures show_inventory { command_of (codes "show inventory") ≡ shown Inventory }
+    ensures show_sensors { command_of (codes "show sensors") ≡ shown Sensors }
+    ensures show_indexes { command_of (codes "show indexes") ≡ shown Indexes }
+    ensures show_other { command_of (codes "show zones") ≡ malformed }
+    ensures show_space { command_of (codes "show frus ") ≡ malformed }
+    ensures show_nothing { command_of (codes "show") ≡ malformed }
 {}
