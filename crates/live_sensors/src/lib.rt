@@ -2,5 +2,7 @@
 #![tactic(auto)]
 
 mod sensors;
+#[cfg(test)]
+mod tests;
 
 pub use sensors::LiveSensors;

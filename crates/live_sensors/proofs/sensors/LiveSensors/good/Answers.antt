@@ -17,8 +17,8 @@ pub returns-clause-changes : goal.returns-clause-changes
 returns-clause-changes c =
     let old = at c.self.inside.table.slots c.args.slot in
     on_ok_weaker c.good_at.result (λ puts.
-        changes _ _ _ _ _ c.self.view_is c.self.invariant refl (ap (λ (n : ℕ). min n (spare c.self.inside.slots)) c.good_at.ensures.spare)
-        (puts.changed ∙ ap (λ (raw : ℤ). option_map (λ (sensor : Sensor). good_after sensor raw c.args.tick) old) (raw_is c)) puts.others)
+    changes _ _ _ _ _ c.self.view_is c.self.invariant refl (ap (λ (n : ℕ). min n (spare c.self.inside.slots)) c.good_at.ensures.spare)
+    (puts.changed ∙ ap (λ (raw : ℤ). option_map (λ (sensor : Sensor). good_after sensor raw c.args.tick) old) (raw_is c)) puts.others)
     c.good_at.ensures.puts
 
 pub returns-clause-takes : goal.returns-clause-takes
