@@ -63,6 +63,19 @@ opens_below = codes "{\"Name\":\"W\",\"Probe\":\"xyz.openbmc_project.FruDevice({
 abbrev pub names_fans : List ℕ
 names_fans = codes "{\"Name\":\"F\",\"Probe\":\"xyz.openbmc_project.FruDevice({})\",\"Exposes\":[{\"Name\":\"Fan $address - 79\",\"Type\":\"Fan\"}]}"
 
+-- one with a sensor, and one with a sensor whose alarm goes on at 2 and off below 1
+abbrev pub has_sensor : List ℕ
+has_sensor = codes "{\"Name\":\"A\",\"Probe\":\"TRUE\",\"Exposes\":[{\"Name\":\"T\",\"Type\":\"Sensor\"}]}"
+
+abbrev pub has_alarm : List ℕ
+has_alarm =
+    codes "{\"Name\":\"A\",\"Probe\":\"TRUE\",\"Exposes\":[{\"Name\":\"T\",\"Type\":\"Sensor\",\"Thresholds\":["
+    ++ codes "{\"Direction\":\"greater than\",\"Severity\":1,\"Value\":2,\"Hysteresis\":1}]}]}"
+
+-- one with a sensor at each FRU, on the bus of the FRU
+abbrev pub has_sensors : List ℕ
+has_sensors = codes "{\"Name\":\"F\",\"Probe\":\"xyz.openbmc_project.FruDevice({})\",\"Exposes\":[{\"Name\":\"T\",\"Type\":\"Sensor\",\"Bus\":\"$bus\",\"Address\":76}]}"
+
 -- one whose probe has no word, one with an expose of a type that is not read, and one with a name that is no template
 abbrev pub no_word : List ℕ
 no_word = codes "{\"Name\":\"A\",\"Probe\":\"TRU\"}"
@@ -85,6 +98,15 @@ unplug place = codes "unplug " ++ place ++ newline
 
 abbrev pub config : List ℕ → List ℕ → List ℕ
 config size document = codes "config " ++ size ++ newline ++ document ++ newline
+
+abbrev pub read : List ℕ → List ℕ
+read words = codes "read " ++ words ++ newline
+
+abbrev pub lose : List ℕ → List ℕ
+lose name = codes "lose " ++ name ++ newline
+
+abbrev pub show : List ℕ → List ℕ
+show topic = codes "show " ++ topic ++ newline
 
 -- the lines that are printed
 abbrev pub fru : List ℕ → List ℕ → List ℕ

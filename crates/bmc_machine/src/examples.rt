@@ -4,7 +4,8 @@ ghost use Rattle.bmc_machine.specs.Meetings.{first_met, met_before};
 ghost use Rattle.bmc_machine.specs.Answers.{answer_of, out};
 ghost use Rattle.bmc_machine.specs.Examples.{riser, riser_fields, chassis, chassis_fields, damaged, bare, plug, unplug, config, fru, refused};
 ghost use Rattle.bmc_machine.specs.Examples.{always_found, never_found, asks_before, asks_behind, finds_any, finds_first, finds_chassis, finds_riser};
-ghost use Rattle.bmc_machine.specs.Examples.{opens_20, opens_below, names_fans, no_word, unread, no_template, three_frus};
+ghost use Rattle.bmc_machine.specs.Examples.{opens_20, opens_below, names_fans, has_sensor, has_alarm, has_sensors, no_word, unread, no_template, three_frus};
+ghost use Rattle.bmc_machine.specs.Examples.{read, lose, show};
 ghost use Rattle.bmc_machine.specs.Examples.{bus_1_79, bus_1_80, bus_1_81, bus_2_79, bus_20_80, place_1_79, place_1_80, place_1_81};
 
 /// What the machine prints for scripts with FRUs, computed from the definitions: a FRU that is listed, two that
@@ -65,6 +66,26 @@ pub fn scripts_with_items()
         ≡ codes "0 new board \"F\" 1 at 1 80\n0 new fan \"Fan 1\"\n0 new board \"F\" 2 at 1 79\n0 new fan \"Fan 0\"\n"
         ++ codes "0 new board \"F\" 3 at 2 79\n0 gone board \"F\" 2 at 1 79\n0 gone fan \"Fan 0\"\n0 new fan \"Fan 0\"\n"
         ++ fru bus_1_80 [] ++ fru bus_2_79 [] }
+{}
+
+/// What it prints for scripts with a sensor: an alarm that goes on, stays on within the hysteresis and goes off behind it; a
+/// sensor that fails at its fifth loss in a row, and works again with a reading, with what refuses a line of a sensor; and one that
+/// is blank again once its board is back, with the lists of indexes and of boards.
+pub fn scripts_with_sensors()
+    ensures alarm { out [] (config (codes "150") has_alarm ++ read (codes "T 2000") ++ read (codes "T 1000") ++ show (codes "sensors") ++ read (codes "T 999")
+        ++ show (codes "sensors"))
+        ≡ codes "0 new board \"A\" 1\n0 new sensor \"T\"\n0 alarm on \"T\" 0 high critical\nsensor \"T\" 1.000 ok 0 0\n"
+        ++ codes "0 alarm off \"T\" 0 high critical\nsensor \"T\" 0.999 ok 0\n" }
+    ensures failure { out [] (config (codes "68") has_sensor ++ lose (codes "T") ++ lose (codes "T") ++ lose (codes "T") ++ lose (codes "T") ++ show (codes "sensors")
+        ++ lose (codes "T") ++ show (codes "sensors") ++ read (codes "T -5") ++ show (codes "sensors") ++ lose (codes "U") ++ read (codes "T 1000000001"))
+        ≡ codes "0 new board \"A\" 1\n0 new sensor \"T\"\nsensor \"T\" none ok -\n0 failed sensor \"T\"\nsensor \"T\" none failed -\n"
+        ++ codes "0 working sensor \"T\"\nsensor \"T\" -0.005 ok 0\n" ++ refused (codes "11") (codes "UnknownSensor")
+        ++ refused (codes "12") (codes "ReadingRange") }
+    ensures lists { out [] (config (codes "123") has_sensors ++ plug bus_1_80 bare ++ read (codes "T 7") ++ unplug bus_1_80 ++ show (codes "indexes")
+        ++ plug bus_1_80 bare ++ show (codes "sensors") ++ show (codes "inventory"))
+        ≡ codes "0 new board \"F\" 1 at 1 80\n0 new sensor \"T\"\n0 gone board \"F\" 1 at 1 80\n0 gone sensor \"T\"\nindex \"F\" 1 at 1 80\n"
+        ++ codes "0 new board \"F\" 1 at 1 80\n0 new sensor \"T\"\nsensor \"T\" none ok -\n"
+        ++ codes "board \"F\" 1 at 1 80\n  \"Sensor\" \"T\" bus 1 address 76 live\n" ++ fru bus_1_80 [] }
 {}
 
 /// When boards were first met, of FRUs at three places: the second behind the first, and the third after the second is
