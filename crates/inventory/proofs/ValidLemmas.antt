@@ -88,7 +88,7 @@ plus_valid configs (Some config) valid one = All-push IsValidConfig configs conf
 -- ---- the live items that are not elsewhere
 
 pub less_valid : (items here there shown : List Item) → here ≡ live items → shown ≡ items_less here there → All IsValidItem items → All IsValidItem shown
-unfolding live, items_less
+unfolding live items_less
 less_valid items here there shown here_is shown_is valid =
     All-same IsValidItem shown (items_less here there) shown_is
     (All-filter _ IsValidItem here (All-same IsValidItem here (live items) here_is (All-filter (is_live items) IsValidItem items valid)))

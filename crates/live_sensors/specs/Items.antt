@@ -2,19 +2,10 @@
 use Rattle.std.specs.Prelude.{ℕ, ◌&&◌, if◌then◌else◌, bytes_eq, List, [], ◌∷◌, Option, Some, None, option_map}
 use Rattle.std.specs.Option.{is_some, option_or}
 use Rattle.sensor_core.specs.declared.setting.SensorSetting.{SensorSetting}
-use Rattle.sensor_core.specs.Settings.{IsValidSetting}
 use Rattle.sensor_core.specs.Sensors.{Sensor, sensor_of}
 use Rattle.cfg_json.specs.declared.item.Item.{Item}
 use Rattle.cfg_json.specs.declared.item.ItemPart.{ItemPart}
 use Rattle.cfg_json.specs.declared.item.ItemPart.TheVariants as parts
-
--- a sensor has a setting that is valid; an item of any other type may be any
-abbrev pub IsValidPart : ItemPart → Type 0
-IsValidPart (parts.Sensor sensor) = IsValidSetting sensor.setting
-IsValidPart parts.Fan = Unit {0}
-IsValidPart (parts.Zone setting) = Unit {0}
-IsValidPart (parts.Mux part) = Unit {0}
-IsValidPart parts.Passive = Unit {0}
 
 -- the setting of a sensor; an item of any other type has none
 abbrev pub setting_in : ItemPart → Option SensorSetting

@@ -4,7 +4,8 @@ ghost use Rattle.sensor_core.specs.Sensors.{Good, Lost, sensor_of};
 ghost use Rattle.sensor_core.specs.Updates.{good_after, lost_after, Takes};
 ghost use Rattle.cfg_json.specs.declared.item.Item.{Item};
 ghost use Rattle.live_sensors.specs.Sensors.{slot_of, sensor_in, ContainsSlot, AtSlot, Changes};
-ghost use Rattle.live_sensors.specs.Items.{setting_in, IsValidPart, without, started_one, dropped, started, settled};
+ghost use Rattle.inventory.specs.Items.{IsValidPart, IsValidItem};
+ghost use Rattle.live_sensors.specs.Items.{setting_in, without, started_one, dropped, started, settled};
 
 use bmc_base::{Name, OutOfMemory};
 use cfg_json::{Item, ItemPart};
@@ -72,7 +73,7 @@ impl LiveSensors {
     /// item. It takes no memory, since there is room.
     pub fn settle(&mut self, gone: &[Item], new: &[Item])
         requires room { length new.now ≤ self.old.room }
-        requires valid { All (λ (item : Item). IsValidPart item.part) new.now }
+        requires valid { All IsValidItem new.now }
         ensures { (name : List ℕ) → sensor_in self.new name ≡ settled gone.now new.now name (sensor_in self.old name) }
     {
         self.drop_all(gone);
@@ -181,7 +182,7 @@ impl LiveSensors {
     // Starts a blank sensor for each new sensor item.
     fn start_all(&mut self, new: &[Item])
         requires room { length new.now ≤ self.old.room }
-        requires valid { All (λ (item : Item). IsValidPart item.part) new.now }
+        requires valid { All IsValidItem new.now }
         ensures { (name : List ℕ) → sensor_in self.new name ≡ started new.now name (sensor_in self.old name) }
     {
         for item in new {

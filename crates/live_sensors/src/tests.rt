@@ -1,5 +1,5 @@
 ghost use Rattle.std.specs.Prelude.{◌≡◌, IfOk};
-ghost use Rattle.live_sensors.specs.Items.{IsValidPart};
+ghost use Rattle.inventory.specs.Items.{IsValidPart};
 
 use crate::LiveSensors;
 use bmc_base::{Milli, Name};
