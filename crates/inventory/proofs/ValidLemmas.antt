@@ -49,12 +49,12 @@ rendered_valid : (board : Board) (fields : Option (List Field)) (from : ℕ) (ex
     → All IsValidItem (filter_map (rendered_item board fields) (enumerate_from from exposes))
 rendered_valid board fields from [] valid = All-nil IsValidItem
 rendered_valid board fields from (expose ∷ exposes) valid =
-    by (rendered_item board fields (from, expose)) (item_valid board fields from expose (All-head IsValidExpose expose exposes valid))
+    by (rendered_item board fields (from, expose)) _ (item_valid board fields from expose (All-head IsValidExpose expose exposes valid))
     (rendered_valid board fields (from + 1) exposes (All-tail IsValidExpose expose exposes valid))
   where
-    by : (item : Option Item) {rest : List Item} → IfSome item IsValidItem → All IsValidItem rest → All IsValidItem (cons_option item rest)
-    by None none rest = rest
-    by (Some item) {rest} one later = All-cons IsValidItem item rest one later
+    by : (item : Option Item) (rest : List Item) → IfSome item IsValidItem → All IsValidItem rest → All IsValidItem (cons_option item rest)
+    by None rest one later = later
+    by (Some item) rest one later = All-cons IsValidItem item rest one later
 
 config_valid : (configs : List Config) (number : ℕ) → All IsValidConfig configs → All IsValidExpose (exposes_of configs number)
 config_valid [] number valid = All-nil IsValidExpose
