@@ -43,7 +43,8 @@ flat_one {X} image name (first ∷ items) once none = by (has_name families.Sens
     by : (named : Bool) → has_name families.Sensor name first ≡ named → flat_map image items ≡ of_held image (holder items families.Sensor name)
         → image first ++ flat_map image items ≡ of_held image (cond named (Some first) (holder items families.Sensor name))
     by true is rest =
-        ap (λ (later : List X). image first ++ later) (rest ∙ ap (of_held image) (none_behind families.Sensor name first items once is)) ∙ append-nil (image first)
+        ap (λ (later : List X). image first ++ later) (rest ∙ ap (of_held image) (none_behind families.Sensor name first items once is))
+        ∙ append-nil (image first)
     by false is rest = ap (λ (front : List X). front ++ flat_map image items) (none first is) ∙ rest
 
 -- an item without a setting has no sensor
@@ -79,7 +80,8 @@ module _ (past : List Step) (step : Step) (name : List ℕ) (outcome : Outcome) 
       (sensor_is past name (Some item) held) takes)
     where
       by : (setting : Option SensorSetting)
-          → IfSome (option_map (λ (setting : SensorSetting). sensor_of setting (outcomes item past)) setting) (λ (sensor : Sensor). Takes sensor (after sensor) outcome)
+          → IfSome (option_map (λ (setting : SensorSetting). sensor_of setting (outcomes item past)) setting)
+          (λ (sensor : Sensor). Takes sensor (after sensor) outcome)
           → option_map (λ (setting : SensorSetting). sensor_of setting (outcome ∷ outcomes item past)) setting
           ≡ option_map after (option_map (λ (setting : SensorSetting). sensor_of setting (outcomes item past)) setting)
       by None takes = refl
@@ -91,7 +93,8 @@ module _ (past : List Step) (step : Step) (name : List ℕ) (outcome : Outcome) 
   told_held other true None is was = refl
   told_held other false None is was = refl
   told_held other told (Some item) is was =
-      told_or_not item told (ap (λ (own : List ℕ). bytes_eq own name) (holder_name families.Sensor other (live_now past) item was) ∙ is) (holder_has_id families.Sensor other (live_now past) item was)
+      told_or_not item told (ap (λ (own : List ℕ). bytes_eq own name) (holder_name families.Sensor other (live_now past) item was) ∙ is)
+      (holder_has_id families.Sensor other (live_now past) item was)
       ∙ by told is
     where
       by : (told : Bool) → bytes_eq other name ≡ told → sensor_after item (cond told (outcome ∷ outcomes item past) (outcomes item past))
@@ -162,20 +165,31 @@ lost_takes old setting outcomes is =
     ∙ ap (λ (lost : ℕ). record (sensor_of setting (Lost ∷ outcomes)) { lost = lost }) (sym (more_losses (prefix_len is_lost outcomes)))
 
 module _ (past : List Step) (name : List ℕ) (raw : ℤ) where
-  good : IfSome (sensor_now past name) (λ sensor. IsValidSetting sensor.setting)
-      → IfSome (sensor_now past name) (λ sensor. Takes sensor (good_after sensor raw (tick_of past)) (Good raw (tick_of past)))
-  good valid = IfSome_then (sensor_now past name) valid (λ sensor valid. good_takes sensor raw (tick_of past) valid)
+  -- the sensor of the name, if there is one, takes the reading
+  abbrev pub TakesReading : Type 0
+  TakesReading = IfSome (sensor_now past name) (λ sensor. Takes sensor (good_after sensor raw (tick_of past)) (Good raw (tick_of past)))
 
-  pub sensors_read : IfSome (sensor_now past name) (λ sensor. IsValidSetting sensor.setting) → (other : List ℕ)
-      → sensor_now (Read name raw ∷ past) other
+  -- it does if its setting is valid
+  takes_reading : IfSome (sensor_now past name) (λ sensor. IsValidSetting sensor.setting) → TakesReading
+  takes_reading valid = IfSome_then (sensor_now past name) valid (λ sensor valid. good_takes sensor raw (tick_of past) valid)
+
+  pub sensors_taken : TakesReading → (other : List ℕ) → sensor_now (Read name raw ∷ past) other
       ≡ cond (bytes_eq other name) (option_map (λ sensor. good_after sensor raw (tick_of past)) (sensor_now past other)) (sensor_now past other)
-  sensors_read valid =
-      sensors_told past (Read name raw) name (Good raw (tick_of past)) (λ sensor. good_after sensor raw (tick_of past)) refl (λ other. refl) (good valid)
+  sensors_taken takes =
+      sensors_told past (Read name raw) name (Good raw (tick_of past)) (λ sensor. good_after sensor raw (tick_of past)) refl (λ other. refl) takes
+
+  pub changes_taken : TakesReading → IsLegal past
+      → changes past (Read name raw) ≡ changes_of_sensor name (sensor_now past name) (sensor_now (Read name raw ∷ past) name)
+  changes_taken takes =
+      changes_told past (Read name raw) name (Good raw (tick_of past)) (λ sensor. good_after sensor raw (tick_of past)) refl (λ other. refl) takes
+
+  pub sensors_read : IfSome (sensor_now past name) (λ sensor. IsValidSetting sensor.setting) → (other : List ℕ) → sensor_now (Read name raw ∷ past) other
+      ≡ cond (bytes_eq other name) (option_map (λ sensor. good_after sensor raw (tick_of past)) (sensor_now past other)) (sensor_now past other)
+  sensors_read valid = sensors_taken (takes_reading valid)
 
   pub changes_read : IfSome (sensor_now past name) (λ sensor. IsValidSetting sensor.setting) → IsLegal past
       → changes past (Read name raw) ≡ changes_of_sensor name (sensor_now past name) (sensor_now (Read name raw ∷ past) name)
-  changes_read valid =
-      changes_told past (Read name raw) name (Good raw (tick_of past)) (λ sensor. good_after sensor raw (tick_of past)) refl (λ other. refl) (good valid)
+  changes_read valid = changes_taken (takes_reading valid)
 
 module _ (past : List Step) (name : List ℕ) where
   any_takes : IfSome (sensor_now past name) (λ sensor. Takes sensor (lost_after sensor) Lost)

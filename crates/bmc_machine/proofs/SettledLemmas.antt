@@ -194,7 +194,8 @@ module _ (past : List Step) (step : Step) (legal : IsLegal (step ∷ past)) (wat
   none_left None was is = sensor_none past name was
   none_left (Some item) was is = by (has_id (live_now (step ∷ past)) item.id) refl
     where
-      by : (lives : Bool) → has_id (live_now (step ∷ past)) item.id ≡ lives → cond (is_some (cond (not lives) (Some item) None)) None (sensor_now past name) ≡ None
+      by : (lives : Bool) → has_id (live_now (step ∷ past)) item.id ≡ lives
+          → cond (is_some (cond (not lives) (Some item) None)) None (sensor_now past name) ≡ None
       by true lives =
           let held : holder (live_now (step ∷ past)) families.Sensor name ≡ Some item =
           holder_stays past step (legal_step past step legal) families.Sensor name item was lives in

@@ -74,7 +74,9 @@ has_alarm =
 
 -- one with a sensor at each FRU, on the bus of the FRU
 abbrev pub has_sensors : List ℕ
-has_sensors = codes "{\"Name\":\"F\",\"Probe\":\"xyz.openbmc_project.FruDevice({})\",\"Exposes\":[{\"Name\":\"T\",\"Type\":\"Sensor\",\"Bus\":\"$bus\",\"Address\":76}]}"
+has_sensors =
+    codes "{\"Name\":\"F\",\"Probe\":\"xyz.openbmc_project.FruDevice({})\",\"Exposes\":["
+    ++ codes "{\"Name\":\"T\",\"Type\":\"Sensor\",\"Bus\":\"$bus\",\"Address\":76}]}"
 
 -- one whose probe has no word, one with an expose of a type that is not read, and one with a name that is no template
 abbrev pub no_word : List ℕ

@@ -1,6 +1,6 @@
 -- Why an item is refused.
-use Rattle.std.specs.Prelude.{ℕ, ◌≡◌, ⊤, Bool, nat_le, nat_lt, ℤ, unsigned_abs, is_some, is_none, if◌then◌else◌, List, [], ◌∷◌, length, Option, Some, None, option_map}
-use Rattle.std.specs.Prelude.{Result, Ok, Err}
+use Rattle.std.specs.Prelude.{ℕ, ◌≡◌, ⊤, Bool, nat_le, nat_lt, ℤ, unsigned_abs, is_some, is_none, if◌then◌else◌, List, [], ◌∷◌, length}
+use Rattle.std.specs.Prelude.{Option, Some, None, option_map, Result, Ok, Err}
 use Rattle.fru_area.specs.declared.field.Field.{Field}
 use Rattle.fru_area.specs.declared.fault.FruFault.{FruFault}
 use Rattle.fru_area.specs.declared.fault.FruFault.TheVariants as rules

@@ -18,7 +18,5 @@ pub use histories::{
 };
 pub use indexes::{indexes_are_kept, indexes_count};
 pub use items::{items_differ, items_stay, limits_hold};
-pub use sensors::{
-    idle_steps, sensors_are_told, sensors_settle, sensors_stay, sensors_wait,
-};
+pub use sensors::{idle_steps, sensors_are_told, sensors_settle, sensors_stay, sensors_wait};
 pub use verdicts::verdicts_decide;

@@ -47,7 +47,7 @@ pub fn sensors_stay()
 pub fn sensors_settle()
     ensures { (past : List Step) (step : Step) (name : List ℕ) → IsLegal (step ∷ past) → IsNoOutcome step
         → sensor_now (step ∷ past) name ≡ settled (items_less (live_now past) (live_now (step ∷ past)))
-            (items_less (live_now (step ∷ past)) (live_now past)) name (sensor_now past name) }
+        (items_less (live_now (step ∷ past)) (live_now past)) name (sensor_now past name) }
 {}
 
 /// A reading of the sensor of a name makes of it what a reading makes of a sensor, and a loss what a loss does. No other
@@ -55,7 +55,7 @@ pub fn sensors_settle()
 pub fn sensors_are_told()
     ensures read { (past : List Step) (name other : List ℕ) (raw : ℤ) → IfSome (sensor_now past name) (λ sensor. IsValidSetting sensor.setting)
         → sensor_now (Read name raw ∷ past) other
-            ≡ (if bytes_eq other name then option_map (λ sensor. good_after sensor raw (tick_of past)) (sensor_now past other) else sensor_now past other) }
+        ≡ (if bytes_eq other name then option_map (λ sensor. good_after sensor raw (tick_of past)) (sensor_now past other) else sensor_now past other) }
     ensures lost { (past : List Step) (name other : List ℕ) → sensor_now (Lose name ∷ past) other
         ≡ (if bytes_eq other name then option_map lost_after (sensor_now past other) else sensor_now past other) }
     ensures changes_read { (past : List Step) (name : List ℕ) (raw : ℤ) → IfSome (sensor_now past name) (λ sensor. IsValidSetting sensor.setting)
