@@ -14,7 +14,7 @@ use Rattle.inventory.proofs.BoardLemmas.{and_first, and_second}
 use Rattle.sensor_core.specs.Sensors.{Sensor}
 use Rattle.bmc_machine.specs.Histories.{Step}
 use Rattle.bmc_machine.specs.Indexes.{live_now}
-use Rattle.live_sensors.specs.Items.{setting_in, without, dropped, blank_in, started_one, started, settled}
+use Rattle.live_sensors.specs.Items.{setting_in, dropped_one, dropped, blank_in, started_one, started, settled}
 use Rattle.bmc_machine.specs.Lives.{has_id, IsNoOutcome, item_sensor, sensor_now}
 use Rattle.bmc_machine.specs.Names.{is_of, names_of}
 use Rattle.bmc_machine.specs.Refusals.{IsLegal}
@@ -101,7 +101,7 @@ of_sensors (parts.Mux part) = refl
 of_sensors parts.Passive = refl
 
 without_is : (item : Item) (name : List ℕ) (sensor : Option Sensor)
-    → without item name sensor ≡ cond (has_name families.Sensor name item) None sensor
+    → dropped_one item name sensor ≡ cond (has_name families.Sensor name item) None sensor
 without_is item name sensor = ap (λ (is : Bool). cond (is && bytes_eq item.name name) None sensor) (sym (of_sensors item.part))
 
 dropped_is : (items : List Item) (name : List ℕ) (sensor : Option Sensor)

@@ -1,6 +1,6 @@
 -- Names and their slots, where the sensor in one slot changes, goes or comes.
 use Rattle.std.proofs.Common.{◌≡◌, ◌≢◌, ◌∙◌, ℕ, nat_eq, bytes_eq, Bool, true, false, cond, List, Option, Some, None, IsSome, IfSome, option_map, slice_index_or}
-use Rattle.std.proofs.Common.{Result, Ok, Err, OnOk, OnErr, refl, sym, ap, subst, true≢false}
+use Rattle.std.proofs.Common.{Result, Ok, Err, OnOk, refl, sym, ap, subst, true≢false}
 use Rattle.std.specs.Prelude.{option_and_then}
 use Rattle.std.specs.Option.{is_some}
 use Rattle.std.specs.Map.{lookup}

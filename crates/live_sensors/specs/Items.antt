@@ -16,13 +16,13 @@ setting_in (parts.Mux part) = None
 setting_in parts.Passive = None
 
 -- the sensor of a name, after that of an item is dropped
-abbrev pub without : Item → List ℕ → Option Sensor → Option Sensor
-without item name sensor = if is_some (setting_in item.part) && bytes_eq item.name name then None else sensor
+abbrev pub dropped_one : Item → List ℕ → Option Sensor → Option Sensor
+dropped_one item name sensor = if is_some (setting_in item.part) && bytes_eq item.name name then None else sensor
 
 -- and after those of these items are dropped
 abbrev pub dropped : List Item → List ℕ → Option Sensor → Option Sensor
 dropped [] name sensor = sensor
-dropped (item ∷ items) name sensor = dropped items name (without item name sensor)
+dropped (item ∷ items) name sensor = dropped items name (dropped_one item name sensor)
 
 -- the blank sensor of an item, which had no reading and no loss; only a sensor item has one
 abbrev pub blank_in : ItemPart → Option Sensor

@@ -1,11 +1,12 @@
-ghost use Rattle.std.specs.Prelude.{◌≡◌, ◌<◌, ◌≤◌, ◌+◌, ◌↔◌, ℕ, List, [], length, All, None, Some, is_none, if◌then◌else◌, IsOk, IfOk, OnOk, OnErr, IfSome, bytes_eq};
+ghost use Rattle.std.specs.Prelude.{◌≡◌, ◌<◌, ◌≤◌, ◌+◌, ◌↔◌, ℕ, bytes_eq, if◌then◌else◌, List, [], length, All};
+ghost use Rattle.std.specs.Prelude.{None, Some, is_none, IfSome, IsOk, IfOk, OnOk, OnErr};
 ghost use Rattle.sensor_core.specs.Settings.{IsValidSetting, IsRaw};
 ghost use Rattle.sensor_core.specs.Sensors.{Good, Lost, sensor_of};
 ghost use Rattle.sensor_core.specs.Updates.{good_after, lost_after, Takes};
 ghost use Rattle.cfg_json.specs.declared.item.Item.{Item};
 ghost use Rattle.live_sensors.specs.Sensors.{slot_of, sensor_in, ContainsSlot, AtSlot, Changes};
 ghost use Rattle.inventory.specs.Items.{IsValidPart, IsValidItem};
-ghost use Rattle.live_sensors.specs.Items.{setting_in, without, started_one, dropped, started, settled};
+ghost use Rattle.live_sensors.specs.Items.{setting_in, dropped_one, started_one, dropped, started, settled};
 
 use bmc_base::{Name, OutOfMemory};
 use cfg_json::{Item, ItemPart};
@@ -148,7 +149,7 @@ impl LiveSensors {
 
     // Drops the sensor of an item that is gone.
     fn drop_one(&mut self, item: &Item)
-        ensures sensors { (name : List ℕ) → sensor_in self.new name ≡ without item.now name (sensor_in self.old name) }
+        ensures sensors { (name : List ℕ) → sensor_in self.new name ≡ dropped_one item.now name (sensor_in self.old name) }
         ensures room { self.old.room ≤ self.new.room }
     {
         if setting_in(&item.part).is_some() {

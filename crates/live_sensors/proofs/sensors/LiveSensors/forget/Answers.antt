@@ -1,5 +1,4 @@
-use Rattle.std.proofs.Common.{◌≡◌, ◌∙◌, bytes_eq, cond, List, ℕ, Some, None, sym, ap}
-use Rattle.std.specs.Map.{lookup}
+use Rattle.std.proofs.Common.{◌∙◌, bytes_eq, cond, None, sym, ap}
 use Rattle.live_sensors.specs.Sensors.{LiveSensors, sensor_in}
 use Rattle.live_sensors.proofs.SlotsLemmas.{gone_shows, gone_tied}
 use Rattle.live_sensors.proofs.sensors.LiveSensors.forget.Goals as goal
