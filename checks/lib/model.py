@@ -71,8 +71,8 @@ ROOTS = 16
 Config = namedtuple("Config", "name words match_one wants opens moves exposes")
 # An expose: the template of its name, its type, its channels, and what its further members say.
 Expose = namedtuple("Expose", "name kind channels members")
-# An item: the board and the position of its expose, which make it the same item, its type, its name, and the bus and the
-# address that it has, or None.
+# An item: the board and the position of its expose, which make it the same item, its type, its name, and its bus and
+# its address, where it has them.
 Item = namedtuple("Item", "board at kind name bus address")
 
 
