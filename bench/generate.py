@@ -28,10 +28,14 @@
   trays     as present, where each FRU has a board with four fans
   passive   four configurations with 256 passive exposes each find all of COUNT
             FRUs, so 256 of them have 262,144 items; else as present
+  readings  COUNT sensors with two thresholds each are read, one after another
+            in an order that jumps about. A twentieth of the lines are losses,
+            six in a row for a sensor, and some readings are beyond a threshold
+  lists     as readings, and each hundredth line asks for the list of sensors
 
-COUNT is at most 256, and 255 for mux and still, 31 for trays; left out, it is
-as many. LINES does not count the configurations and the first FRUs. The same
-words give the same script."""
+COUNT is at most 256, and 255 for mux and still, 31 for trays, 4,096 for
+readings and lists; left out, it is as many. LINES does not count the
+configurations and the first FRUs. The same words give the same script."""
 
 import json
 import os
@@ -41,11 +45,12 @@ sys.dont_write_bytecode = True
 sys.path.insert(0, os.path.dirname(os.path.realpath(__file__)) + "/../examples")
 from record import board_area, chassis_area, product_area, record
 
-# Each workload, and the most that COUNT can be: 256 FRUs may be present, in two of them there is one more, and 128 fans.
+# Each workload, and the most that COUNT can be: 256 FRUs may be present, in two of them there is one more, and there may
+# be 128 fans and 4,096 sensors.
 WORKLOADS = dict.fromkeys(("plugs", "refused", "comments", "long", "toolong", "records"), 256)
 WORKLOADS |= dict.fromkeys(("present", "boards", "regex", "found", "idle", "under"), 256)
 WORKLOADS |= dict.fromkeys(("mux", "still"), 255)
-WORKLOADS |= {"trays": 31, "passive": 256}
+WORKLOADS |= {"trays": 31, "passive": 256, "readings": 4096, "lists": 4096}
 TEXTS = ["Norrland Systems AB", "Riser, 2 x16", "NSR2404200117", "310-00511-01", "FRU 2.1"]
 RECORD = record(board=board_area(TEXTS)).hex().upper()
 # A step that shares no factor with a power of 2, so that the places jump about and each gets its turn.
@@ -195,6 +200,35 @@ def passive(lines, frus):
     for number in range(4):
         yield config(number, looking_for("PRODUCT_NAME", "Riser"), Exposes=exposes)
     yield from present(lines, frus)
+
+
+def sensors(count):
+    """Configurations with so many sensors, which are always there."""
+    limits = [{"Direction": "greater than", "Severity": 0, "Value": 70, "Hysteresis": 2}]
+    limits.append({"Direction": "greater than", "Severity": 1, "Value": "85.5", "Hysteresis": 3})
+    exposes = [{"Name": f"Sensor {at} Temp", "Type": "Sensor", "Thresholds": limits} for at in range(count)]
+    for at in range(0, count, 256):
+        yield config(at // 256, "TRUE", Exposes=exposes[at : at + 256])
+
+
+def reading(at, count):
+    """A line that reads or loses one of so many sensors. In each round all of them have their turn."""
+    number = at * STEP % count
+    if (at // count // 6 + number) % 20 == 19:
+        return f"lose Sensor {number} Temp\n"
+    return f"read Sensor {number} Temp {(72_000 if at % 61 == 60 else 40_000) + at * 125 % 20_000}\n"
+
+
+def readings(lines, count):
+    yield from sensors(count)
+    for at in range(lines):
+        yield reading(at, count)
+
+
+def lists(lines, count):
+    yield from sensors(count)
+    for at in range(lines):
+        yield "show sensors\n" if at % 100 == 99 else reading(at, count)
 
 
 def script(workload, lines, count=None):

@@ -19,11 +19,13 @@ MOST_CONFIGS = 256
 MOST_FRUS = 256
 MOST_BOARDS = 1024
 DEEPEST = 127
-# The first words of commands, their forms, and the digits of a record.
-COMMANDS = (b"config", b"plug", b"unplug")
+# The forms of lines, and the digits of a record. A name runs to the last space, or to the end of the line.
 CONFIG = re.compile(rb"config ([0-9]{1,9})")
 PLUG = re.compile(rb"plug ([0-9]{1,9}) ([0-9]{1,9}) ([^ ]+)")
 UNPLUG = re.compile(rb"unplug ([0-9]{1,9}) ([0-9]{1,9})")
+READ = re.compile(rb"read (.*) (-?[0-9]{1,18})", re.S)
+LOSE = re.compile(rb"lose (.*)", re.S)
+SHOW = re.compile(rb"show (frus|inventory|sensors|indexes)")
 HEX = re.compile(rb"(?:[0-9A-Fa-f]{2})+")
 BOARD_NAMES = "MANUFACTURER PRODUCT_NAME SERIAL_NUMBER PART_NUMBER FRU_VERSION_ID".split()
 PRODUCT_NAMES = "MANUFACTURER PRODUCT_NAME PART_NUMBER VERSION SERIAL_NUMBER ASSET_TAG FRU_VERSION_ID".split()
@@ -53,10 +55,12 @@ NUMBER = re.compile(r"[0-9]{1,9}|0x[0-9A-Fa-f]{1,4}")
 DECIMAL = re.compile(r"(-?)([0-9]{1,10})(?:\.([0-9]{1,3}))?")
 NOT_READ = ("Pid", "Stepwise")
 MILLION, MOST_THRESHOLDS, DIRECTIONS = 1_000_000, 8, ("greater than", "less than")
+LARGEST_RAW, FAILING_LOSSES = 1_000_000_000, 5
 # The families of items that are live: the type of their exposes, their word, how many exposes there are at most over
 # all boards, and the refusal of one more. The limits are tried in this order.
 FAMILIES = [("Sensor", "sensor", 4096, "SensorLimit"), ("Pid.Zone", "zone", 32, "ZoneLimit")]
 FAMILIES += [("Fan", "fan", 128, "FanLimit")]
+FAMILY_WORDS = {kind: word for kind, word, *_ in FAMILIES}
 END = 0xC1
 ENGLISH = (0, 25)
 BCD_PLUS = "0123456789 -.:,_"
@@ -65,10 +69,11 @@ ROOTS = 16
 # A configuration: its name; its operands, each with the operator before it; whether it ends with MATCH_ONE; what its
 # patterns want, each by key; the buses that it opens, and the templates of its moving channels; and its exposes.
 Config = namedtuple("Config", "name words match_one wants opens moves exposes")
-# An expose: the template of its name, its type, and its channels.
-Expose = namedtuple("Expose", "name kind channels")
-# A live item: the board and the position of its expose, which make it the same item, and its word and name.
-Item = namedtuple("Item", "board at word name")
+# An expose: the template of its name, its type, its channels, and what its further members say.
+Expose = namedtuple("Expose", "name kind channels members")
+# An item: the board and the position of its expose, which make it the same item, its type, its name, and its bus and
+# its address, where it has them.
+Item = namedtuple("Item", "board at kind name bus address")
 
 
 class Broken(Exception):
@@ -82,12 +87,22 @@ class Members(list):
 class Machine:
     """What stands: the FRUs that are present by place, the configurations, and whether a FRU was plugged. For each
     configuration the places at which each of its patterns matches, the buses to which its channels lead from a place,
-    and the indexes of all boards it ever had, by place. The boards, and the live items."""
+    and the indexes of all boards it ever had, by place. The boards, the live items, and what each live sensor shows."""
 
     def __init__(self):
         self.present, self.configs, self.plugged = {}, [], False
         self.matched, self.led, self.had = [], [], []
-        self.boards, self.live = [], []
+        self.boards, self.live, self.sensors = [], [], {}
+
+
+class Sensor:
+    """What a live sensor shows: its last value in thousandths, if there is one, how many losses came in a row, up to
+    those that make it fail, and for each of its thresholds whether the alarm is on."""
+
+    def __init__(self, members):
+        self.scale = members.get("ScaleNum", 1), members.get("ScaleDen", 1), members.get("Offset", 0)
+        self.thresholds = members.get("Thresholds", [])
+        self.value, self.losses, self.alarms = None, 0, [False for _ in self.thresholds]
 
 
 def demand(rule, holds):
@@ -198,9 +213,10 @@ def row(place, fields):
 
 
 def place_of(bus, address):
-    """A bus and an address, or None where one of them is out of range."""
+    """A bus and an address in their ranges."""
     bus, address = int(bus), int(address)
-    return (bus, address) if bus <= 255 and address <= 127 else None
+    demand("PlaceRange", bus <= 255 and address <= 127)
+    return bus, address
 
 
 def finite(text):
@@ -355,11 +371,13 @@ def given_by(template, texts):
     return given if 1 <= len(given.encode()) <= LONGEST_GIVEN else None
 
 
-def led_by(template, texts):
-    """The bus to which a moving channel leads, or None."""
+def number_by(template, texts, most):
+    """The number that a template gives, up to the most, or None. It may be a number already, or missing."""
+    if not isinstance(template, str):
+        return template
     given = given_by(template, texts)
-    number = int(given) if given and re.fullmatch("[0-9]{1,10}", given) else 256
-    return number if number <= 255 else None
+    number = int(given) if given and re.fullmatch("[0-9]{1,10}", given) else most + 1
+    return number if number <= most else None
 
 
 def number_of(value, most):
@@ -384,14 +402,15 @@ def channel_of(value):
     return channel
 
 
-def check_whole(value, least, most):
+def whole_of(value, least, most):
     """A whole number in a range."""
     demand("WrongKind", type(value) is int)
     demand("OutOfRange", least <= value <= most)
+    return value
 
 
-def check_decimal(value, least, most):
-    """A decimal from and to so many units."""
+def decimal_of(value, least, most):
+    """The thousandths of a decimal from and to so many units."""
     demand("WrongKind", isinstance(value, str) or type(value) is int)
     if isinstance(value, str):
         found = DECIMAL.fullmatch(value)
@@ -401,41 +420,49 @@ def check_decimal(value, least, most):
     else:
         value *= 1000
     demand("OutOfRange", 1000 * least <= value <= 1000 * most)
+    return value
 
 
-def check_direction(value):
+def direction_of(value):
     """The direction of a threshold."""
     demand("WrongKind", isinstance(value, str))
     demand("OutOfRange", value in DIRECTIONS)
+    return value
 
 
-def check_thresholds(value):
+def threshold_of(value):
+    """A threshold, by the keys of its members."""
+    demand("WrongKind", isinstance(value, dict))
+    return members_of(value, THRESHOLD)
+
+
+def thresholds_of(value):
     """A list of thresholds."""
     demand("WrongKind", isinstance(value, list))
     demand("OutOfRange", len(value) <= MOST_THRESHOLDS)
-    for it in value:
-        demand("WrongKind", isinstance(it, dict))
-        check_members(it, THRESHOLD)
+    return [threshold_of(it) for it in value]
 
 
 # The members of a threshold, and of exposes by their type, in the order in which they are looked at: the key, whether
-# it has to be there, what checks its value, and the bounds of this.
-THRESHOLD = [("Direction", True, check_direction), ("Severity", True, check_whole, 0, 1)]
-THRESHOLD += [("Value", True, check_decimal, -MILLION, MILLION), ("Hysteresis", False, check_decimal, 0, MILLION)]
-ZONE = [("MinThermalOutput", True, check_decimal, -MILLION, MILLION), ("FailSafePercent", True, check_decimal, 0, 100)]
+# it has to be there, what reads its value, and the bounds of this.
+THRESHOLD = [("Direction", True, direction_of), ("Severity", True, whole_of, 0, 1)]
+THRESHOLD += [("Value", True, decimal_of, -MILLION, MILLION), ("Hysteresis", False, decimal_of, 0, MILLION)]
+ZONE = [("MinThermalOutput", True, decimal_of, -MILLION, MILLION), ("FailSafePercent", True, decimal_of, 0, 100)]
 SENSOR = [("Bus", False, number_of, 255), ("Address", False, number_of, 127)]
-SENSOR += [("ScaleNum", False, check_whole, -MILLION, MILLION), ("ScaleDen", False, check_whole, 1, MILLION)]
-SENSOR += [("Offset", False, check_decimal, -MILLION, MILLION), ("Timeout", False, check_whole, 0, MILLION)]
-SENSOR += [("Thresholds", False, check_thresholds)]
+SENSOR += [("ScaleNum", False, whole_of, -MILLION, MILLION), ("ScaleDen", False, whole_of, 1, MILLION)]
+SENSOR += [("Offset", False, decimal_of, -MILLION, MILLION), ("Timeout", False, whole_of, 0, MILLION)]
+SENSOR += [("Thresholds", False, thresholds_of)]
 MEMBERS = {"Sensor": SENSOR, "Pid.Zone": ZONE}
 
 
-def check_members(value, members):
-    """The members of an object."""
-    for key, wanted, check, *bounds in members:
+def members_of(value, members):
+    """The members of an object that are there, by their keys."""
+    found = {}
+    for key, wanted, read, *bounds in members:
         demand("MissingKey", key in value or not wanted)
         if key in value:
-            check(value[key], *bounds)
+            found[key] = read(value[key], *bounds)
+    return found
 
 
 def channels_of(mux):
@@ -452,8 +479,8 @@ def expose_of(expose):
     check_template(name)
     kind = text_in(expose, "Type", 64)
     demand("ExposeForm", kind not in NOT_READ)
-    check_members(expose, MEMBERS.get(kind, []))
-    return Expose(name, kind, channels_of(expose) if kind == "Mux" else [])
+    channels = channels_of(expose) if kind == "Mux" else []
+    return Expose(name, kind, channels, members_of(expose, MEMBERS.get(kind, [])))
 
 
 def texts_of(probe):
@@ -493,7 +520,7 @@ def config_of(block):
 
 
 def config(size, block, machine):
-    """Adds the configuration of a block that should have this size."""
+    """Adds the configuration of a block that should have this size, and gives what is printed."""
     demand("ConfigTooLong", size <= LONGEST_BLOCK)
     demand("ConfigShort", len(block) == size)
     found = config_of(block)
@@ -505,7 +532,7 @@ def config(size, block, machine):
     for those, new in of_each:
         those.append(new)
     try:
-        settle(machine)
+        return settle(machine)
     except Broken:
         for those, _ in of_each:
             those.pop()
@@ -532,29 +559,33 @@ def match(place, fields, machine):
             if all(is_wanted(want, texts.get(key)) for key, want in wants.items()):
                 places.add(place)
         if place[0] < ROOTS and any(place in it for it in matched):
-            led[place] = {led_by(it, texts) for it in config.moves} - {None}
+            led[place] = {number_by(it, texts, 255) for it in config.moves} - {None}
 
 
-def plug(place, record, machine):
-    """Puts the FRU with this record at a place."""
+def plug(bus, address, digits, machine):
+    """Puts the FRU with this record at a place, and gives what is printed."""
+    place = place_of(bus, address)
+    demand("BadHex", HEX.fullmatch(digits))
     demand("Occupied", place not in machine.present)
-    fields = fields_of(record)
+    fields = fields_of(bytes.fromhex(digits.decode()))
     demand("FruLimit", len(machine.present) < MOST_FRUS)
     machine.present[place] = fields
     match(place, fields, machine)
     try:
-        settle(machine)
+        printed = settle(machine)
     except Broken:
         forget(place, machine)
         raise
     machine.plugged = True
+    return printed
 
 
-def unplug(place, machine):
-    """Takes the FRU at a place away."""
+def unplug(bus, address, machine):
+    """Takes the FRU at a place away, and gives what is printed."""
+    place = place_of(bus, address)
     demand("NotPresent", place in machine.present)
     forget(place, machine)
-    settle(machine)
+    return settle(machine)
 
 
 def forget(place, machine):
@@ -564,21 +595,6 @@ def forget(place, machine):
         places.discard(place)
     for led in machine.led:
         led.pop(place, None)
-
-
-def line_alone(line, machine):
-    """Does what a line without a block asks for."""
-    demand("UnknownCommand", line.partition(b" ")[0] in COMMANDS)
-    plugged, unplugged = PLUG.fullmatch(line), UNPLUG.fullmatch(line)
-    found = plugged or unplugged
-    demand("BadArguments", found)
-    place = place_of(found[1], found[2])
-    demand("PlaceRange", place)
-    if plugged:
-        demand("BadHex", HEX.fullmatch(plugged[3]))
-        plug(place, bytes.fromhex(plugged[3].decode()), machine)
-    else:
-        unplug(place, machine)
 
 
 def found_on(buses, machine):
@@ -615,14 +631,32 @@ def boards_of(machine):
     return boards
 
 
-def settle(machine):
-    """Takes note of the boards that stand now, whose number and exposes are limited."""
-    boards = boards_of(machine)
+def check_limits(boards, machine):
+    """The boards and their exposes are limited."""
     demand("BoardLimit", len(boards) <= MOST_BOARDS)
     kinds = [it.kind for number, _ in boards for it in machine.configs[number].exposes]
     for kind, _, most, rule in FAMILIES:
         demand(rule, kinds.count(kind) <= most)
-    machine.boards = boards
+
+
+def settle(machine):
+    """Takes note of the boards that stand now, of their live items and their sensors, and gives what is printed. A
+    sensor that stays live keeps what it shows."""
+    boards, live, stand = machine.boards, machine.live, boards_of(machine)
+    check_limits(stand, machine)
+    machine.boards = stand
+    for number, place in machine.boards:
+        # The index of a board is its number among all that its configuration ever had.
+        machine.had[number].setdefault(place, len(machine.had[number]) + 1)
+    machine.live = live_of(machine)
+    sensors = {it: Sensor(expose_at(it, machine).members) for it in machine.live if it.kind == "Sensor"}
+    machine.sensors = {it: machine.sensors.get(it, blank) for it, blank in sensors.items()}
+    return changed(boards, live, machine)
+
+
+def expose_at(item, machine):
+    """The expose of an item."""
+    return machine.configs[item.board[0]].exposes[item.at]
 
 
 def texts_of_board(board, machine):
@@ -632,26 +666,36 @@ def texts_of_board(board, machine):
     return {**texts, "index": str(machine.had[number][place])}
 
 
+def items_at(board, kinds, machine):
+    """The items of a board in their order, or of these kinds alone."""
+    items = []
+    exposes = [(at, it) for at, it in enumerate(machine.configs[board[0]].exposes) if not kinds or it.kind in kinds]
+    texts = texts_of_board(board, machine) if exposes else {}
+    for at, expose in exposes:
+        name = given_by(expose.name, texts)
+        bus, address = (expose.members.get(key) for key in ("Bus", "Address"))
+        if name:
+            given = number_by(bus, texts, 255), number_by(address, texts, 127)
+            items.append(Item(board, at, expose.kind, name, *given))
+    return items
+
+
 def live_of(machine):
     """The live items in their order: of each family the first with each name."""
     live, held = [], set()
-    words = {kind: word for kind, word, *_ in FAMILIES}
     for board in machine.boards:
-        exposes = [(at, it) for at, it in enumerate(machine.configs[board[0]].exposes) if it.kind in words]
-        texts = texts_of_board(board, machine) if exposes else {}
-        for at, expose in exposes:
-            word, name = words[expose.kind], given_by(expose.name, texts)
-            if name and (word, name) not in held:
-                held.add((word, name))
-                live.append(Item(board, at, word, name))
+        for item in items_at(board, FAMILY_WORDS, machine):
+            if (item.kind, item.name) not in held:
+                held.add((item.kind, item.name))
+                live.append(item)
     return live
 
 
-def board_line(change, board, machine):
-    """The line of a board that is new or gone."""
+def board_text(board, machine):
+    """The name, the index and the place of a board."""
     number, place = board
     where = f" at {place[0]} {place[1]}" if place else ""
-    return f"0 {change} board {quoted(machine.configs[number].name)} {machine.had[number][place]}{where}"
+    return f"{quoted(machine.configs[number].name)} {machine.had[number][place]}{where}"
 
 
 def only_in(here, there):
@@ -662,15 +706,121 @@ def only_in(here, there):
 
 def changed(boards, live, machine):
     """The lines of the boards that stood before and are gone, and of those that are new; then those of live items."""
-    for number, place in machine.boards:
-        # The index of a board is its number among all that its configuration ever had.
-        machine.had[number].setdefault(place, len(machine.had[number]) + 1)
-    machine.live = live_of(machine)
     turns = [("gone", boards, machine.boards), ("new", machine.boards, boards)]
-    lines = [board_line(change, it, machine) for change, here, there in turns for it in only_in(here, there)]
+    boards = [(change, it) for change, here, there in turns for it in only_in(here, there)]
     turns = [("gone", live, machine.live), ("new", machine.live, live)]
     items = [(change, it) for change, here, there in turns for it in only_in(here, there)]
-    return lines + [f"0 {change} {it.word} {quoted(it.name)}" for change, it in items]
+    lines = [f"0 {change} board {board_text(it, machine)}" for change, it in boards]
+    return lines + [f"0 {change} {FAMILY_WORDS[it.kind]} {quoted(it.name)}" for change, it in items]
+
+
+def name_of(data):
+    """The name in these bytes."""
+    demand("BadArguments", 1 <= len(data) <= 64)
+    try:
+        return data.decode("utf-8")
+    except UnicodeDecodeError:
+        raise Broken("BadArguments") from None
+
+
+def sensor_with(name, machine):
+    """The live sensor that has this name."""
+    found = [sensor for item, sensor in machine.sensors.items() if item.name == name]
+    demand("UnknownSensor", found)
+    return found[0]
+
+
+def is_on(threshold, value, was_on):
+    """Whether the alarm of a threshold is on behind a good reading."""
+    limit, hysteresis = threshold["Value"], threshold.get("Hysteresis", 0)
+    if threshold["Direction"] == "greater than":
+        return value >= limit or was_on and not value < limit - hysteresis
+    return value <= limit or was_on and not value > limit + hysteresis
+
+
+def alarm_line(name, at, threshold, on):
+    """The line of an alarm that went on or off."""
+    side = "high" if threshold["Direction"] == "greater than" else "low"
+    level = "critical" if threshold["Severity"] else "warning"
+    return f"0 alarm {'on' if on else 'off'} {quoted(name)} {at} {side} {level}"
+
+
+def read(name, raw, machine):
+    """A good reading of a sensor: gives the line of one that works again, and those of alarms."""
+    name, raw = name_of(name), int(raw)
+    sensor = sensor_with(name, machine)
+    demand("ReadingRange", abs(raw) <= LARGEST_RAW)
+    multiplier, divisor, offset = sensor.scale
+    # (this division rounds down, also below 0)
+    sensor.value = raw * multiplier // divisor + offset
+    lines = [f"0 working sensor {quoted(name)}"] if sensor.losses == FAILING_LOSSES else []
+    sensor.losses = 0
+    for at, threshold in enumerate(sensor.thresholds):
+        on = is_on(threshold, sensor.value, sensor.alarms[at])
+        lines += [alarm_line(name, at, threshold, on)] if on != sensor.alarms[at] else []
+        sensor.alarms[at] = on
+    return lines
+
+
+def lose(name, machine):
+    """A loss of a sensor: gives the line of one that fails by it."""
+    name = name_of(name)
+    sensor = sensor_with(name, machine)
+    if sensor.losses == FAILING_LOSSES:
+        return []
+    sensor.losses += 1
+    return [f"0 failed sensor {quoted(name)}"] if sensor.losses == FAILING_LOSSES else []
+
+
+def value_text(value):
+    """A number of thousandths, or that there is none."""
+    return "none" if value is None else f"{'-' if value < 0 else ''}{abs(value) // 1000}.{abs(value) % 1000:03}"
+
+
+def item_row(item, machine):
+    """The row of an item."""
+    numbers = [f" {word} {it}" for word, it in (("bus", item.bus), ("address", item.address)) if it is not None]
+    live = " live" if item in machine.live else ""
+    return f"  {quoted(item.kind)} {quoted(item.name)}{''.join(numbers)}{live}"
+
+
+def sensor_row(item, sensor):
+    """The row of a live sensor. Nothing ticks, so a reading has the age 0."""
+    state = "failed" if sensor.losses == FAILING_LOSSES else "ok"
+    age = "-" if sensor.value is None else 0
+    alarms = "".join(f" {at}" for at, on in enumerate(sensor.alarms) if on)
+    return f"sensor {quoted(item.name)} {value_text(sensor.value)} {state} {age}{alarms}"
+
+
+def show(topic, machine):
+    """The rows of a list."""
+    if topic == b"frus":
+        return [row(place, machine.present[place]) for place in sorted(machine.present)]
+    if topic == b"sensors":
+        return [sensor_row(item, sensor) for item, sensor in machine.sensors.items()]
+    if topic == b"indexes":
+        ever = [(number, place) for number, had in enumerate(machine.had) for place in had]
+        return [f"index {board_text(it, machine)}" for it in ever]
+    lines = []
+    for board in machine.boards:
+        lines.append(f"board {board_text(board, machine)}")
+        lines += [item_row(it, machine) for it in items_at(board, None, machine)]
+    return lines
+
+
+# What stands before the first space, with the form of the line and what it asks for.
+COMMANDS = {b"config": (CONFIG, None), b"plug": (PLUG, plug), b"unplug": (UNPLUG, unplug)}
+COMMANDS |= {b"read": (READ, read), b"lose": (LOSE, lose), b"show": (SHOW, show)}
+
+
+def line_alone(line, machine):
+    """Does what a line without a block asks for, and gives what is printed."""
+    verb = line.partition(b" ")[0]
+    demand("UnknownCommand", verb in COMMANDS)
+    form, act = COMMANDS[verb]
+    found = form.fullmatch(line)
+    demand("BadArguments", found)
+    return act(*found.groups(), machine)
 
 
 def without_return(line):
@@ -678,18 +828,13 @@ def without_return(line):
     return line[:-1] if line.endswith(b"\r") else line
 
 
-def refusal_of(line, size, block, machine):
-    """Why a line is refused, with its block where it takes one, or None. What it asks for is done."""
-    try:
-        demand("LineTooLong", len(line) <= LONGEST)
-        line = without_return(line)
-        if size is not None:
-            config(size, block, machine)
-        elif line and not line.startswith(b"#"):
-            line_alone(line, machine)
-    except Broken as rule:
-        return str(rule)
-    return None
+def answer(line, size, block, machine):
+    """What is printed of a line that is accepted, with its block where it takes one. What it asks for is done."""
+    demand("LineTooLong", len(line) <= LONGEST)
+    line = without_return(line)
+    if size is not None:
+        return config(size, block, machine)
+    return line_alone(line, machine) if line and not line.startswith(b"#") else []
 
 
 def items_of(script):
@@ -714,15 +859,12 @@ def replay(script):
     """What is printed for a script, and the status."""
     machine, printed, status = Machine(), [], 0
     for number, (line, size, block) in enumerate(items_of(script), 1):
-        boards, live = machine.boards, machine.live
-        refusal = refusal_of(line, size, block, machine)
-        if refusal:
-            printed.append(f"line {number} refused {refusal}")
+        try:
+            printed += answer(line, size, block, machine)
+        except Broken as rule:
+            printed.append(f"line {number} refused {rule}")
             status = 1
-        elif machine.boards is not boards:
-            printed += changed(boards, live, machine)
-    present = machine.present
-    printed += [row(place, present[place]) for place in sorted(present)]
+    printed += show(b"frus", machine)
     return "".join(it + "\n" for it in printed).encode(), status
 
 

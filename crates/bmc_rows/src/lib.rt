@@ -32,6 +32,8 @@ mod play;
 #[cfg(test)]
 mod probes;
 #[cfg(test)]
+mod readings;
+#[cfg(test)]
 mod records;
 #[cfg(test)]
 mod scripts;

@@ -6,7 +6,7 @@ use std::test::Fail;
 
 // Lines, most of them with more than one fault, and the refusal of each where a FRU is at bus 1, address 80. `$` stands
 // for the board record.
-const LINES: [(&str, &str); 78] = [
+const LINES: [(&str, &str); 85] = [
     // no command, and words or a place that are wrong besides
     ("Plug", "UnknownCommand"),
     ("Plug 1 81", "UnknownCommand"),
@@ -24,9 +24,9 @@ const LINES: [(&str, &str); 78] = [
     ("Config x", "UnknownCommand"),
     ("config: 5 5", "UnknownCommand"),
     (" config 0000000001", "UnknownCommand"),
-    ("show", "UnknownCommand"),
-    ("read 256 80", "UnknownCommand"),
-    ("lose  ", "UnknownCommand"),
+    (" show log", "UnknownCommand"),
+    ("Read X +1", "UnknownCommand"),
+    ("lose\tX", "UnknownCommand"),
     ("tick 0", "UnknownCommand"),
     ("{} {}", "UnknownCommand"),
     ("\u{e9} 256", "UnknownCommand"),
@@ -71,6 +71,12 @@ const LINES: [(&str, &str); 78] = [
     ("config 0000000001", "BadArguments"),
     ("config 2 2", "BadArguments"),
     ("config", "BadArguments"),
+    // and a raw number that is out of its range, and a sensor that is not there
+    ("read  1000000001", "BadArguments"),
+    ("read X 1000000001 ", "BadArguments"),
+    ("read X 9999999999999999999", "BadArguments"),
+    ("lose ", "BadArguments"),
+    ("show log", "BadArguments"),
     // a place that is out of its range, digits that are wrong, and a record that is too short
     ("plug 256 81 0", "PlaceRange"),
     ("plug 1 128 zz", "PlaceRange"),
@@ -88,6 +94,9 @@ const LINES: [(&str, &str); 78] = [
     ("plug 1 81 000", "BadHex"),
     ("plug 255 127 0000000000000G", "BadHex"),
     ("plug 001 080 \u{661}", "BadHex"),
+    // a sensor that is not there, and a raw number that is out of its range
+    ("read X 1000000001", "UnknownSensor"),
+    ("read X -999999999999999999", "UnknownSensor"),
     // lines in their form
     ("plug 1 80 00", "Occupied"),
     ("plug 1 81 00", "FruShort"),

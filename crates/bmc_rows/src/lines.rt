@@ -51,11 +51,16 @@ const UNKNOWN_COMMANDS: &[Part] = &[
     Text("unplu 1 80\n"),
     Text("config1\n#\n"),
     Text("{}\n"),
+    Text("Read X 1\n"),
+    Text("reads X 1\n"),
+    Text("los X\n"),
+    Text("SHOW frus\n"),
+    Text("show\tfrus\n"),
     // those of later versions
-    Text("read X 1\n"),
-    Text("lose X\n"),
     Text("tick 1\n"),
-    Text("show frus\n"),
+    Text("begin 0 X\n"),
+    Text("end 0 lost\n"),
+    Text("drop X\n"),
     // no bytes before the first space, and other bytes between words or before them
     Text(" unplug 1 80\n"),
     Text(" plug 1 80 $\n"),
@@ -116,6 +121,34 @@ const BAD_ARGUMENTS: &[Part] = &[
     Text("config  1\n#\n"),
     Text("config 1 \n#\n"),
     Text("config 1 1\n#\n"),
+    Text("read\n"),
+    Text("read \n"),
+    Text("read X\n"),
+    Text("read  1\n"),
+    Text("read X \n"),
+    Text("read X 1 \n"),
+    Text("lose\n"),
+    Text("lose \r\n"),
+    Text("show\n"),
+    Text("show \n"),
+    // topics that there are not, and raw numbers and names that are none
+    Text("show zones\n"),
+    Text("show log\n"),
+    Text("show  frus\n"),
+    Text("show frus \n"),
+    Text("show frus sensors\n"),
+    Text("show Sensors\n"),
+    Text("read X +1\n"),
+    Text("read X --1\n"),
+    Text("read X 1.0\n"),
+    Text("read X 1\t\n"),
+    Text("read X -\n"),
+    Text("read X 0000000000000000001\n"),
+    Text("read X -1000000000000000000\n"),
+    Text("read X lost\n"),
+    Text("lose aaaaaaaaaaaaaaaaaaaaaaaaaaaaaaaaaaaaaaaaaaaaaaaaaaaaaaaaaaaaaaaaa\n"),
+    Bytes(b"lose X\xFF\n"),
+    Bytes(b"read \xED\xA0\x80 1\n"),
     // words that are no numbers of 1 to 9 digits
     Text("unplug 0000000001 80\n"),
     Text("unplug 1 0000000080\n"),
@@ -197,8 +230,28 @@ const BAD_HEX: &[Part] = &[
     Bytes(b"plug 0 0 \xFF\n"),
 ];
 
+// Lines that read or lose a sensor that is not there.
+const UNKNOWN_SENSORS: &[Part] = &[
+    Text("read X 1\n"),
+    Text("read X 1"),
+    Text("read X -0\r\n"),
+    Text("read X 000000000000000001\n"),
+    Text("read X -999999999999999999\n"),
+    Text("read X 1 2 3\n"),
+    Text("read   1\n"),
+    Text("read 1 1\n"),
+    Text("lose X\n"),
+    Text("lose X\r"),
+    Text("lose  X \n"),
+    Text("lose  \n"),
+    Text("lose \"X\"\n"),
+    Text("lose \0\t\n"),
+    Text("lose aaaaaaaaaaaaaaaaaaaaaaaaaaaaaaaaaaaaaaaaaaaaaaaaaaaaaaaaaaaaaaaa\n"),
+    Text("lose ééééééééééééééééééééééééééééééée\n"),
+];
+
 // Lines that end alike: how a script of one of them ends, and what is printed.
-const LINES: [Row; 7] = [
+const LINES: [Row; 8] = [
     (IDLE, Done, ""),
     (PLUGS, Done, "fru 1 80$\n"),
     (ABSENT, Refused, "line 1 refused NotPresent\n"),
@@ -206,6 +259,7 @@ const LINES: [Row; 7] = [
     (BAD_ARGUMENTS, Refused, "line 1 refused BadArguments\n"),
     (PLACE_RANGE, Refused, "line 1 refused PlaceRange\n"),
     (BAD_HEX, Refused, "line 1 refused BadHex\n"),
+    (UNKNOWN_SENSORS, Refused, "line 1 refused UnknownSensor\n"),
 ];
 
 #[test]
