@@ -16,7 +16,8 @@ use Rattle.sensor_core.specs.declared.setting.SensorSetting.{SensorSetting}
 use Rattle.sensor_core.proofs.SensorsLemmas.{good_takes}
 use Rattle.bmc_machine.specs.Histories.{Step, Read, Lose, tick_of, is_idle_step}
 use Rattle.bmc_machine.specs.Indexes.{live_now}
-use Rattle.bmc_machine.specs.Lives.{has_id, outcome_of, outcomes, setting_in, item_sensor, sensor_now}
+use Rattle.live_sensors.specs.Items.{setting_in}
+use Rattle.bmc_machine.specs.Lives.{has_id, outcome_of, outcomes, item_sensor, sensor_now}
 use Rattle.bmc_machine.specs.Refusals.{IsLegal}
 use Rattle.bmc_machine.specs.Changes.{inventory, changes_between, changes_of_sensor, changes_of_item, changes}
 use Rattle.bmc_machine.proofs.IdleLemmas.{live_same, inventory_same, nothing_between}

@@ -14,7 +14,8 @@ use Rattle.inventory.proofs.BoardLemmas.{and_first, and_second}
 use Rattle.sensor_core.specs.Sensors.{Sensor}
 use Rattle.bmc_machine.specs.Histories.{Step}
 use Rattle.bmc_machine.specs.Indexes.{live_now}
-use Rattle.bmc_machine.specs.Lives.{has_id, IsNoOutcome, setting_in, sensor_now, dropped_one, dropped, blank_in, started_one, started, settled}
+use Rattle.live_sensors.specs.Items.{setting_in, without, dropped, blank_in, started_one, started, settled}
+use Rattle.bmc_machine.specs.Lives.{has_id, IsNoOutcome, sensor_now}
 use Rattle.bmc_machine.specs.Names.{is_of, names_of}
 use Rattle.bmc_machine.specs.Refusals.{IsLegal}
 use Rattle.bmc_machine.proofs.HolderLemmas.{holder_has_id, holder_was, holder_stays}
@@ -99,15 +100,15 @@ of_sensors (parts.Zone setting) = refl
 of_sensors (parts.Mux part) = refl
 of_sensors parts.Passive = refl
 
-dropped_one_is : (item : Item) (name : List ℕ) (sensor : Option Sensor)
-    → dropped_one item name sensor ≡ cond (has_name families.Sensor name item) None sensor
-dropped_one_is item name sensor = ap (λ (is : Bool). cond (is && bytes_eq item.name name) None sensor) (sym (of_sensors item.part))
+without_is : (item : Item) (name : List ℕ) (sensor : Option Sensor)
+    → without item name sensor ≡ cond (has_name families.Sensor name item) None sensor
+without_is item name sensor = ap (λ (is : Bool). cond (is && bytes_eq item.name name) None sensor) (sym (of_sensors item.part))
 
 dropped_is : (items : List Item) (name : List ℕ) (sensor : Option Sensor)
     → dropped items name sensor ≡ cond (is_some (holder items families.Sensor name)) None sensor
 dropped_is [] name sensor = refl
 dropped_is (item ∷ items) name sensor =
-    dropped_is items name _ ∙ ap (cond (is_some (holder items families.Sensor name)) None) (dropped_one_is item name sensor)
+    dropped_is items name _ ∙ ap (cond (is_some (holder items families.Sensor name)) None) (without_is item name sensor)
     ∙ by (has_name families.Sensor name item) (holder items families.Sensor name)
   where
     by : (named : Bool) (held : Option Item) → cond (is_some held) None (cond named None sensor) ≡ cond (is_some (cond named (Some item) held)) None sensor

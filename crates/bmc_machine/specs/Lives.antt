@@ -1,15 +1,12 @@
 -- What the sensors of live items show: what came of asking them since they became live.
-use Rattle.std.specs.Prelude.{ℕ, ◌≡◌, Bool, ◌&&◌, bytes_eq, if◌then◌else◌, List, [], ◌∷◌, ◌++◌, Option, Some, None, option_map, option_and_then}
+use Rattle.std.specs.Prelude.{ℕ, ◌≡◌, Bool, bytes_eq, if◌then◌else◌, List, [], ◌∷◌, ◌++◌, Option, Some, None, option_map, option_and_then}
 use Rattle.std.specs.List.{list_any}
-use Rattle.std.specs.Option.{is_some, option_or}
 use Rattle.cfg_json.specs.declared.item.Item.{Item}
 use Rattle.cfg_json.specs.declared.item.ItemId.{ItemId}
-use Rattle.cfg_json.specs.declared.item.ItemPart.{ItemPart}
-use Rattle.cfg_json.specs.declared.item.ItemPart.TheVariants as parts
 use Rattle.inventory.specs.Items.{holder, id_eq}
 use Rattle.inventory.specs.declared.family.Family.TheVariants as families
 use Rattle.sensor_core.specs.Sensors.{Outcome, Good, Lost, Sensor, sensor_of}
-use Rattle.sensor_core.specs.declared.setting.SensorSetting.{SensorSetting}
+use Rattle.live_sensors.specs.Items.{setting_in}
 use Rattle.bmc_machine.specs.Histories.{Step, Configure, Plug, RefusedPlug, Unplug, Read, Lose, tick_of}
 use Rattle.bmc_machine.specs.Indexes.{live_now}
 
@@ -36,14 +33,6 @@ outcomes item [] = []
 outcomes item (step ∷ past) =
     if has_id (live_now past) item.id then outcome_of item.name (tick_of (step ∷ past)) step ++ outcomes item past else []
 
--- the setting of a sensor
-abbrev pub setting_in : ItemPart → Option SensorSetting
-setting_in (parts.Sensor sensor) = Some sensor.setting
-setting_in parts.Fan = None
-setting_in (parts.Zone setting) = None
-setting_in (parts.Mux part) = None
-setting_in parts.Passive = None
-
 -- what the sensor of a live item shows after a history
 abbrev pub item_sensor : List Step → Item → Option Sensor
 item_sensor past item = option_map (λ setting. sensor_of setting (outcomes item past)) (setting_in item.part)
@@ -51,31 +40,3 @@ item_sensor past item = option_map (λ setting. sensor_of setting (outcomes item
 -- what the live sensor of a name shows after a history, if there is one
 unfoldable pub sensor_now : List Step → List ℕ → Option Sensor
 sensor_now past name = option_and_then (item_sensor past) (holder (live_now past) families.Sensor name)
-
--- ---- the sensors that a step leaves, by the items that are gone and those that are new
-
--- the sensor of a name, after that of an item is dropped
-abbrev pub dropped_one : Item → List ℕ → Option Sensor → Option Sensor
-dropped_one item name sensor = if is_some (setting_in item.part) && bytes_eq item.name name then None else sensor
-
--- and after those of these items are dropped
-abbrev pub dropped : List Item → List ℕ → Option Sensor → Option Sensor
-dropped [] name sensor = sensor
-dropped (item ∷ items) name sensor = dropped items name (dropped_one item name sensor)
-
--- the blank sensor of an item, which had no reading and no loss; only a sensor item has one
-abbrev pub blank_in : ItemPart → Option Sensor
-blank_in part = option_map (λ setting. sensor_of setting []) (setting_in part)
-
--- the sensor of a name, after a blank one is started for an item
-abbrev pub started_one : Item → List ℕ → Option Sensor → Option Sensor
-started_one item name sensor = if bytes_eq item.name name then option_or (blank_in item.part) sensor else sensor
-
--- and after blank ones are started for these items
-abbrev pub started : List Item → List ℕ → Option Sensor → Option Sensor
-started [] name sensor = sensor
-started (item ∷ items) name sensor = started items name (started_one item name sensor)
-
--- the sensor of a name, after those of items that are gone are dropped and blank ones are started for new items
-abbrev pub settled : List Item → List Item → List ℕ → Option Sensor → Option Sensor
-settled gone new name sensor = started new name (dropped gone name sensor)

@@ -6,7 +6,8 @@ ghost use Rattle.sensor_core.specs.Settings.{IsValidSetting};
 ghost use Rattle.sensor_core.specs.Updates.{good_after, lost_after};
 ghost use Rattle.bmc_machine.specs.Histories.{Step, Read, Lose, standing, is_idle_step, tick_of};
 ghost use Rattle.bmc_machine.specs.Indexes.{kept, boards_now, items_now, live_now};
-ghost use Rattle.bmc_machine.specs.Lives.{has_id, IsNoOutcome, blank_in, sensor_now, settled};
+ghost use Rattle.live_sensors.specs.Items.{blank_in, settled};
+ghost use Rattle.bmc_machine.specs.Lives.{has_id, IsNoOutcome, sensor_now};
 ghost use Rattle.bmc_machine.specs.Refusals.{IsLegal};
 ghost use Rattle.bmc_machine.specs.Changes.{Inventory, inventory, changes_between, changes_of_sensor, changes_of_sensors, changes};
 

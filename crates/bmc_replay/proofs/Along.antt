@@ -29,14 +29,14 @@ use Rattle.bmc_machine.specs.Answers.{Answer, silent, answer, answers, and_then,
 use Rattle.bmc_replay.specs.declared.run.Run.{Run}
 use Rattle.bmc_replay.specs.declared.stop.Stop.{Stop}
 use Rattle.bmc_replay.specs.declared.stop.Stop.TheVariants as stops
-use Rattle.bmc_replay.specs.States.{View, Stands, fru_entry}
+use Rattle.bmc_core.specs.Cores.{CoreView, Stands}
 use Rattle.bmc_replay.specs.Runs.{TakesNext, LeavesNext, IsNew}
 use Rattle.bmc_replay.specs.Gathering.{Gathers, entry_rows}
 use Rattle.bmc_replay.specs.Outside.{Outside, outside}
 use Rattle.bmc_replay.specs.Stops.{GetsNothing, StopsShort, StopsAt}
 use Rattle.bmc_replay.specs.Statuses.{Replays, WhereTold, Writes, WritesAll, WritesFront, Reaches, Takes, WritesWhole, WriteCause, stop_of, status_of}
 use Rattle.bmc_replay.proofs.SoFar.{SoFar, HasEnded, with_item, so_far_none, so_far_more, so_far_last, so_far_end, so_far_whole}
-use Rattle.bmc_replay.proofs.StatesLemmas.{stands_none}
+use Rattle.bmc_core.proofs.ListsLemmas.{lists_are}
 
 -- this much text was printed: part of it is written, and the rest is gathered
 pub record Printed (old now : Told) (text total : List ℕ) : Type 0 where
@@ -301,7 +301,7 @@ module _ {L : Type 0} where
     pub read : length taken ≡ feed.read
     pub large : maker_now.refused ≡ maker.refused ++ large_texts verdicts
     pub printed : Printed before.output.taken now.output.taken (string_bytes run.text) so_far.text
-    pub stands : Stands run.state so_far.past
+    pub stands : Stands run.core so_far.past
     pub refused : run.refused ≡ so_far.refused
     pub machine : HasCome ended taken feed.waiting verdicts run.number so_far
 
@@ -316,7 +316,7 @@ module _ {L : Type 0} where
     read = sym (ap (λ (feed : ItemFeed). feed.read) none);
     large = sym (append-nil maker.refused);
     printed = printed_none before.output.taken (string_bytes run.text) new.text;
-    stands = subst (λ (view : View). Stands view []) (sym new.state) stands_none;
+    stands = new.core;
     refused = new.refused;
     machine = rw (ap (λ (feed : ItemFeed). feed.waiting) none, new.number) so_far_none;
   }
@@ -482,8 +482,8 @@ module _ {L : Type 0} where
   along_next next before now new maker maker_now maker_new feed feed_now run moved run_now same along came gathers takes =
       of (item_next next feed_now) feed_now.ended came.bytes takes
     where
-      stood : Stands moved.state along.so_far.past
-      stood = subst (λ (view : View). Stands view along.so_far.past) (sym (ap (λ (run : Run L). run.state) same)) along.stands
+      stood : Stands moved.core along.so_far.past
+      stood = subst (λ (view : CoreView). Stands view along.so_far.past) (sym (ap (λ (run : Run L). run.core) same)) along.stands
 
       refused : moved.refused ≡ along.so_far.refused
       refused = ap (λ (run : Run L). run.refused) same ∙ along.refused
@@ -511,7 +511,7 @@ module _ {L : Type 0} where
         large = ap (λ (maker : Maker). maker.refused) takes.1 ∙ along.large;
         printed = subst (λ (text : List ℕ). Printed before.output.taken new.output.taken text along.so_far.text)
             (sym (ap (λ (run : Run L). string_bytes run.text) takes.0)) printed;
-        stands = subst (λ (view : View). Stands view along.so_far.past) (sym (ap (λ (run : Run L). run.state) takes.0)) stood;
+        stands = subst (λ (view : CoreView). Stands view along.so_far.past) (sym (ap (λ (run : Run L). run.core) takes.0)) stood;
         refused = ap (λ (run : Run L). run.refused) takes.0 ∙ refused;
         machine = so_far_end along.taken feed.waiting came.piece feed_now.waiting along.verdicts moved.number along.so_far true machine none;
       }
@@ -560,7 +560,7 @@ module _ {L : Type 0} where
         large = along.large;
         printed = printed_moved before.output.taken output.taken output_now.taken (string_bytes run.text)
             (string_bytes moved.text) along.so_far.text along.printed gathers;
-        stands = subst (λ (view : View). Stands view along.so_far.past) (sym (ap (λ (run : Run L). run.state) same)) along.stands;
+        stands = subst (λ (view : CoreView). Stands view along.so_far.past) (sym (ap (λ (run : Run L). run.core) same)) along.stands;
         refused = ap (λ (run : Run L). run.refused) same ∙ along.refused;
         machine = subst (λ (number : ℕ). HasCome ended along.taken feed.waiting along.verdicts number along.so_far)
             (sym (ap (λ (run : Run L). run.number) same))
@@ -569,20 +569,19 @@ module _ {L : Type 0} where
 
   -- what is left to print at the end of the script
   list_of : (before now : Outside) (maker maker_now : Maker) (feed : ItemFeed) (run : Run L) (along : Along true before now maker maker_now feed run)
-      → along.so_far.text ++ entry_rows run.state.entries ≡ with_list along.so_far
+      → along.so_far.text ++ entry_rows run.core.entries ≡ with_list along.so_far
   list_of before now maker maker_now feed run along =
-      ap (λ (rows : List ℕ). along.so_far.text ++ rows) (ap entry_rows along.stands.entries ∙ rows_are (standing along.so_far.past).configs
-      (standing along.so_far.past).frus)
+      ap (λ (rows : List ℕ). along.so_far.text ++ rows) (lists_are Frus run.core along.so_far.past along.stands)
 
   -- it stops in the final list
   pub ended_cut : (stop : Stop) (before now new : Outside) (maker maker_now : Maker) (feed : ItemFeed) (run : Run L) (calls calls_now : Calls)
       → IsAtEnd now.input.left → feed.read ≤ longest_script → now.input ≡ new.input → Along true before now maker maker_now feed run
-      → AppendsFront now.output.taken new.output.taken (string_bytes run.text ++ entry_rows run.state.entries) → WriteCause stop calls calls_now
+      → AppendsFront now.output.taken new.output.taken (string_bytes run.text ++ entry_rows run.core.entries) → WriteCause stop calls calls_now
       → Replays (status_of (Err stop)) before new maker maker_now
   ended_cut stop before now new maker maker_now feed run calls calls_now at_end limit same along front cause =
       along_replays stop true before now new maker maker_now feed run along (λ yes. at_end)
       (begins_stopped before.input.left along.verdicts before.output.taken now.output.taken new.output.taken (string_bytes run.text)
-      (entry_rows run.state.entries) along.so_far.text
+      (entry_rows run.core.entries) along.so_far.text
       (subst (Begins before.input.left along.verdicts) (sym (list_of before now maker maker_now feed run along))
       (ended_begins before.input.left now.input.left along.taken along.verdicts along.so_far along.consumed at_end along.machine))
       along.printed front)
@@ -592,7 +591,7 @@ module _ {L : Type 0} where
   -- all is written and was taken
   pub ended_all : (before now new : Outside) (maker maker_now : Maker) (feed : ItemFeed) (run : Run L) → IsAtEnd now.input.left
       → feed.read < longest_script → now.input ≡ new.input → Along true before now maker maker_now feed run
-      → new.output.taken ≡ added now.output.taken (string_bytes run.text ++ entry_rows run.state.entries)
+      → new.output.taken ≡ added now.output.taken (string_bytes run.text ++ entry_rows run.core.entries)
       → Replays (status_of (Ok run.refused)) before new maker maker_now
   ended_all before now new maker maker_now feed run at_end few same along text = record {
     verdicts = along.verdicts;
@@ -601,10 +600,10 @@ module _ {L : Type 0} where
     text =
         all_written run.refused before.input.left now.input.left along.taken along.verdicts along.so_far before.output.taken new.output.taken along.consumed
         at_end along.machine along.refused
-        (text ∙ ap (λ (told : Told). added told (string_bytes run.text ++ entry_rows run.state.entries)) along.printed.told
-        ∙ added_more before.output.taken along.printed.written (string_bytes run.text ++ entry_rows run.state.entries)
-        ∙ ap (added before.output.taken) (sym (append_assoc along.printed.written (string_bytes run.text) (entry_rows run.state.entries))
-        ∙ ap (λ (text : List ℕ). text ++ entry_rows run.state.entries) along.printed.parts ∙ list_of before now maker maker_now feed run along));
+        (text ∙ ap (λ (told : Told). added told (string_bytes run.text ++ entry_rows run.core.entries)) along.printed.told
+        ∙ added_more before.output.taken along.printed.written (string_bytes run.text ++ entry_rows run.core.entries)
+        ∙ ap (added before.output.taken) (sym (append_assoc along.printed.written (string_bytes run.text) (entry_rows run.core.entries))
+        ∙ ap (λ (text : List ℕ). text ++ entry_rows run.core.entries) along.printed.parts ∙ list_of before now maker maker_now feed run along));
     reached = of run.refused (along_count true before now new maker maker_now feed run (λ count. count < longest_script) along same few);
   }
     where

@@ -1,16 +1,5 @@
 pub mod SoFar
-pub mod StatesLemmas
-pub mod StepsLemmas
-pub mod ChangesLemmas
-pub mod KeysLemmas
-pub mod BusyLemmas
-pub mod IdleLemmas
-pub mod ItemsLemmas
-pub mod RowsLemmas
-pub mod EventsLemmas
 pub mod RunsLemmas
 pub mod GatheringLemmas
 pub mod Along
 pub mod ReasonsLemmas
-pub mod StockLemmas
-pub mod GrowthLemmas

@@ -20,39 +20,54 @@ use Rattle.bmc_report.specs.Changes.{change_line}
 use Rattle.bmc_report.specs.declared.refusal.Refusal.{Refusal}
 use Rattle.bmc_machine.specs.Histories.{Step, Configure}
 use Rattle.bmc_machine.specs.Refusals.{command_refusal, config_refusal}
-use Rattle.bmc_machine.specs.Answers.{Answer, silent, refusing, answer_by, answer_step, answer_command, answer_broken, answer_config, answer}
+use Rattle.bmc_machine.specs.Answers.{Answer, silent, showing, refusing, answer_by, answer_step, answer_command, answer_broken, answer_config, answer}
 use Rattle.bmc_machine.specs.Ties.{IsTied}
-use Rattle.bmc_replay.specs.States.{View, Stands}
-use Rattle.bmc_replay.specs.Steps.{IsTried, Tries}
+use Rattle.bmc_core.specs.Cores.{CoreView, Stands}
+use Rattle.bmc_core.specs.Acts.{StandsAfter, Applies}
+use Rattle.bmc_core.specs.declared.fault.CoreFault.{CoreFault}
+use Rattle.bmc_core.specs.declared.fault.CoreFault.TheVariants as faults_of
+use Rattle.bmc_core.proofs.ListsLemmas.{lists_are}
+use Rattle.bmc_report.specs.declared.topic.Topic.{Topic}
 use Rattle.bmc_replay.specs.declared.run.Run.{Run}
 use Rattle.bmc_replay.specs.declared.run.Effect.{Effect}
-use Rattle.bmc_replay.specs.declared.run.Effect.TheVariants.{Nothing, Changed, Refused}
+use Rattle.bmc_replay.specs.declared.run.Effect.TheVariants.{Nothing, Changed, Shown, Refused}
 use Rattle.bmc_replay.specs.Runs.{effect_text, effect_of, IsAnswer, Answers, IsVerdict, AnswersItem, AnswersNext, LeavesItem, LeavesNext}
 use Rattle.bmc_replay.specs.Runs.{CountsItem, TakesItem}
 
 -- nothing comes of it
-pub silent_answers : (view : View) → Answers (λ line past. silent past) Nothing view view
+pub silent_answers : (view : CoreView) → Answers (λ line past. silent past) Nothing view view
 silent_answers view line past stood = record { stands = stood; text = refl; refused = refl }
 
 -- it is refused for this reason, and leaves what is known
-pub refused_answers : (view : View) (refusal : Refusal) → Answers (λ line past. refusing line past refusal) (Refused refusal) view view
+pub refused_answers : (view : CoreView) (refusal : Refusal) → Answers (λ line past. refusing line past refusal) (Refused refusal) view view
 refused_answers view refusal line past stood = record { stands = stood; text = refl; refused = refl }
 
--- a step that was tried is answered
-pub tried_answers : (old : View) (step : Step) (refusal : Option Refusal) (new : View) → Tries old step refusal new
-    → Answers (λ line past. answer_step line past step) (effect_of refusal) old new
-tried_answers old step refusal new tries line past stood = of refusal (tries.tried past stood)
+-- a list is shown, and leaves what is known
+pub shown_answers : (core : CoreView) (topic : Topic) → Answers (λ line past. showing past topic) (Shown topic) core core
+shown_answers core topic line past stood = record { stands = stood; text = lists_are topic core past stood; refused = refl }
+
+-- an act is answered as its step is
+pub act_answers : (old : CoreView) (step : Step) (done : Result ⊤ CoreFault) (effect : Effect) (new : CoreView) → Applies old step done new
+    → effect_of done ≡ Some effect → Answers (λ line past. answer_step line past step) effect old new
+act_answers old step done effect new applies is line past stood = of done (applies.stands past stood) is
   where
-    of : (refusal : Option Refusal) → IsTried refusal past step new → IsAnswer (answer_step line past step) line (effect_of refusal) new
-    of None accepts =
-        subst (λ (reason : Option Refusal). IsAnswer (answer_by reason line past step) line Changed new) (sym accepts.reason)
-        (record { stands = accepts.stands; text = ap (flat_map (change_line 0)) accepts.told; refused = refl })
-    of (Some refusal) refuses =
-        subst (λ (reason : Option Refusal). IsAnswer (answer_by reason line past step) line (Refused refusal) new) (sym refuses.reason)
-        (record { stands = refuses.stands; text = refl; refused = refl })
+    of : (done : Result ⊤ CoreFault) → StandsAfter done new past step → effect_of done ≡ Some effect
+        → IsAnswer (answer_step line past step) line effect new
+    of (Ok ok) accepts is =
+        subst (λ (effect : Effect). IsAnswer (answer_step line past step) line effect new) (some_same _ _ is)
+        (subst (λ (reason : Option Refusal). IsAnswer (answer_by reason line past step) line Changed new) (sym accepts.0)
+        (record { stands = accepts.1; text = ap (flat_map (change_line 0)) accepts.2; refused = refl }))
+    of (Err (faults_of.Refused refusal)) refuses is =
+        subst (λ (effect : Effect). IsAnswer (answer_step line past step) line effect new) (some_same _ _ is)
+        (subst (λ (reason : Option Refusal). IsAnswer (answer_by reason line past step) line (Refused refusal) new) (sym refuses.0)
+        (record { stands = refuses.1; text = refl; refused = refl }))
+    of (Err faults_of.OutOfMemory) none is = absurd (cc)
+
+    some_same : (one other : Effect) → Option.Some one ≡ Some other → one ≡ other
+    some_same one other same = cc
 
 -- the same under another name of the answer
-pub renamed : (what other : (Refusal → List ℕ) → List Step → Answer) (effect : Effect) (old new : View)
+pub renamed : (what other : (Refusal → List ℕ) → List Step → Answer) (effect : Effect) (old new : CoreView)
     → ((line : Refusal → List ℕ) (past : List Step) → what line past ≡ other line past) → Answers what effect old new → Answers other effect old new
 renamed what other effect old new same answers line past stood =
     subst (λ (answer : Answer). IsAnswer answer line effect new) (same line past) (answers line past stood)
@@ -66,7 +81,7 @@ read_as lines.PlaceRange read refusal gives is = gives
 read_as lines.BadHex read refusal gives is = gives
 read_as lines.OutOfMemory read refusal gives is = absurd (cc)
 
-pub line_answers : (view : View) (line : List ℕ) (fault : ScriptFault) (refusal : Refusal) → GivesCommand (Err fault) (command_of line)
+pub line_answers : (view : CoreView) (line : List ℕ) (fault : ScriptFault) (refusal : Refusal) → GivesCommand (Err fault) (command_of line)
     → command_refusal fault ≡ Some refusal → Answers (λ label past. answer label past Accepted (Line line)) (Refused refusal) view view
 line_answers view line fault refusal gives is =
     renamed (λ label past. refusing label past refusal) _ (Refused refusal) view view
@@ -74,7 +89,7 @@ line_answers view line fault refusal gives is =
     ∙ ap (λ (reason : Option Refusal). answer_broken reason label past) is))
     (refused_answers view refusal)
 
-pub command_answers : (old new : View) (line : List ℕ) (command : Command) (effect : Effect) → command_of line ≡ Ok command
+pub command_answers : (old new : CoreView) (line : List ℕ) (command : Command) (effect : Effect) → command_of line ≡ Ok command
     → Answers (λ label past. answer_command label past (Ok command)) effect old new
     → Answers (λ label past. answer label past Accepted (Line line)) effect old new
 command_answers old new line command effect is =
@@ -83,7 +98,7 @@ command_answers old new line command effect is =
 -- ---- verdicts
 
 -- the maker was not asked
-pub unasked : (item : Item) (effect : Effect) (old new : View) (maker maker_now : Maker) → IsTied item Accepted → maker_now ≡ maker
+pub unasked : (item : Item) (effect : Effect) (old new : CoreView) (maker maker_now : Maker) → IsTied item Accepted → maker_now ≡ maker
     → Answers (λ line past. answer line past Accepted item) effect old new → AnswersItem item effect old new maker maker_now
 unasked item effect old new maker maker_now tied same answers = record {
   verdict = Accepted;
@@ -118,16 +133,16 @@ pub read_verdict : (bytes : List ℕ) (result : Result Config ConfigFault) (make
 read_verdict bytes result maker maker_now gives known =
     let ties = gives_ties maker maker_now result (config_read bytes) gives known in record { tied = ties.0; large = ties.1 }
 
--- a configuration that was read is tried as a step
-pub config_answers : (bytes : List ℕ) (config : Config) (refusal : Option Refusal) (old new : View) (maker maker_now : Maker)
-    → GivesConfig maker maker_now (Ok config) (config_read bytes) → Tries old (Configure config) refusal new
-    → AnswersItem (Block bytes) (effect_of refusal) old new maker maker_now
-config_answers bytes config refusal old new maker maker_now gives tries = record {
+-- a configuration that was read is an act
+pub config_answers : (bytes : List ℕ) (config : Config) (done : Result ⊤ CoreFault) (effect : Effect) (old new : CoreView) (maker maker_now : Maker)
+    → GivesConfig maker maker_now (Ok config) (config_read bytes) → Applies old (Configure config) done new → effect_of done ≡ Some effect
+    → AnswersItem (Block bytes) effect old new maker maker_now
+config_answers bytes config done effect old new maker maker_now gives applies is = record {
   verdict = Accepted;
   is_verdict = read_verdict bytes (Ok config) maker maker_now gives (λ same. absurd (cc));
   answers =
-      renamed (λ line past. answer_step line past (Configure config)) _ (effect_of refusal) old new
-      (λ line past. ap (answer_config line past Accepted) (sym gives.0)) (tried_answers old (Configure config) refusal new tries);
+      renamed (λ line past. answer_step line past (Configure config)) _ effect old new
+      (λ line past. ap (answer_config line past Accepted) (sym gives.0)) (act_answers old (Configure config) done effect new applies is);
 }
 
 -- how a block is answered that is refused
@@ -169,7 +184,7 @@ known_rule rule refusal is same = absurd (let no = ap (λ (result : Result Confi
     reason_of (Ok config) = None
     reason_of (Err rule) = config_refusal rule
 
-pub broken_answers : (bytes : List ℕ) (rule : ConfigFault) (refusal : Refusal) (view : View) (maker maker_now : Maker)
+pub broken_answers : (bytes : List ℕ) (rule : ConfigFault) (refusal : Refusal) (view : CoreView) (maker maker_now : Maker)
     → GivesConfig maker maker_now (Err rule) (config_read bytes) → config_refusal rule ≡ Some refusal
     → AnswersItem (Block bytes) (Refused refusal) view view maker maker_now
 broken_answers bytes rule refusal view maker maker_now gives is = record {
@@ -200,8 +215,8 @@ unread bytes (faults.PatternTooLarge text) maker maker_now gives none = absurd (
 
 -- what was answered is counted
 pub answered_item : {L : Type 0} (item : Item) (effect : Effect) (old answered new : Run L) (maker maker_now : Maker)
-    → answered ≡ record old { state = answered.state }
-    → AnswersItem item effect old.state answered.state maker maker_now → CountsItem effect answered new → TakesItem item old new maker maker_now
+    → answered ≡ record old { core = answered.core }
+    → AnswersItem item effect old.core answered.core maker maker_now → CountsItem effect answered new → TakesItem item old new maker maker_now
 answered_item {L} item effect old answered new maker maker_now same answers counts = record {
   verdict = answers.verdict;
   is_verdict = answers.is_verdict;
@@ -209,10 +224,10 @@ answered_item {L} item effect old answered new maker maker_now same answers coun
   follows = λ past stood.
       let is = answers.answers (refused_line old.number) past stood in
       record {
-        stands = subst (λ (view : View). Stands view (answer (refused_line old.number) past answers.verdict item).past) (sym counts.state) is.stands;
+        stands = subst (λ (view : CoreView). Stands view (answer (refused_line old.number) past answers.verdict item).past) (sym counts.core) is.stands;
         text =
             counts.text
-            ∙ ap₂ (λ (text : List ℕ) (n : ℕ). text ++ effect_text (refused_line n) effect answered.state.changes)
+            ∙ ap₂ (λ (text : List ℕ) (n : ℕ). text ++ effect_text (refused_line n) effect answered.core)
             (ap (λ (run : Run L). string_bytes run.text) same) (ap (λ (run : Run L). run.number) same)
             ∙ ap (λ (text : List ℕ). string_bytes old.text ++ text) is.text;
         refused =

@@ -1,10 +1,5 @@
-pub mod Changes
-pub mod States
-pub mod Steps
-pub mod Insides
 pub mod Runs
 pub mod Gathering
 pub mod Outside
 pub mod Statuses
 pub mod Stops
-pub mod ItemSteps

@@ -1,12 +1,10 @@
 //! Replays a script: `replay` takes its items in turn, and writes what the machine prints of them.
 #![tactic(auto)]
 
-mod changes;
 mod output;
 mod refusing;
 mod replaying;
 mod run;
-mod state;
 mod status;
 mod stop;
 

@@ -3,7 +3,8 @@ ghost use Rattle.bmc_base.specs.Calls.{HasCause};
 ghost use Rattle.bmc_io.specs.Told.{added};
 ghost use Rattle.bmc_io.specs.Sinks.{AppendsFront};
 ghost use Rattle.bmc_replay.specs.Statuses.{WriteCause};
-ghost use Rattle.bmc_replay.specs.Gathering.{Gathers, most_gathered, entry_rows};
+ghost use Rattle.bmc_replay.specs.Gathering.{Gathers, most_gathered};
+ghost use Rattle.bmc_core.specs.Lists.{entry_rows};
 
 use crate::stop::Stop;
 use bmc_io::{IoFault, Sink, put_all};

@@ -4,7 +4,8 @@ ghost use Rattle.bmc_io.specs.Told.{added};
 ghost use Rattle.bmc_io.specs.Sinks.{AppendsFront};
 ghost use Rattle.bmc_text.specs.Feeds.{IsWithin};
 ghost use Rattle.bmc_text.specs.NextItems.{TakesNextItem};
-ghost use Rattle.bmc_replay.specs.Gathering.{Gathers, entry_rows};
+ghost use Rattle.bmc_replay.specs.Gathering.{Gathers};
+ghost use Rattle.bmc_core.specs.Lists.{entry_rows};
 ghost use Rattle.bmc_replay.specs.Outside.{outside};
 ghost use Rattle.bmc_replay.specs.Stops.{StopsAt};
 ghost use Rattle.bmc_replay.specs.Statuses.{Replays, HasReason, WriteCause, status_of};
@@ -49,13 +50,13 @@ fn advance<S: Source, K: Sink>(
 
 // Writes what is gathered, and then the final list.
 fn finish<K: Sink, L: Ledger>(run: &mut Run<L>, output: &mut K) -> Result<(), Stop>
-    ensures all { OnOk result ((K.seen output.new).taken ≡ added (K.seen output.old).taken (string_bytes run.old.text ++ entry_rows run.old.state.entries)) }
+    ensures all { OnOk result ((K.seen output.new).taken ≡ added (K.seen output.old).taken (string_bytes run.old.text ++ entry_rows run.old.core.watch.entries)) }
     ensures front { OnErr result (AppendsFront (K.seen output.old).taken (K.seen output.new).taken
-        (string_bytes run.old.text ++ entry_rows run.old.state.entries)) }
+        (string_bytes run.old.text ++ entry_rows run.old.core.watch.entries)) }
     ensures cause { MatchResult result (λ _. (K.seen output.new).calls.faults ≡ (K.seen output.old).calls.faults)
         (λ stop. WriteCause stop (K.seen output.old).calls (K.seen output.new).calls) }
 {
-    push_list(run.state.entries(), &mut run.text, output)?;
+    push_list(run.core.entries(), &mut run.text, output)?;
     flush(&mut run.text, output)?;
     Ok(())
 }

@@ -1,4 +1,4 @@
-ghost use Rattle.std.specs.Prelude.{◌≡◌, ◌<◌, ◌^◌, ◌++◌, Ok, IfOk, OnOk, OnErr, MatchResult, string_bytes};
+ghost use Rattle.std.specs.Prelude.{◌≡◌, ◌<◌, ◌^◌, ◌++◌, Ok, Some, None, IfOk, OnOk, OnErr, MatchResult, string_bytes};
 ghost use Rattle.std.specs.List.{flat_map};
 ghost use Rattle.bmc_text.specs.Items as items;
 ghost use Rattle.bmc_text.specs.NextItems.{item_next};
@@ -9,9 +9,9 @@ ghost use Rattle.bmc_replay.specs.Runs.{Answers, AnswersItem, LeavesItem, Answer
 
 use crate::output::{GATHERED, SPARE};
 use crate::refusing::{command_refused, config_refused};
-use crate::state::State;
 use bmc_base::{Ledger, OutOfMemory, Steps};
-use bmc_report::{Change, Refusal, push_change, push_refused_line};
+use bmc_core::{Act, Core, CoreFault};
+use bmc_report::{Change, Refusal, Topic, push_change, push_refused_line};
 use bmc_script::Command;
 use bmc_text::{Items, NextItem};
 use cfg_json::Config;
@@ -23,8 +23,10 @@ use std::alloc::Global;
 pub(crate) enum Effect {
     // Nothing is printed of it.
     Nothing,
-    // A step was accepted, and the state has its changes.
+    // An act was done, and the core has its changes.
     Changed,
+    // A list is asked for.
+    Shown(Topic),
     // It is refused.
     Refused(Refusal),
 }
@@ -32,8 +34,8 @@ pub(crate) enum Effect {
 /// A run of a script so far.
 #[derive(Drop)]
 pub struct Run<L: Ledger> {
-    /// What is known of what has happened.
-    pub state: State<L>,
+    /// The core, which does what the script asks for.
+    pub core: Core<L>,
     /// The text that is gathered and not yet written.
     pub text: String,
     /// The number of the next item, from 1.
@@ -42,47 +44,54 @@ pub struct Run<L: Ledger> {
     pub refused: bool,
 }
 
-// What came of a step that was tried.
-fn effect_of(refusal: Option<Refusal>) -> Effect
-    ensures { result ≡ effect_of refusal }
+// What came of an act.
+fn effect_of(done: Result<(), CoreFault>) -> Result<Effect, OutOfMemory>
+    ensures effect { IfOk result (λ effect. effect_of done ≡ Some effect) }
+    ensures memory { OnErr result (effect_of done ≡ None) }
 {
-    match refusal {
-        Some(refusal) => Effect::Refused(refusal),
-        None => Effect::Changed,
+    match done {
+        Ok(()) => Ok(Effect::Changed),
+        Err(CoreFault::Refused(refusal)) => Ok(Effect::Refused(refusal)),
+        Err(CoreFault::OutOfMemory) => Err(OutOfMemory),
     }
 }
 
 // Does what a command asks for.
-#[tactic(auto, using(crate::proofs::RunsLemmas::silent_answers, crate::proofs::RunsLemmas::refused_answers, crate::proofs::RunsLemmas::tried_answers))]
+#[tactic(auto, using(crate::proofs::RunsLemmas::silent_answers, crate::proofs::RunsLemmas::refused_answers, crate::proofs::RunsLemmas::shown_answers, crate::proofs::RunsLemmas::act_answers))]
 fn run_command<L: Ledger>(
     alloc: Global,
-    state: &mut State<L>,
+    core: &mut Core<L>,
     command: Command,
     steps: &mut Steps<L>,
 ) -> Result<Effect, OutOfMemory>
-    ensures { IfOk result (λ effect. Answers (λ line past. answer_command line past (Ok command)) effect state.old state.new) }
+    ensures { IfOk result (λ effect. Answers (λ line past. answer_command line past (Ok command)) effect core.old core.new) }
 {
-    let refusal = match command {
+    let done = match command {
         Command::Nothing => return Ok(Effect::Nothing),
         // an item with a block is never a line
         Command::Config(_) => return Ok(Effect::Refused(Refusal::ConfigShort)),
-        Command::Plug(place, bytes) => state.plug(alloc, place, bytes.as_slice(), steps)?,
-        Command::Unplug(place) => state.unplug(alloc, place, steps)?,
+        Command::Plug(place, bytes) => {
+            core.apply(alloc, Act::Plug(place, bytes.as_slice()), steps)
+        }
+        Command::Unplug(place) => core.apply(alloc, Act::Unplug(place), steps),
+        Command::Good(name, raw) => core.apply(alloc, Act::Good(name, raw), steps),
+        Command::Lost(name) => core.apply(alloc, Act::Lost(name), steps),
+        Command::Show(topic) => return Ok(Effect::Shown(topic)),
     };
-    Ok(effect_of(refusal))
+    effect_of(done)
 }
 
 // Takes a line that asks for no block.
 fn take_line<L: Ledger>(
     alloc: Global,
-    state: &mut State<L>,
+    core: &mut Core<L>,
     line: &[u8],
     steps: &mut Steps<L>,
 ) -> Result<Effect, OutOfMemory>
-    ensures { IfOk result (λ effect. Answers (λ label past. answer label past Accepted (items.Line line.now)) effect state.old state.new) }
+    ensures { IfOk result (λ effect. Answers (λ label past. answer label past Accepted (items.Line line.now)) effect core.old core.new) }
 {
     match Command::read(alloc, line) {
-        Ok(command) => run_command(alloc, state, command, steps),
+        Ok(command) => run_command(alloc, core, command, steps),
         Err(fault) => {
             let refusal = command_refused(fault)?;
             Ok(Effect::Refused(refusal))
@@ -94,18 +103,17 @@ fn take_line<L: Ledger>(
 #[inline(never)]
 fn take_block<M: PatternMaker, L: Ledger>(
     alloc: Global,
-    state: &mut State<L>,
+    core: &mut Core<L>,
     block: &[u8],
     maker: &mut M,
     steps: &mut Steps<L>,
 ) -> Result<Effect, OutOfMemory>
-    ensures ok { IfOk result (λ effect. AnswersItem (items.Block block.now) effect state.old state.new (M.seen maker.old) (M.seen maker.new)) }
+    ensures ok { IfOk result (λ effect. AnswersItem (items.Block block.now) effect core.old core.new (M.seen maker.old) (M.seen maker.new)) }
     ensures err { OnErr result (LeavesItem (items.Block block.now) (M.seen maker.old) (M.seen maker.new)) }
 {
     match Config::read(alloc, block, maker) {
         Ok(config) => {
-            let refusal = state.configure(alloc, config, steps)?;
-            Ok(effect_of(refusal))
+            effect_of(core.apply(alloc, Act::Config(config), steps))
         }
         Err(rule) => {
             let refusal = config_refused(rule)?;
@@ -129,9 +137,9 @@ impl<L: Ledger> Run<L> {
     pub fn new(alloc: Global) -> Result<Run<L>, OutOfMemory>
         ensures { IfOk result IsNew }
     {
-        let state = State::new(alloc)?;
+        let core = Core::new(alloc)?;
         Ok(Run {
-            state,
+            core,
             text: String::with_capacity(alloc, GATHERED + SPARE)?,
             number: 1,
             refused: false,
@@ -139,13 +147,14 @@ impl<L: Ledger> Run<L> {
     }
 
     // Gathers what is printed of an item, and counts it.
-    fn count_item(&mut self, effect: Effect) -> Result<(), OutOfMemory>
+    fn count_item(&mut self, alloc: Global, effect: Effect) -> Result<(), OutOfMemory>
         requires { self.old.number < 2 ^ 63 }
         ensures { OnOk result (CountsItem effect self.old self.new) }
     {
         match effect {
             Effect::Nothing => {}
-            Effect::Changed => push_changes(&mut self.text, self.state.changes())?,
+            Effect::Changed => push_changes(&mut self.text, self.core.changes())?,
+            Effect::Shown(topic) => self.core.push_list(alloc, topic, &mut self.text)?,
             Effect::Refused(refusal) => {
                 push_refused_line(&mut self.text, self.number, refusal)?;
                 self.refused = true;
@@ -168,9 +177,9 @@ impl<L: Ledger> Run<L> {
             (λ _. LeavesNext (item_next next items.now) (M.seen maker.old) (M.seen maker.new)) }
     {
         let effect = match next {
-            NextItem::Line => take_line(alloc, &mut self.state, items.line(), steps)?,
+            NextItem::Line => take_line(alloc, &mut self.core, items.line(), steps)?,
             NextItem::LineTooLong => Effect::Refused(Refusal::LineTooLong),
-            NextItem::Block => take_block(alloc, &mut self.state, items.block(), maker, steps)?,
+            NextItem::Block => take_block(alloc, &mut self.core, items.block(), maker, steps)?,
             NextItem::BlockTooLong => Effect::Refused(Refusal::ConfigTooLong),
             NextItem::BlockShort => Effect::Refused(Refusal::ConfigShort),
             NextItem::End => return Ok(None),
@@ -193,7 +202,7 @@ impl<L: Ledger> Run<L> {
         ensures err { OnErr result (LeavesNext (item_next next items.now) (M.seen maker.old) (M.seen maker.new)) }
     {
         match self.answer(alloc, next, items, maker, steps)? {
-            Some(effect) => self.count_item(effect),
+            Some(effect) => self.count_item(alloc, effect),
             None => Ok(()),
         }
     }

@@ -9,4 +9,5 @@ pub mod SensorsLemmas
 pub mod SettingsLemmas
 pub mod ShelvesLemmas
 pub mod UnitsLemmas
+pub mod ValidLemmas
 pub mod VerdictsLemmas

@@ -1,11 +1,12 @@
 -- Look-ups by name over the map's entries and over the configurations.
-use Rattle.std.proofs.Common.{◌≡◌, ℕ, ◌+◌, ◌<◌, ◌≤◌, arith, length, List, [], ◌∷◌, ◌++◌, map, refl, sym, ◌∙◌, ap, true, false, cond, Some, None}
+use Rattle.std.proofs.Common.{◌≡◌, ℕ, ◌+◌, ◌<◌, ◌≤◌, arith, length, List, [], ◌∷◌, ◌++◌, map, refl, sym, ◌∙◌, ap, subst, true, false, cond, Some, None}
 use Rattle.std.specs.Prelude.{bytes_eq, position, if◌then◌else◌}
-use Rattle.std.specs.List.{position_from}
+use Rattle.std.specs.List.{All, position_from}
 use Rattle.std.proofs.lemmas.List.{map-append, length-map, length-append}
+use Rattle.std.proofs.lemmas.List.Elements.{All-push}
 use Rattle.std.proofs.lemmas.Iterator.Adapters.{position_from-zero}
 use Rattle.indexmap.specs.IndexMap.{insert_entry}
-use Rattle.cfg_json.specs.Configs.{Config}
+use Rattle.cfg_json.specs.Configs.{Config, IsValidConfig}
 use Rattle.cfg_json.specs.Shelves.{AreNamed, configs_of, number_of, has_name, most_configs}
 
 abbrev Entries : Type 0
@@ -56,3 +57,8 @@ pub few_more : (config : Config) (entries : Entries) → length (configs_of entr
     → length (entries ++ (config.name, config) ∷ []) ≤ most_configs
 few_more config entries few =
     omega (arith, few, length-map entries (λ (entry : List ℕ × Config). entry.1), length-append entries ((config.name, config) ∷ []))
+
+pub valid_more : (config : Config) (entries : Entries) → All IsValidConfig (configs_of entries) → IsValidConfig config
+    → All IsValidConfig (configs_of (entries ++ (config.name, config) ∷ []))
+valid_more config entries all valid =
+    subst (All IsValidConfig) (sym (configs_of_more config entries)) (All-push IsValidConfig (configs_of entries) config all valid)

@@ -1,6 +1,7 @@
 -- What is seen of a configuration.
-use Rattle.std.specs.Prelude.{ℕ, Bool, true, false, List, [], length, filter}
-use Rattle.std.specs.List.{flat_map}
+use Rattle.std.specs.Prelude.{ℕ, Bool, true, false, ⊤, List, [], length, filter}
+use Rattle.std.specs.List.{All, flat_map}
+use Rattle.sensor_core.specs.Settings.{IsValidSetting}
 use Rattle.probe_lang.specs.Values.{Probe}
 use Rattle.probe_lang.specs.Matches.{texts_of}
 use Rattle.probe_lang.specs.declared.pattern_text.Member.{Member}
@@ -80,3 +81,18 @@ counts_of exposes = record {
   zones = length (filter is_zone exposes);
   fans = length (filter is_fan exposes);
 }
+
+-- the setting of a sensor is valid; of other bodies nothing is asked
+abbrev pub IsValidBody : Body → Type 0
+IsValidBody (Sensor part) = IsValidSetting part.setting
+IsValidBody Fan = ⊤
+IsValidBody (Zone setting) = ⊤
+IsValidBody (Mux part) = ⊤
+IsValidBody Passive = ⊤
+
+abbrev pub IsValidExpose : Expose → Type 0
+IsValidExpose expose = IsValidBody expose.body
+
+-- all that a configuration exposes is valid
+abbrev pub IsValidConfig : Config → Type 0
+IsValidConfig config = All IsValidExpose config.exposes

@@ -1,6 +1,7 @@
 ghost use Rattle.std.specs.Prelude.{◌≡◌, ◌≤◌, length};
+ghost use Rattle.std.specs.List.{All};
 ghost use Rattle.probe_lang.specs.Values.{most_patterns};
-ghost use Rattle.cfg_json.specs.Configs.{counts_of};
+ghost use Rattle.cfg_json.specs.Configs.{IsValidExpose, counts_of};
 ghost use Rattle.cfg_json.specs.Documents.{config_read};
 ghost use Rattle.cfg_json.specs.Readings.{GivesConfig, MakesPatterns};
 
@@ -24,14 +25,15 @@ pub struct Config<L: Ledger> {
 
 impl<L: Ledger> Model for Config<L> {
     ghost use Rattle.std.specs.Prelude.{◌≡◌, ◌≤◌, length};
+    ghost use Rattle.std.specs.List.{All};
     ghost use Rattle.probe_lang.specs.Values.{most_patterns};
-    ghost use Rattle.cfg_json.specs.Configs.{Config, counts_of};
+    ghost use Rattle.cfg_json.specs.Configs.{Config, IsValidExpose, counts_of};
 
     ghost Value = { Config };
 
     ghost view = { λ c. record { name = c.name; probe = c.probe; patterns = c.patterns.items; exposes = c.exposes } };
 
-    ghost invariant = { λ c. (length c.patterns.items ≤ most_patterns) × (c.counts ≡ counts_of c.exposes) };
+    ghost invariant = { λ c. (length c.patterns.items ≤ most_patterns) × (c.counts ≡ counts_of c.exposes) × All IsValidExpose c.exposes };
 }
 
 impl<L: Ledger> Config<L> {
@@ -86,9 +88,10 @@ impl<L: Ledger> Config<L> {
         &self.patterns
     }
 
-    /// Borrows what it exposes, in the order of the document.
+    /// Borrows what it exposes, in the order of the document. The settings of its sensors are valid.
     pub fn exposes(&self) -> &[Expose]
-        ensures { result.now ≡ self.now.exposes }
+        ensures value { result.now ≡ self.now.exposes }
+        ensures valid { All IsValidExpose self.now.exposes }
     {
         self.exposes.as_slice()
     }

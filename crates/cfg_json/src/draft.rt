@@ -26,14 +26,15 @@ pub(crate) struct Draft<L: Ledger> {
 
 impl<L: Ledger> Model for Draft<L> {
     ghost use Rattle.std.specs.Prelude.{◌≤◌, length};
+    ghost use Rattle.std.specs.List.{All};
     ghost use Rattle.probe_lang.specs.Values.{most_patterns};
-    ghost use Rattle.cfg_json.specs.Configs.{Config};
+    ghost use Rattle.cfg_json.specs.Configs.{Config, IsValidExpose};
 
     ghost Value = { Config };
 
     ghost view = { λ d. record { name = d.name; probe = d.probe; patterns = d.texts; exposes = d.exposes } };
 
-    ghost invariant = { λ d. length d.texts ≤ most_patterns };
+    ghost invariant = { λ d. (length d.texts ≤ most_patterns) × All IsValidExpose d.exposes };
 }
 
 // Reads the configuration of a document in JSON.

@@ -1,4 +1,6 @@
 ghost use Rattle.std.specs.Prelude.{◌≡◌, ◌<◌, ◌≤◌, ◌∷◌, ◌++◌, [], None, length, slice_get, option_map, IfOk, OnOk, OnErr};
+ghost use Rattle.std.specs.List.{All};
+ghost use Rattle.cfg_json.specs.Configs.{IsValidConfig};
 ghost use Rattle.cfg_json.specs.Shelves.{number_of, most_configs};
 
 use crate::config::Config;
@@ -19,14 +21,16 @@ pub struct Shelf<L: Ledger> {
 
 impl<L: Ledger> Model for Shelf<L> {
     ghost use Rattle.std.specs.Prelude.{List, ◌≤◌, length, map};
-    ghost use Rattle.cfg_json.specs.Configs.{Config};
+    ghost use Rattle.std.specs.List.{All};
+    ghost use Rattle.cfg_json.specs.Configs.{Config, IsValidConfig};
     ghost use Rattle.cfg_json.specs.Shelves.{configs_of, AreNamed, most_configs};
 
     ghost Value = { List Config };
 
     ghost view = { λ s. configs_of s.configs.entries };
 
-    ghost invariant = { λ s. AreNamed s.configs.entries × (length s.configs.entries ≤ most_configs) };
+    ghost invariant = { λ s. AreNamed s.configs.entries × (length s.configs.entries ≤ most_configs)
+        × All IsValidConfig (configs_of s.configs.entries) };
 }
 
 // How many configurations a new shelf has room for.
@@ -49,14 +53,17 @@ impl<L: Ledger> Shelf<L> {
         ensures ok { OnOk result (self.new ≡ self.old ++ config ∷ []) }
         ensures err { OnErr result (self.new ≡ self.old) }
     {
+        // what it exposes is valid, which is said with it
+        let _exposes = config.exposes();
         self.configs.insert(config.name(), config)?;
         Ok(())
     }
 
-    /// Returns how many configurations there are.
+    /// Returns how many configurations there are. What they expose is valid.
     pub fn len(&self) -> usize
         ensures value { result ≡ length self.now }
         ensures limit { length self.now ≤ most_configs }
+        ensures valid { All IsValidConfig self.now }
     {
         self.configs.len()
     }

@@ -18,3 +18,4 @@ pub mod LessLemmas
 pub mod InventoriesLemmas
 pub mod TotalsLemmas
 pub mod NamingLemmas
+pub mod ValidLemmas

@@ -1,10 +1,11 @@
 -- What the boards of one moment expose: their items, and which of them are live.
-use Rattle.std.specs.Prelude.{ℕ, Bool, true, false, not, ◌==◌, ◌&&◌, bytes_eq, List, [], filter, filter_map, find, Option, Some, None}
+use Rattle.std.specs.Prelude.{ℕ, Bool, true, false, ⊤, not, ◌==◌, ◌&&◌, bytes_eq, List, [], filter, filter_map, find, Option, Some, None}
 use Rattle.std.specs.Prelude.{option_map}
 use Rattle.std.specs.Prelude.{option_and_then, slice_get}
 use Rattle.std.specs.Option.{option_eq, unwrap_or}
 use Rattle.std.specs.List.{flat_map, list_any, enumerate_from}
 use Rattle.bmc_base.specs.Places.{Place, place_eq, last_bus, last_address}
+use Rattle.sensor_core.specs.Settings.{IsValidSetting}
 use Rattle.fru_area.specs.declared.field.Field.{Field}
 use Rattle.probe_lang.specs.declared.rows.Entry.{Entry}
 use Rattle.probe_lang.specs.Presents.{is_entry_at}
@@ -128,3 +129,14 @@ live items = filter (is_live items) items
 -- the items that are here and not there
 unfoldable pub items_less : List Item → List Item → List Item
 items_less here there = filter (λ item. not (list_any (λ other. id_eq other.id item.id) there)) here
+
+-- the setting of a sensor is valid; of other items nothing is asked
+abbrev pub IsValidPart : ItemPart → Type 0
+IsValidPart (parts.Sensor sensor) = IsValidSetting sensor.setting
+IsValidPart parts.Fan = ⊤
+IsValidPart (parts.Zone setting) = ⊤
+IsValidPart (parts.Mux part) = ⊤
+IsValidPart parts.Passive = ⊤
+
+abbrev pub IsValidItem : Item → Type 0
+IsValidItem item = IsValidPart item.part

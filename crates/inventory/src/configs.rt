@@ -1,16 +1,23 @@
 ghost use Rattle.std.specs.Prelude.{◌≡◌, ◌++◌, length, option_to_list, option_map, slice_get};
+ghost use Rattle.std.specs.List.{All};
+ghost use Rattle.cfg_json.specs.Configs.{IsValidConfig};
 
 use bmc_base::Ledger;
 use cfg_json::{Config, Shelf};
 
 /// Counts the configurations of a shelf and one more, if one is given.
 pub fn config_count<L: Ledger>(shelf: &Shelf<L>, plus: Option<&Config<L>>) -> usize
-    ensures { result ≡ length (shelf.now ++ option_to_list (option_map (λ config. config.now) plus.entry)) }
+    ensures value { result ≡ length (shelf.now ++ option_to_list (option_map (λ config. config.now) plus.entry)) }
+    ensures valid { All IsValidConfig (shelf.now ++ option_to_list (option_map (λ config. config.now) plus.entry)) }
 {
-    if plus.is_some() {
-        shelf.len() + 1
-    } else {
-        shelf.len()
+    let count = shelf.len();
+    match plus {
+        Some(config) => {
+            // what it exposes is valid, which is said with it
+            let _exposes = config.exposes();
+            count + 1
+        }
+        None => count,
     }
 }
 

@@ -1,5 +1,5 @@
 ghost use Rattle.std.specs.Prelude.{◌≡◌, ◌+◌, ◌<◌, ◌≤◌, ◌==◌, ◌++◌, ◌∷◌, if◌then◌else◌, List, [], ℕ};
-ghost use Rattle.std.specs.Prelude.{filter, length, nat_eq, slice_set, None, Some, ⊤, IfOk, OnOk, OnErr, IsSomeAnd};
+ghost use Rattle.std.specs.Prelude.{filter, length, nat_eq, slice_get, slice_set, None, Some, ⊤, IfOk, OnOk, OnErr, IsSomeAnd};
 ghost use Rattle.indexmap.specs.IndexSet.{spare};
 ghost use Rattle.inventory.specs.Indexes.{kept_of, with_board, with_boards, index_of, index_in};
 ghost use Rattle.inventory.specs.Differences.{places_of};
@@ -283,6 +283,15 @@ impl IndexKeep {
         } else {
             None
         }
+    }
+
+    /// Returns the board at this position, from 0, among those that are kept of a configuration, if there is one. Its index is
+    /// one more.
+    pub fn at(&self, number: u32, position: usize) -> Option<Option<Place>>
+        ensures { result ≡ slice_get (kept_of self.now.kept number) position }
+    {
+        let list = self.lists.get(number as usize)?;
+        list.get_index(position).copied()
     }
 
     // Counts the boards that are kept of a configuration.

@@ -1,11 +1,12 @@
 ghost use Rattle.std.specs.Prelude.{◌≡◌, ◌+◌, ◌≤◌, ◌++◌, ◌||◌, [], ℕ, Bool, length, option_map, option_to_list, IfOk};
-ghost use Rattle.std.specs.List.{list_any};
+ghost use Rattle.std.specs.List.{All, list_any};
 ghost use Rattle.inventory.specs.Differences.{IsMarkedBy};
 ghost use Rattle.inventory.specs.Inventories.{kept_then, moment_keys};
-ghost use Rattle.inventory.specs.Items.{entry_fields, holder, items_less, live};
+ghost use Rattle.inventory.specs.Items.{IsValidItem, entry_fields, holder, items_less, live};
 ghost use Rattle.inventory.specs.Limits.{board_counts};
 ghost use Rattle.inventory.specs.Naming.{is_naming, naming_items};
 
+use crate::configs::config_count;
 use crate::holders::{Holders, Live};
 use crate::items::list_items;
 use crate::less::{ItemList, push_less};
@@ -27,7 +28,9 @@ pub struct Inventory {
 
 impl Model for Inventory {
     ghost use Rattle.std.specs.Prelude.{List};
+    ghost use Rattle.std.specs.List.{All};
     ghost use Rattle.cfg_json.specs.declared.item.Item.{Item};
+    ghost use Rattle.inventory.specs.Items.{IsValidItem};
     ghost use Rattle.inventory.specs.Orders.{AreById};
     ghost use Rattle.inventory.specs.Holders.{AreHolders};
 
@@ -35,7 +38,7 @@ impl Model for Inventory {
 
     ghost view = { λ i. i.items.items };
 
-    ghost invariant = { λ i. AreById i.items.items × AreHolders i.items.items i.holders };
+    ghost invariant = { λ i. AreById i.items.items × AreHolders i.items.items i.holders × All IsValidItem i.items.items };
 }
 
 // How many items have positions.
@@ -96,7 +99,9 @@ impl Inventory {
             ≡ naming_items all (kept_then keep.now.kept all found reach moment.now) (entry_fields moment.now.entries)
             (moment_keys all found reach moment.now)) }
     {
-        // the entries of a moment come by place, which is said with what is found
+        // the configurations are valid, which is said with their count, and the entries of a moment come by place,
+        // which is said with what is found
+        let _count = config_count(shelf, plus);
         let _found = moment.found(0);
         let boards = list_naming(alloc, shelf, plus, keep, moment)?;
         let items = list_items(alloc, shelf, plus, &boards, moment)?;
@@ -122,9 +127,17 @@ impl Inventory {
         self.items.get(position as usize)
     }
 
+    /// Returns the live items, in the order of the items.
+    pub fn live(&self) -> Live<'_>
+        ensures { result ≡ live self.now }
+    {
+        Live::of(&self.items, &self.holders)
+    }
+
     /// Lists copies of the live items that are here and not in another inventory.
     pub fn less(&self, alloc: Global, other: &Inventory) -> Result<ItemList, OutOfMemory>
-        ensures { IfOk result (λ list. list ≡ items_less (live self.now) (live other.now)) }
+        ensures value { IfOk result (λ list. list ≡ items_less (live self.now) (live other.now)) }
+        ensures valid { IfOk result (λ list. All IsValidItem list) }
     {
         let here = Live::of(&self.items, &self.holders);
         let there = Live::of(&other.items, &other.holders);

@@ -37,7 +37,7 @@ loop-number-preserved-then-not-has_families g c =
 pub returns : goal.returns
 returns g c =
     let all : List Config = c.args.shelf.now ++ option_to_list (option_map (λ config. config.now) c.args.plus) in
-    let end : c.loop-number.number ≡ length all = omega (arith, c.config_count-number-end.ensures) in
+    let end : c.loop-number.number ≡ length all = omega (arith, c.config_count-number-end.ensures.value) in
     λ found reach marked.
     let boards : ℕ → List (Option Place) = boards_at all found reach c.args.moment.now in
     c.loop-number.invariant found reach marked

@@ -1,0 +1,2 @@
+pub mod AppliesLemmas
+pub mod ListsLemmas

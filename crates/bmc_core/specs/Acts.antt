@@ -1,0 +1,53 @@
+-- What an act leaves.
+use Rattle.std.specs.Prelude.{◌≡◌, ⊤, List, ◌∷◌, Option, Some, None, Result, Ok, Err}
+use Rattle.bmc_base.specs.declared.out_of_memory.OutOfMemory.{OutOfMemory as NoMemory}
+use Rattle.bmc_report.specs.declared.refusal.Refusal.{Refusal}
+use Rattle.bmc_machine.specs.Histories.{Step, Configure, Plug, RefusedPlug, Unplug, Read, Lose}
+use Rattle.bmc_machine.specs.Refusals.{refusal_after}
+use Rattle.bmc_machine.specs.Changes.{changes}
+use Rattle.bmc_machine.specs.Answers.{past_refused}
+use Rattle.bmc_core.specs.declared.act.Act.{Act}
+use Rattle.bmc_core.specs.declared.act.Act.TheVariants as acts
+use Rattle.bmc_core.specs.declared.fault.CoreFault.{CoreFault}
+use Rattle.bmc_core.specs.declared.fault.CoreFault.TheVariants.{Refused, OutOfMemory}
+use Rattle.bmc_core.specs.Cores.{CoreView, Stands, quiet, IsUnchanged}
+
+-- the step that an act is
+abbrev pub step_of : {L : Type 0} → Act L → Step
+step_of (acts.Config config) = Configure config
+step_of (acts.Plug place bytes) = Plug place bytes.now
+step_of (acts.Unplug place) = Unplug place
+step_of (acts.Good name raw) = Read name raw
+step_of (acts.Lost name) = Lose name
+
+-- what came of a step that was tried: it was accepted, or refused for a reason
+abbrev pub answer_of : Result (Option Refusal) NoMemory → Result ⊤ CoreFault
+answer_of (Ok None) = Ok tt
+answer_of (Ok (Some refusal)) = Err (Refused refusal)
+answer_of (Err fault) = Err OutOfMemory
+
+-- whether a step takes memory: a reading and a loss take none
+abbrev pub TakesMemory : Step → Type 0
+TakesMemory (Configure config) = ⊤
+TakesMemory (Plug place bytes) = ⊤
+TakesMemory (RefusedPlug place bytes refusal) = ⊤
+TakesMemory (Unplug place) = ⊤
+TakesMemory (Read name raw) = ⊥
+TakesMemory (Lose name) = ⊥
+
+-- what the core stands for after a step, where it stood for this history before: the step is accepted and told, or refused for its reason
+abbrev pub StandsAfter : Result ⊤ CoreFault → CoreView → List Step → Step → Type 0
+StandsAfter (Ok done) new past step = (refusal_after past step ≡ None) × Stands new (step ∷ past) × (new.watch.changes ≡ changes past step)
+StandsAfter (Err (Refused refusal)) new past step = (refusal_after past step ≡ Some refusal) × Stands new (past_refused past step refusal)
+StandsAfter (Err OutOfMemory) new past step = Stands new past
+
+-- what a step leaves that is not done, whatever happened before: a refusal leaves all but the last changes, and want of memory all
+abbrev pub IsLeft : Result ⊤ CoreFault → CoreView → Step → CoreView → Type 0
+IsLeft (Ok done) old step new = ⊤
+IsLeft (Err (Refused refusal)) old step new = new ≡ quiet old
+IsLeft (Err OutOfMemory) old step new = TakesMemory step × IsUnchanged old new
+
+-- an act is done, or not: for each history that the core stood for
+pub record Applies (old : CoreView) (step : Step) (result : Result ⊤ CoreFault) (new : CoreView) : Type 0 where
+  pub stands : (past : List Step) → Stands old past → StandsAfter result new past step
+  pub left : IsLeft result old step new

@@ -1,0 +1,56 @@
+-- The lists that a core shows.
+use Rattle.std.specs.Prelude.{ℕ, List, ◌++◌, length, Option, option_and_then}
+use Rattle.std.specs.List.{flat_map, range_with_len}
+use Rattle.probe_lang.specs.declared.rows.Entry.{Entry}
+use Rattle.cfg_json.specs.declared.item.Item.{Item}
+use Rattle.fru_rows.specs.Idle.{busy}
+use Rattle.inventory.specs.Indexes.{kept_of}
+use Rattle.inventory.specs.Items.{entry_fields, board_items, live}
+use Rattle.inventory.specs.declared.board.Board.{Board}
+use Rattle.bmc_report.specs.BoardRows.{board_row}
+use Rattle.bmc_report.specs.Rows.{fru_row}
+use Rattle.bmc_report.specs.declared.topic.Topic.{Topic}
+use Rattle.bmc_report.specs.declared.topic.Topic.TheVariants.{Frus, Inventory, Sensors, Indexes}
+use Rattle.sensor_core.specs.Sensors.{Sensor}
+use Rattle.live_sensors.specs.Items.{setting_in}
+use Rattle.live_sensors.specs.Sensors.{LiveSensors, sensor_in}
+use Rattle.bmc_machine.specs.Boards.{name_of}
+use Rattle.bmc_machine.specs.Shows.{sensor_text, index_rows, item_text}
+use Rattle.bmc_watch.specs.Watches.{WatchView, view_items, view_list}
+use Rattle.bmc_core.specs.Cores.{CoreView}
+
+-- the row of each FRU that is present
+abbrev pub entry_row : Entry → List ℕ
+entry_row entry = fru_row entry.place entry.fru
+
+abbrev pub entry_rows : List Entry → List ℕ
+entry_rows entries = flat_map entry_row entries
+
+-- the sensor of a live item, if the item is a sensor
+abbrev pub sensor_of_item : LiveSensors → Item → Option Sensor
+sensor_of_item sensors item = option_and_then (λ setting. sensor_in sensors item.name) (setting_in item.part)
+
+-- the rows of the sensors among live items, at a tick
+unfoldable pub sensor_rows : LiveSensors → ℕ → List Item → List ℕ
+sensor_rows sensors tick items = flat_map (λ (item : Item). sensor_text item.name tick (sensor_of_item sensors item)) items
+
+-- the rows of the boards that each configuration ever had
+unfoldable pub kept_rows : WatchView → List ℕ
+kept_rows watch = flat_map (index_rows watch.configs (kept_of watch.kept)) (range_with_len 0 (length watch.configs))
+
+-- the row of a board, and those of its items. FRUs that are idle have no boards
+abbrev pub board_rows : WatchView → Board → List ℕ
+board_rows watch board =
+    board_row (name_of watch.configs board.key.config) board.index board.key.place
+    ++ flat_map (item_text watch.configs (live (view_items watch))) (board_items watch.configs (entry_fields (busy watch.entries)) board)
+
+-- the rows of all boards
+unfoldable pub inventory_rows : WatchView → List ℕ
+inventory_rows watch = flat_map (board_rows watch) (view_list watch)
+
+-- what a core shows of a topic
+abbrev pub core_list : Topic → CoreView → List ℕ
+core_list Frus core = entry_rows core.watch.entries
+core_list Inventory core = inventory_rows core.watch
+core_list Sensors core = sensor_rows core.sensors 0 (live (view_items core.watch))
+core_list Indexes core = kept_rows core.watch

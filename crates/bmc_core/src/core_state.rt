@@ -1,0 +1,166 @@
+ghost use Rattle.std.specs.Prelude.{◌≡◌, [], List, Ok, Err, Some, None, is_none, IfOk, OnOk, option_and_then};
+ghost use Rattle.bmc_machine.specs.Histories.{Step, Configure, Plug, Unplug, Read, Lose, tick_of};
+ghost use Rattle.bmc_core.specs.declared.fault.CoreFault.{CoreFault as Fault};
+ghost use Rattle.bmc_core.specs.Acts.{step_of, answer_of, Applies};
+ghost use Rattle.bmc_core.specs.Cores.{Stands, quiet};
+
+use crate::{Act, CoreFault};
+use bmc_base::{Ledger, Name, OutOfMemory, Place, Steps};
+use bmc_report::{Change, Refusal};
+use bmc_watch::{Glimpse, Watch};
+use cfg_json::Config;
+use fru_rows::Entries;
+use live_sensors::LiveSensors;
+use sensor_core::ReadingRange;
+use std::alloc::Global;
+use std::marker::Model;
+
+/// The core: what is known of the bus, the live sensors, and what the last act changed.
+#[derive(Drop)]
+pub struct Core<L: Ledger> {
+    watch: Watch<L>,
+    sensors: LiveSensors,
+}
+
+impl<L: Ledger> Model for Core<L> {
+    ghost use Rattle.bmc_core.specs.Cores.{CoreView};
+
+    ghost Value = { CoreView };
+
+    ghost view = { λ c. record { watch = c.watch; sensors = c.sensors } };
+}
+
+// What came of a step that was tried.
+fn answer(tried: Result<Option<Refusal>, OutOfMemory>) -> Result<(), CoreFault>
+    ensures { result ≡ answer_of tried }
+{
+    match tried {
+        Ok(None) => Ok(()),
+        Ok(Some(refusal)) => Err(CoreFault::Refused(refusal)),
+        Err(OutOfMemory) => Err(CoreFault::OutOfMemory),
+    }
+}
+
+impl<L: Ledger> Core<L> {
+    /// Returns the core to which nothing has happened. It takes the room for the changes of an act that takes no memory, once.
+    pub fn new(alloc: Global) -> Result<Core<L>, OutOfMemory>
+        ensures { IfOk result (λ core. Stands core []) }
+    {
+        Ok(Core {
+            watch: Watch::new(alloc)?,
+            sensors: LiveSensors::new(alloc)?,
+        })
+    }
+
+    /// Borrows the changes of the last act, if it was done: boards that are gone and boards that are new, live items that are
+    /// gone and live items that are new, and then what sensors show otherwise than before.
+    pub fn changes(&self) -> &[Change]
+        ensures { result.now ≡ self.now.watch.changes }
+    {
+        self.watch.changes()
+    }
+
+    /// Returns the number of ticks of 100 milliseconds that have passed. No act ticks yet.
+    pub fn tick_count(&self) -> u64
+        ensures { (past : List Step) → Stands self.now past → result ≡ tick_of past }
+    {
+        0
+    }
+
+    /// Returns an iterator over the FRUs that are present, by place.
+    pub fn entries(&self) -> Entries<'_>
+        ensures { result ≡ self.now.watch.entries }
+    {
+        self.watch.entries()
+    }
+
+    // Refuses an act, and forgets the last changes.
+    fn refuse(&mut self, refusal: Refusal) -> Result<(), CoreFault>
+        ensures result { result ≡ Err (Fault.Refused refusal) }
+        ensures left { self.new ≡ quiet self.old }
+    {
+        self.watch.forget_changes();
+        Err(CoreFault::Refused(refusal))
+    }
+
+    // Takes a configuration.
+    fn configure(
+        &mut self,
+        alloc: Global,
+        config: Config<L>,
+        steps: &mut Steps<L>,
+    ) -> Result<(), CoreFault>
+        ensures { Applies self.old (Configure config) result self.new }
+    {
+        answer(self.watch.configure(alloc, config, &mut self.sensors, steps))
+    }
+
+    // Takes a FRU that appeared.
+    fn plug(
+        &mut self,
+        alloc: Global,
+        place: Place,
+        bytes: &[u8],
+        steps: &mut Steps<L>,
+    ) -> Result<(), CoreFault>
+        ensures { Applies self.old (Plug place bytes.now) result self.new }
+    {
+        answer(self.watch.plug(alloc, place, bytes, &mut self.sensors, steps))
+    }
+
+    // Takes away the FRU at a place.
+    fn unplug(&mut self, alloc: Global, place: Place, steps: &mut Steps<L>) -> Result<(), CoreFault>
+        ensures { Applies self.old (Unplug place) result self.new }
+    {
+        answer(self.watch.unplug(alloc, place, &mut self.sensors, steps))
+    }
+
+    // Takes a good reading of a sensor.
+    fn read(&mut self, name: &Name, raw: i64) -> Result<(), CoreFault>
+        ensures { Applies self.old (Read name.now raw) result self.new }
+    {
+        let Some(slot) = self.sensors.slot(name) else {
+            return self.refuse(Refusal::UnknownSensor);
+        };
+        let before = Glimpse::of(self.sensors.at(slot));
+        match self.sensors.good(slot, raw, self.tick_count()) {
+            Ok(()) => {
+                self.watch.tell_reading(name, &before, self.sensors.at(slot));
+                Ok(())
+            }
+            Err(ReadingRange) => self.refuse(Refusal::ReadingRange),
+        }
+    }
+
+    // Takes the loss of a reading of a sensor.
+    fn lose(&mut self, name: &Name) -> Result<(), CoreFault>
+        ensures { Applies self.old (Lose name.now) result self.new }
+    {
+        let Some(slot) = self.sensors.slot(name) else {
+            return self.refuse(Refusal::UnknownSensor);
+        };
+        let before = Glimpse::of(self.sensors.at(slot));
+        self.sensors.lost(slot);
+        self.watch.tell_reading(name, &before, self.sensors.at(slot));
+        Ok(())
+    }
+
+    /// Does an act, or returns why it is not done. Readings and losses take no memory; all else takes its memory first, and then
+    /// changes.
+    pub fn apply(
+        &mut self,
+        alloc: Global,
+        act: Act<'_, L>,
+        steps: &mut Steps<L>,
+    ) -> Result<(), CoreFault>
+        ensures { Applies self.old (step_of act.entry) result self.new }
+    {
+        match act {
+            Act::Config(config) => self.configure(alloc, config, steps),
+            Act::Plug(place, bytes) => self.plug(alloc, place, bytes, steps),
+            Act::Unplug(place) => self.unplug(alloc, place, steps),
+            Act::Good(name, raw) => self.read(&name, raw),
+            Act::Lost(name) => self.lose(&name),
+        }
+    }
+}

@@ -1,0 +1,131 @@
+-- The totals where a configuration comes.
+use Rattle.std.proofs.Common.{◌≡◌, ◌∙◌, ℕ, zero, suc, ◌+◌, ◌<◌, ◌≤◌, List, [], ◌∷◌, ◌++◌, map, length, Option, Some, None, true, refl, sym, ap, ap₂, arith}
+use Rattle.std.proofs.Common.{append-nil}
+use Rattle.std.specs.Prelude.{slice_get, option_map, sum_by}
+use Rattle.std.specs.Option.{unwrap_or}
+use Rattle.std.specs.List.{flat_map, range_with_len}
+use Rattle.std.proofs.lemmas.Grind.{flat_map-append}
+use Rattle.std.proofs.lemmas.List.{length-append}
+use Rattle.std.proofs.lemmas.List.Sums.{sum_by-cons}
+use Rattle.bmc_base.specs.Places.{Place}
+use Rattle.probe_lang.specs.Presents.{are_by_place}
+use Rattle.probe_lang.specs.Sights.{entry_sight}
+use Rattle.probe_lang.specs.declared.rows.Entry.{Entry}
+use Rattle.cfg_json.specs.Configs.{Config, counts_of}
+use Rattle.cfg_json.specs.declared.counts.Counts.{Counts}
+use Rattle.inventory.specs.Boards.{boards_in, has_board}
+use Rattle.inventory.specs.Differences.{key_of, keys_left}
+use Rattle.inventory.specs.Indexes.{except}
+use Rattle.inventory.specs.Limits.{board_counts, totals_of, totals_after, sensors_of, zones_of, fans_of}
+use Rattle.inventory.specs.Lists.{keys_of}
+use Rattle.inventory.specs.declared.board.BoardKey.{BoardKey}
+use Rattle.inventory.specs.declared.limits.Totals.{Totals}
+use Rattle.inventory.proofs.DifferencesLemmas.{range_push}
+use Rattle.inventory.proofs.TotalsLemmas.{totals_add_up}
+use Rattle.bmc_watch.specs.Changes.{IsDifference, AreWithin}
+use Rattle.bmc_watch.proofs.KeysLemmas.{keys_by, no_boards, within_by}
+use Rattle.bmc_watch.proofs.StockLemmas.{boards_ascend}
+
+-- ---- what is counted of the boards of the configurations before
+
+slice_front : (configs more : List Config) (number : ℕ) → number < length configs → slice_get (configs ++ more) number ≡ slice_get configs number
+slice_front [] more number few = absurd (omega (arith, few))
+slice_front (config ∷ configs) more zero few = refl
+slice_front (config ∷ configs) more (suc number) few = slice_front configs more number (omega (arith, few))
+
+counts_front : (configs more : List Config) (key : BoardKey) → key.config < length configs
+    → board_counts (configs ++ more) key ≡ board_counts configs key
+counts_front configs more key few =
+    ap (λ (found : Option Config). unwrap_or (option_map (λ (config : Config). counts_of config.exposes) found) (record { sensors = 0; zones = 0; fans = 0 }))
+    (slice_front configs more key.config few)
+
+sum_alike : (test other : BoardKey → ℕ) (count : ℕ) (keys : List BoardKey) → AreWithin keys count
+    → ((key : BoardKey) → key.config < count → test key ≡ other key) → sum_by test keys ≡ sum_by other keys
+sum_alike test other count [] within alike = refl
+sum_alike test other count (key ∷ keys) within alike =
+    sum_by-cons test key keys
+    ∙ ap₂ (λ (first later : ℕ). first + later) (alike key (within 0 key (omega arith)))
+    (sum_alike test other count keys (λ k d few. within (suc k) d (omega (arith, few))) alike)
+    ∙ sym (sum_by-cons other key keys)
+
+totals_front : (configs more : List Config) (keys : List BoardKey) → AreWithin keys (length configs)
+    → totals_of configs keys ≡ totals_of (configs ++ more) keys
+totals_front configs more keys within = λ i. record {
+  boards = length keys;
+  sensors = sensors_same i;
+  zones = zones_same i;
+  fans = fans_same i;
+}
+  where
+    sensors_same : sensors_of configs keys ≡ sensors_of (configs ++ more) keys
+    sensors_same =
+        sum_alike (λ key. (board_counts configs key).sensors) (λ key. (board_counts (configs ++ more) key).sensors) (length configs) keys within
+        (λ key few. ap (λ (counts : Counts). counts.sensors) (sym (counts_front configs more key few)))
+
+    zones_same : zones_of configs keys ≡ zones_of (configs ++ more) keys
+    zones_same =
+        sum_alike (λ key. (board_counts configs key).zones) (λ key. (board_counts (configs ++ more) key).zones) (length configs) keys within
+        (λ key few. ap (λ (counts : Counts). counts.zones) (sym (counts_front configs more key few)))
+
+    fans_same : fans_of configs keys ≡ fans_of (configs ++ more) keys
+    fans_same =
+        sum_alike (λ key. (board_counts configs key).fans) (λ key. (board_counts (configs ++ more) key).fans) (length configs) keys within
+        (λ key few. ap (λ (counts : Counts). counts.fans) (sym (counts_front configs more key few)))
+
+-- a configuration without boards adds no keys
+no_more : (places : ℕ → List (Option Place)) (number : ℕ) → places number ≡ [] → keys_by places 0 (number + 1) ≡ keys_by places 0 number
+no_more places number none =
+    let from : 0 + number ≡ number = omega arith in
+    ap (flat_map keys_at) (range_push 0 number ∙ ap (λ n. range_with_len 0 number ++ n ∷ []) from)
+    ∙ flat_map-append keys_at (range_with_len 0 number) (number ∷ [])
+    ∙ ap (λ (keys : List BoardKey). keys_by places 0 number ++ keys) (append-nil (keys_at number) ∙ ap (map (key_of number)) none)
+    ∙ append-nil (keys_by places 0 number)
+  where
+    keys_at : ℕ → List BoardKey
+    keys_at number = map (key_of number) (places number)
+
+-- ---- the totals behind the step
+
+pub config_counted : (configs : List Config) (config : Config) (entries : List Entry) (gone new : List BoardKey) (totals totals_now : Totals)
+    → are_by_place entries ≡ true
+    → IsDifference (length configs) (length (configs ++ config ∷ [])) (boards_in configs (map entry_sight entries))
+    (boards_in (configs ++ config ∷ []) (map entry_sight entries)) gone new
+    → totals ≡ totals_of configs (keys_of (length configs) (boards_in configs (map entry_sight entries)))
+    → totals_now ≡ totals_after (configs ++ config ∷ []) totals gone new
+    → totals_now ≡ totals_of (configs ++ config ∷ []) (keys_of (length (configs ++ config ∷ [])) (boards_in (configs ++ config ∷ []) (map entry_sight entries)))
+config_counted configs config entries gone new totals totals_now order differs was is =
+    is ∙ ap (λ (totals : Totals). totals_after all totals gone new) counted
+    ∙ ap₂ (totals_after all (totals_of all (keys_of count before))) (differs.those_gone ∙ sym gone_same) differs.those_new
+    ∙ totals_add_up all count before after (boards_ascend configs entries order) (boards_ascend all entries order)
+  where
+    all : List Config
+    all = configs ++ config ∷ []
+
+    count : ℕ
+    count = length all
+
+    before : ℕ → List (Option Place)
+    before = boards_in configs (map entry_sight entries)
+
+    after : ℕ → List (Option Place)
+    after = boards_in all (map entry_sight entries)
+
+    one_more : count ≡ length configs + 1
+    one_more = length-append configs (config ∷ [])
+
+    none : before (length configs) ≡ []
+    none = no_boards configs (map entry_sight entries) (length configs) (omega arith)
+
+    keys_same : keys_of count before ≡ keys_of (length configs) before
+    keys_same = ap (λ (count : ℕ). keys_of count before) one_more ∙ no_more before (length configs) none
+
+    gone_same : keys_left count before after ≡ keys_left (length configs) before after
+    gone_same =
+        ap (λ (count : ℕ). keys_left count before after) one_more
+        ∙ no_more (λ number. except (has_board (after number)) (before number)) (length configs)
+        (ap (except (has_board (after (length configs)))) none)
+
+    counted : totals ≡ totals_of all (keys_of count before)
+    counted =
+        was ∙ totals_front configs (config ∷ []) (keys_of (length configs) before) (within_by before 0 (length configs) (length configs) (omega arith))
+        ∙ ap (totals_of all) (sym keys_same)

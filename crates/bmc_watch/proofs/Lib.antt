@@ -1,0 +1,11 @@
+pub mod WatchesLemmas
+pub mod StepsLemmas
+pub mod ChangesLemmas
+pub mod KeysLemmas
+pub mod BusyLemmas
+pub mod IdleLemmas
+pub mod ItemsLemmas
+pub mod RowsLemmas
+pub mod EventsLemmas
+pub mod StockLemmas
+pub mod GrowthLemmas

@@ -1,0 +1,347 @@
+-- The totals and the items of a state: before a step, behind it, and where no board comes or goes.
+use Rattle.std.proofs.Common.{◌≡◌, ◌∙◌, ℕ, ◌+◌, List, [], ◌∷◌, ◌++◌, map, length, Bool, true, false, not, cond, Option, Some, None, refl, sym, ap, ap₂}
+use Rattle.std.proofs.Common.{subst, append-nil, filter, filter_map, find, inl, inr, ◌≤◌}
+use Rattle.std.specs.Option.{option_eq, unwrap_or}
+use Rattle.std.specs.Prelude.{option_map}
+use Rattle.std.specs.List.{AllByRecursion, list_any}
+use Rattle.std.specs.Ordering.{is_eq}
+use Rattle.std.proofs.lemmas.Bool.{or_left, or_right, or_cases}
+use Rattle.bmc_base.specs.Places.{Place, place_eq, place_cmp}
+use Rattle.fru_area.specs.declared.field.Field.{Field}
+use Rattle.probe_lang.specs.Presents.{without_entry, is_entry_at, are_by_place}
+use Rattle.probe_lang.specs.Sights.{Sight, entry_sight}
+use Rattle.probe_lang.specs.declared.rows.Entry.{Entry}
+use Rattle.cfg_json.specs.Configs.{Config}
+use Rattle.cfg_json.specs.declared.item.Item.{Item}
+use Rattle.fru_rows.specs.Idle.{busy}
+use Rattle.found_set.specs.Found.{is_found, is_reached}
+use Rattle.inventory.specs.Boards.{boards_in, board_places, has_board, rules_of}
+use Rattle.inventory.specs.Differences.{Moment, IsMarkedBy, boards_at, keys_left}
+use Rattle.inventory.specs.Indexes.{kept_of, except, with_board, with_boards}
+use Rattle.inventory.specs.Inventories.{moment_keys, kept_then}
+use Rattle.inventory.specs.Items.{entry_fields, items, items_less, live}
+use Rattle.inventory.specs.Limits.{limit_of, no_totals, passed_limit, totals_of, totals_after}
+use Rattle.inventory.specs.Lists.{keys_of, board_list}
+use Rattle.inventory.specs.Moments.{IsAmong, AreAscending}
+use Rattle.inventory.specs.Naming.{is_naming, naming, naming_items}
+use Rattle.inventory.specs.declared.board.Board.{Board}
+use Rattle.inventory.specs.declared.board.BoardKey.{BoardKey}
+use Rattle.inventory.specs.declared.limits.Totals.{Totals}
+use Rattle.inventory.specs.declared.fault.InventoryFault.{InventoryFault}
+use Rattle.inventory.proofs.BoardLemmas.{board_itself, board_same}
+use Rattle.inventory.proofs.BoardsLemmas.{board_places_ascend}
+use Rattle.inventory.proofs.IndexesLemmas.{has_front}
+use Rattle.inventory.proofs.MergeLemmas.{entries_ascend}
+use Rattle.inventory.proofs.NamingLemmas.{naming_live, naming_same}
+use Rattle.inventory.proofs.TotalsLemmas.{totals_add_up}
+use Rattle.bmc_machine.specs.Refusals.{limit_refusal}
+use Rattle.bmc_machine.proofs.FewerLemmas.{boards_fewer}
+use Rattle.bmc_machine.proofs.LimitLemmas.{keys_fewer}
+use Rattle.bmc_report.specs.declared.change.Change.{Change}
+use Rattle.bmc_report.specs.declared.refusal.Refusal.{Refusal}
+use Rattle.bmc_machine.specs.Changes.{item_change}
+use Rattle.live_sensors.specs.Items.{settled}
+use Rattle.live_sensors.specs.Sensors.{LiveSensors, sensor_in}
+use Rattle.bmc_watch.specs.Settling.{AreKept, live_left, Settles}
+use Rattle.bmc_watch.specs.Changes.{IsDifference, Tells}
+use Rattle.bmc_watch.specs.Insides.{IsStocked}
+use Rattle.bmc_watch.specs.ItemSteps.{AreListed, TellsItems, items_behind}
+use Rattle.bmc_watch.specs.Watches.{WatchView, view_boards, view_items, view_keys, Moves}
+use Rattle.bmc_watch.specs.declared.changes.ItemStep.{ItemStep}
+use Rattle.bmc_watch.proofs.EventsLemmas.{IsSeen, boards_seen}
+use Rattle.bmc_watch.proofs.ItemsLemmas.{items_apart}
+use Rattle.bmc_watch.proofs.KeysLemmas.{keeps, moves}
+
+-- ---- boards that are kept
+
+-- a board that is kept stays so
+with_has : (kept : List (Option Place)) (place other : Option Place) → has_board kept other ≡ true → has_board (with_board kept place) other ≡ true
+with_has kept place other has = by (has_board kept place)
+  where
+    by : (there : Bool) → has_board (cond there kept (kept ++ place ∷ [])) other ≡ true
+    by true = has
+    by false = has_front kept (place ∷ []) other has
+
+all_have : (kept places : List (Option Place)) (other : Option Place) → has_board kept other ≡ true → has_board (with_boards kept places) other ≡ true
+all_have kept [] other has = has
+all_have kept (place ∷ places) other has = all_have (with_board kept place) places other (with_has kept place other has)
+
+-- a board that is put behind the others is among them
+has_last : (front : List (Option Place)) (place : Option Place) → has_board (front ++ place ∷ []) place ≡ true
+has_last [] place = or_left _ _ (board_itself place)
+has_last (other ∷ front) place = or_right _ _ (has_last front place)
+
+own_has : (kept : List (Option Place)) (place : Option Place) → has_board (with_board kept place) place ≡ true
+own_has kept place = by (has_board kept place) refl
+  where
+    by : (there : Bool) → has_board kept place ≡ there → has_board (cond there kept (kept ++ place ∷ [])) place ≡ true
+    by true is = is
+    by false is = has_last kept place
+
+-- those that are put behind are all among them
+new_have : (kept places : List (Option Place)) (other : Option Place) → has_board places other ≡ true → has_board (with_boards kept places) other ≡ true
+new_have kept [] other has = absurd (cc)
+new_have kept (place ∷ places) other has =
+    elim (or_cases (option_eq place_eq other place) (has_board places other) has) [
+      | inl here ↦ all_have (with_board kept place) places other
+          (subst (λ (one : Option Place). has_board (with_board kept place) one ≡ true) (sym (board_same other place here)) (own_has kept place))
+      | inr later ↦ new_have (with_board kept place) places other later
+    ]
+
+-- boards that are kept already add nothing
+with_new : (kept before after : List (Option Place)) → ((place : Option Place) → has_board before place ≡ true → has_board kept place ≡ true)
+    → with_boards kept (except (has_board before) after) ≡ with_boards kept after
+with_new kept before [] all = refl
+with_new kept before (place ∷ after) all =
+    by (has_board before place) refl (with_new kept before after all)
+    (with_new (with_board kept place) before after (λ other has. with_has kept place other (all other has)))
+  where
+    by : (was : Bool) → has_board before place ≡ was → with_boards kept (except (has_board before) after) ≡ with_boards kept after
+        → with_boards (with_board kept place) (except (has_board before) after) ≡ with_boards (with_board kept place) after
+        → with_boards kept (cond (not was) (place ∷ except (has_board before) after) (except (has_board before) after))
+        ≡ with_boards (with_board kept place) after
+    by true was rest more = rest ∙ ap (λ (there : Bool). with_boards (cond there kept (kept ++ place ∷ [])) after) (sym (all place was))
+    by false was rest more = more
+
+-- ---- what is kept behind a step
+
+-- the boards of these FRUs, by configuration
+abbrev boards_of : List Config → List Entry → ℕ → List (Option Place)
+boards_of configs entries = boards_in configs (map entry_sight entries)
+
+abbrev keys_in : List Config → List Entry → List BoardKey
+keys_in configs entries = keys_of (length configs) (boards_of configs entries)
+
+-- where each board is kept already, and those that come are kept behind them
+module _ (configs : List Config) (entries : List Entry) (kept kept_now : List (List (Option Place))) (before : ℕ → List (Option Place))
+    (all : (number : ℕ) (place : Option Place) → has_board (before number) place ≡ true → has_board (kept_of kept number) place ≡ true)
+    (keep : (number : ℕ)
+    → kept_of kept_now number ≡ with_boards (kept_of kept number) (except (has_board (before number)) (boards_of configs entries number))) where
+  kept_is : (number : ℕ) → kept_of kept_now number ≡ with_boards (kept_of kept number) (boards_of configs entries number)
+  kept_is number = keep number ∙ with_new (kept_of kept number) (before number) (boards_of configs entries number) (all number)
+
+  holds_then : (number : ℕ) (place : Option Place) → has_board (boards_of configs entries number) place ≡ true
+      → has_board (kept_of kept_now number) place ≡ true
+  holds_then number place has =
+      subst (λ (kept : List (Option Place)). has_board kept place ≡ true) (sym (kept_is number))
+      (new_have (kept_of kept number) (boards_of configs entries number) place has)
+
+  -- what is listed of a moment is listed of these FRUs
+  pub listed_then : (moment : Moment) (list : List Item) → IsSeen configs entries moment
+      → ((found reach : ℕ → Bool) → IsMarkedBy moment.facts found reach
+      → list ≡ naming_items configs (kept_then kept configs found reach moment) (entry_fields moment.entries) (moment_keys configs found reach moment))
+      → list ≡ naming_items configs (kept_of kept_now) (entry_fields (busy entries)) (keys_in configs entries)
+  listed_then moment list shows is =
+      is found reach shows.marked
+      ∙ ap₂ (λ (kept boards : ℕ → List (Option Place)). naming_items configs kept (entry_fields moment.entries) (keys_of (length configs) boards)) kept_same same
+      ∙ ap (λ (entries_then : List Entry). naming_items configs (kept_of kept_now) (entry_fields entries_then) (keys_in configs entries)) shows.works
+    where
+      found : ℕ → Bool
+      found = is_found (rules_of configs) (map entry_sight (busy entries))
+
+      reach : ℕ → Bool
+      reach = is_reached (rules_of configs) (map entry_sight (busy entries))
+
+      same : boards_at configs found reach moment ≡ boards_of configs entries
+      same = boards_seen configs entries moment shows
+
+      kept_same : kept_then kept configs found reach moment ≡ kept_of kept_now
+      kept_same = λ i number. at number i
+        where
+          at : (number : ℕ) → kept_then kept configs found reach moment number ≡ kept_of kept_now number
+          at number = ap (with_boards (kept_of kept number)) (λ i. same i number) ∙ sym (kept_is number)
+
+-- ---- the items of a step by which one FRU comes or goes
+
+-- boards ascend
+pub boards_ascend : (configs : List Config) (entries : List Entry) → are_by_place entries ≡ true → (number : ℕ) → AreAscending (boards_of configs entries number)
+unfolding boards_in
+boards_ascend configs entries order number =
+    board_places_ascend configs (is_found (rules_of configs) (map entry_sight entries)) (is_reached (rules_of configs) (map entry_sight entries))
+    (map entry_sight entries) number (entries_ascend entries order)
+
+-- the naming boards stay as they are where none goes or comes
+module _ (configs : List Config) (kept kept_now : List (List (Option Place))) (entries entries_now : List Entry) (gone new : List BoardKey)
+    (order : are_by_place entries ≡ true) (order_now : are_by_place entries_now ≡ true)
+    (differs : IsDifference (length configs) (length configs) (boards_of configs entries) (boards_of configs entries_now) gone new)
+    (keep : (number : ℕ) → kept_of kept_now number
+    ≡ with_boards (kept_of kept number) (except (has_board (boards_of configs entries number)) (boards_of configs entries_now number))) where
+  naming_stays : list_any (is_naming configs) gone ≡ false → list_any (is_naming configs) new ≡ false
+      → naming configs (board_list (kept_of kept_now) (keys_in configs entries_now)) ≡ naming configs (board_list (kept_of kept) (keys_in configs entries))
+  naming_stays none_gone none_new =
+      naming_same configs (length configs) (kept_of kept) (kept_of kept_now) (boards_of configs entries) (boards_of configs entries_now)
+      (boards_ascend configs entries order) (boards_ascend configs entries_now order_now)
+      (ap (list_any (is_naming configs)) (sym differs.those_gone) ∙ none_gone) (ap (list_any (is_naming configs)) (sym differs.those_new) ∙ none_new) keep
+
+  -- where a FRU comes
+  module _ (before : List Item) (was : before ≡ naming_items configs (kept_of kept) (entry_fields (busy entries)) (keys_in configs entries))
+      (all : (number : ℕ) (place : Option Place) → has_board (boards_of configs entries number) place ≡ true → has_board (kept_of kept number) place ≡ true)
+      (moment : Moment) (shows : IsSeen configs entries_now moment) where
+    pub items_plugged : (entry : Entry) → IsAmong entry (busy entries) (busy entries_now)
+        → AllByRecursion (λ (each : Entry). is_entry_at each.place entry ≡ false) (busy entries)
+        → (listed : Option (List Item)) → AreListed configs kept gone new moment listed
+        → items_behind listed before ≡ naming_items configs (kept_of kept_now) (entry_fields (busy entries_now)) (keys_in configs entries_now)
+    items_plugged entry among apart (Some list) are = listed_then configs entries_now kept kept_now (boards_of configs entries) all keep moment list shows are
+    items_plugged entry among apart None are =
+        was ∙ sym (items_apart configs (kept_of kept) (length configs) entry entries entries_now among apart (λ (board : Board). is_naming configs board.key))
+        ∙ ap (items configs (entry_fields (busy entries_now))) (sym (naming_stays are.0 are.1))
+
+    -- where a FRU goes
+    pub items_unplugged : (entry : Entry) → IsAmong entry (busy entries_now) (busy entries)
+        → AllByRecursion (λ (each : Entry). is_entry_at each.place entry ≡ false) (busy entries_now)
+        → (listed : Option (List Item)) → AreListed configs kept gone new moment listed
+        → items_behind listed before ≡ naming_items configs (kept_of kept_now) (entry_fields (busy entries_now)) (keys_in configs entries_now)
+    items_unplugged entry among apart (Some list) are = listed_then configs entries_now kept kept_now (boards_of configs entries) all keep moment list shows are
+    items_unplugged entry among apart None are =
+        was ∙ ap (items configs (entry_fields (busy entries))) (sym (naming_stays are.0 are.1))
+        ∙ items_apart configs (kept_of kept_now) (length configs) entry entries_now entries among apart (λ (board : Board). is_naming configs board.key)
+
+-- the totals are those of the boards that are there then
+pub counted_then : (configs : List Config) (entries entries_now : List Entry) (gone new : List BoardKey) (totals totals_now : Totals)
+    → are_by_place entries ≡ true → are_by_place entries_now ≡ true
+    → IsDifference (length configs) (length configs) (boards_of configs entries) (boards_of configs entries_now) gone new
+    → totals ≡ totals_of configs (keys_in configs entries) → totals_now ≡ totals_after configs totals gone new
+    → totals_now ≡ totals_of configs (keys_in configs entries_now)
+counted_then configs entries entries_now gone new totals totals_now order order_now differs was is =
+    is ∙ ap (λ (totals : Totals). totals_after configs totals gone new) was
+    ∙ ap₂ (totals_after configs (totals_of configs (keys_in configs entries))) differs.those_gone differs.those_new
+    ∙ totals_add_up configs (length configs) (boards_of configs entries) (boards_of configs entries_now) (boards_ascend configs entries order)
+    (boards_ascend configs entries_now order_now)
+
+-- ---- the state behind a step
+
+-- what is live is so among all items
+pub live_all : (view : WatchView) (totals : Totals) (inventory : List Item) → IsStocked view.configs view.entries view.kept totals inventory
+    → live inventory ≡ live (view_items view)
+live_all view totals inventory stocked =
+    ap live stocked.items ∙ naming_live view.configs (entry_fields (busy view.entries)) (board_list (kept_of view.kept) (view_keys view))
+
+-- a state after what was staged is taken over
+pub record IsNext (old new : WatchView) (totals : Totals) (inventory gone fresh : List Item) : Type 0 where
+  pub moves : Moves old new
+  pub stocked : IsStocked new.configs new.entries new.kept totals inventory
+  pub goes : gone ≡ live_left old new
+  pub comes : fresh ≡ live_left new old
+
+pub taken_over : (old new : WatchView) (more : List Config) (gone fresh : List BoardKey) (kept kept_now : List (List (Option Place))) (told : List Change)
+    (totals totals_now : Totals) (before : List Item) (step : ItemStep) → new.configs ≡ old.configs ++ more
+    → IsStocked old.configs old.entries old.kept totals before
+    → IsDifference (length old.configs) (length new.configs) (view_boards old) (view_boards new) gone fresh
+    → ((number : ℕ) → kept_of kept number ≡ kept_of old.kept number) → Tells new.configs gone fresh kept kept_now told → new.kept ≡ kept_now
+    → totals_now ≡ totals_of new.configs (view_keys new) → limit_of totals_now ≡ None
+    → items_behind step.inventory before ≡ naming_items new.configs (kept_of new.kept) (entry_fields (busy new.entries)) (view_keys new)
+    → TellsItems before step → new.changes ≡ told ++ filter_map (item_change true) step.gone ++ filter_map (item_change false) step.new
+    → IsNext old new totals_now (items_behind step.inventory before) step.gone step.new
+taken_over old new more gone fresh kept kept_now told totals totals_now before step configs was differs same tells kept_are counted fits is tells_items changes =
+    let keep = keeps old new gone fresh kept kept_now told differs same tells kept_are in
+    let stocked : IsStocked new.configs new.entries new.kept totals_now (items_behind step.inventory before) = record {
+      counted = counted;
+      items = is;
+      holds = holds_then new.configs new.entries old.kept new.kept (view_boards old) was.holds keep;
+      fits = fits;
+    } in
+    let live_before = live_all old totals before was in
+    let live_now = live_all new totals_now (items_behind step.inventory before) stocked in
+    record {
+      moves = moves old new more gone fresh kept kept_now told before (items_behind step.inventory before) step.gone step.new configs differs same tells
+          kept_are live_before live_now tells_items.gone_are tells_items.new_are changes;
+      stocked = stocked;
+      goes = tells_items.gone_are ∙ ap₂ items_less live_before live_now;
+      comes = tells_items.new_are ∙ ap₂ items_less live_now live_before;
+    }
+
+-- the sensors are settled as the live items go and come
+pub settles : (old new : WatchView) (gone fresh : List Item) (before staged now : LiveSensors) → gone ≡ live_left old new → fresh ≡ live_left new old
+    → AreKept before staged → ((name : List ℕ) → sensor_in now name ≡ settled gone fresh name (sensor_in staged name)) → Settles old new before now
+settles old new gone fresh before staged now goes comes kept follow =
+    λ name. follow name ∙ (λ i. settled (goes i) (comes i) name (kept name i))
+
+-- ---- limits
+
+-- the limit that the totals pass is the refusal
+pub limit_named : (configs : List Config) (entries : List Entry) (totals : Totals) (fault : InventoryFault) → totals ≡ totals_of configs (keys_in configs entries)
+    → limit_of totals ≡ Some fault → option_map limit_refusal (passed_limit configs (keys_in configs entries)) ≡ Some (limit_refusal fault)
+unfolding passed_limit
+limit_named configs entries totals fault is passed = ap (option_map limit_refusal) (ap limit_of (sym is) ∙ passed)
+
+pub no_refusal : (configs : List Config) (entries : List Entry) (kept : List (List (Option Place))) (totals : Totals) (inventory : List Item)
+    → IsStocked configs entries kept totals inventory → option_map limit_refusal (passed_limit configs (keys_in configs entries)) ≡ None
+unfolding passed_limit
+no_refusal configs entries kept totals inventory stocked = ap (option_map limit_refusal) (ap limit_of (sym stocked.counted) ∙ stocked.fits)
+
+sights_without : (place : Place) (entries : List Entry)
+    → map entry_sight (without_entry place entries) ≡ filter (λ (sight : Sight). not (is_eq (place_cmp place sight.place))) (map entry_sight entries)
+sights_without place [] = refl
+sights_without place (entry ∷ entries) = by (is_entry_at place entry) (sights_without place entries)
+  where
+    later : List Sight
+    later = filter (λ (sight : Sight). not (is_eq (place_cmp place sight.place))) (map entry_sight entries)
+
+    by : (here : Bool) → map entry_sight (without_entry place entries) ≡ later
+        → map entry_sight (cond (not here) (entry ∷ without_entry place entries) (without_entry place entries))
+        ≡ cond (not here) (entry_sight entry ∷ later) later
+    by true rest = rest
+    by false rest = ap (λ (sights : List Sight). entry_sight entry ∷ sights) rest
+
+-- where a FRU is taken away no limit is passed
+pub none_passed : (configs : List Config) (entries : List Entry) (kept : List (List (Option Place))) (totals totals_now : Totals) (inventory : List Item)
+    (place : Place) (fault : InventoryFault) → IsStocked configs entries kept totals inventory
+    → totals_now ≡ totals_of configs (keys_in configs (without_entry place entries)) → limit_of totals_now ≡ Some fault → ⊥
+unfolding passed_limit
+none_passed configs entries kept totals totals_now inventory place fault stocked is passed =
+    let none : limit_of (totals_of configs (keys_in configs (without_entry place entries))) ≡ None =
+    keys_fewer configs (length configs) (boards_of configs (without_entry place entries)) (boards_of configs entries) fewer
+    (ap limit_of (sym stocked.counted) ∙ stocked.fits) in
+    let differ : None ≡ Some fault = sym none ∙ ap limit_of (sym is) ∙ passed in absurd (cc)
+  where
+    fewer : (number : ℕ) → length (boards_of configs (without_entry place entries) number) ≤ length (boards_of configs entries number)
+    fewer number =
+        subst (λ (sights : List Sight). length (boards_in configs sights number) ≤ length (boards_of configs entries number))
+        (sym (sights_without place entries))
+        (boards_fewer configs (λ (sight : Sight). not (is_eq (place_cmp place sight.place))) (map entry_sight entries) number)
+
+-- ---- where no board comes or goes
+
+-- what is kept may be held in another way
+pub stocked_kept : (configs : List Config) (entries : List Entry) (kept kept_now : List (List (Option Place))) (totals : Totals) (inventory : List Item)
+    → ((number : ℕ) → kept_of kept_now number ≡ kept_of kept number) → IsStocked configs entries kept totals inventory
+    → IsStocked configs entries kept_now totals inventory
+stocked_kept configs entries kept kept_now totals inventory same stocked = record {
+  counted = stocked.counted;
+  items = stocked.items
+      ∙ ap (λ (kept : ℕ → List (Option Place)). naming_items configs kept (entry_fields (busy entries)) (keys_in configs entries)) (λ i number. sym (same number) i);
+  holds = λ number place has. subst (λ (kept : List (Option Place)). has_board kept place ≡ true) (sym (same number)) (stocked.holds number place has);
+  fits = stocked.fits;
+}
+
+-- an idle FRU comes or goes
+pub idle_stocked : (configs : List Config) (entries entries_now : List Entry) (kept : List (List (Option Place))) (totals : Totals) (inventory : List Item)
+    → busy entries_now ≡ busy entries
+    → ((number : ℕ) → boards_in configs (map entry_sight entries_now) number ≡ boards_in configs (map entry_sight entries) number)
+    → IsStocked configs entries kept totals inventory → IsStocked configs entries_now kept totals inventory
+idle_stocked configs entries entries_now kept totals inventory busy_same same stocked = record {
+  counted = stocked.counted ∙ sym (ap (λ (boards : ℕ → List (Option Place)). totals_of configs (keys_of (length configs) boards)) all_same);
+  items = stocked.items
+      ∙ sym (ap₂ (λ (entries : List Entry) (boards : ℕ → List (Option Place)).
+      naming_items configs (kept_of kept) (entry_fields entries) (keys_of (length configs) boards)) busy_same all_same);
+  holds = λ number place has. stocked.holds number place
+      (sym (ap (λ (boards : List (Option Place)). has_board boards place) (same number)) ∙ has);
+  fits = stocked.fits;
+}
+  where
+    all_same : boards_of configs entries_now ≡ boards_of configs entries
+    all_same = λ i number. same number i
+
+-- where nothing has happened
+pub stocked_none : IsStocked [] [] [] no_totals []
+unfolding items boards_in board_places
+stocked_none = record { counted = refl; items = refl; holds = λ number place has. absurd (cc); fits = refl }
+
+pub stocked_new : (configs : List Config) (entries : List Entry) (kept : List (List (Option Place))) (totals : Totals) (inventory : List Item)
+    → configs ≡ [] → entries ≡ [] → kept ≡ [] → totals ≡ no_totals → inventory ≡ [] → IsStocked configs entries kept totals inventory
+stocked_new configs entries kept totals inventory no_configs no_entries none_kept none_counted no_items =
+    subst (λ (configs : List Config). IsStocked configs entries kept totals inventory) (sym no_configs)
+    (subst (λ (entries : List Entry). IsStocked [] entries kept totals inventory) (sym no_entries)
+    (subst (λ (kept : List (List (Option Place))). IsStocked [] [] kept totals inventory) (sym none_kept)
+    (subst (λ (totals : Totals). IsStocked [] [] [] totals inventory) (sym none_counted)
+    (subst (λ (inventory : List Item). IsStocked [] [] [] no_totals inventory) (sym no_items) stocked_none))))

@@ -1,0 +1,319 @@
+use Rattle.std.proofs.Common.{arith, ◌≡◌, ◌∙◌, List, [], true, false, Option, Some, map, length, ◌==◌, ◌||◌, refl, ap, ap₂, sym, subst, append-nil, inl}
+use Rattle.std.specs.Prelude.{option_map}
+use Rattle.probe_lang.specs.Sights.{entry_sight}
+use Rattle.probe_lang.specs.declared.rows.Entry.{Entry}
+use Rattle.probe_lang.specs.Presents.{with_entry, are_by_place, holds_place}
+use Rattle.match_rows.specs.Matching.{entry_of}
+use Rattle.fru_rows.specs.Idle.{is_idle, busy}
+use Rattle.found_set.specs.Found.{facts}
+use Rattle.found_set.specs.Sets.{SetView}
+use Rattle.found_set.specs.declared.next_facts.NextFacts.{NextFacts}
+use Rattle.found_set.specs.Rows.{row_of, sights_of}
+use Rattle.found_set.specs.Events.{PlugEvent}
+use Rattle.inventory.specs.Boards.{boards_in}
+use Rattle.inventory.specs.Indexes.{kept_of}
+use Rattle.inventory.specs.Limits.{limit_of, passed_limit, totals_after}
+use Rattle.inventory.specs.Lists.{keys_of}
+use Rattle.bmc_report.specs.declared.refusal.Refusal.{Refusal}
+use Rattle.bmc_machine.specs.Refusals.{limit_refusal}
+use Rattle.bmc_watch.specs.Insides.{IsStocked}
+use Rattle.bmc_watch.specs.Settling.{Settles, SettlesUnless}
+use Rattle.bmc_watch.specs.Watches.{WatchView, view_refusal}
+use Rattle.bmc_watch.specs.Steps.{AddsFru, AddsUnless, with_fru}
+use Rattle.bmc_watch.proofs.EventsLemmas.{on_err, new_place, known_entry, free_there, plug_among, busy_plugged, seen, difference_is, gone_within}
+use Rattle.bmc_watch.proofs.EventsLemmas.{staged_within, tells_those}
+use Rattle.bmc_watch.proofs.EventsLemmas.{set_after, rows_plugged}
+use Rattle.match_rows.proofs.RowsLemmas.{with_entry_by_place}
+use Rattle.bmc_watch.specs.ItemSteps.{items_behind}
+use Rattle.bmc_watch.proofs.BusyLemmas.{busy_with}
+use Rattle.bmc_watch.proofs.ItemsLemmas.{busy_apart, free_apart}
+use Rattle.bmc_watch.proofs.KeysLemmas.{keeps}
+use Rattle.bmc_watch.proofs.StockLemmas.{IsNext, counted_then, items_plugged, limit_named, no_refusal, stocked_kept, settles, taken_over}
+use Rattle.bmc_watch.proofs.watch.Watch.add_busy.Goals as goal
+
+pub prepare_plug-requires-clause-new : goal.prepare_plug-requires-clause-new
+prepare_plug-requires-clause-new g c =
+    new_place c.self.inside.set.rows c.self.inside.rows.entries c.deref-entry.result.now c.self.inside.shelf c.args.boxed.value.place
+    c.args.boxed.value.fru c.self.invariant.rows
+    (c.deref-entry.ensures ∙ c.requires.known ∙ ap (λ (view : WatchView). entry_of view.configs c.args.boxed.value.place c.args.boxed.value.fru) (sym
+    c.self.view_is)) (ap (λ (view : WatchView). holds_place view.entries c.args.boxed.value.place) c.self.view_is ∙ c.requires.free)
+
+pub prepare_plug-requires-clause-known : goal.prepare_plug-requires-clause-known
+prepare_plug-requires-clause-known g c =
+    known_entry c.self.inside.set.rules c.self.inside.shelf c.deref-entry.result.now c.args.boxed.value.place c.args.boxed.value.fru c.self.invariant.rules
+    (c.deref-entry.ensures ∙ c.requires.known ∙ ap (λ (view : WatchView). entry_of view.configs c.args.boxed.value.place c.args.boxed.value.fru) (sym
+    c.self.view_is))
+
+pub with-after-requires-clause-free : goal.with-after-requires-clause-free
+with-after-requires-clause-free g c =
+    free_there c.args.boxed.value c.reserve.new.self.entries _
+    (ap (λ (there : List Entry). holds_place there c.args.boxed.value.place) c.in_ok-reserve.ensures.entries
+    ∙ ap (λ (view : WatchView). holds_place view.entries c.args.boxed.value.place) c.self.view_is ∙ c.requires.free) c.busy-2.ensures.value
+
+pub difference_by-requires : goal.difference_by-requires
+difference_by-requires g c =
+    inl (plug_among c.deref-entry.result.now (busy c.reserve.new.self.entries) c.of-before.result.entries c.with-after.result.entries
+    (c.of-before.ensures.entries ∙ c.busy.ensures.value)
+    (c.with-after.ensures.entries ∙ ap₂ with_entry (sym c.deref-entry.ensures) c.busy-2.ensures.value))
+
+-- ---- a limit
+
+pub returns-in-Err-clause-ok : goal.returns-in-Err-clause-ok
+returns-in-Err-clause-ok g c =
+    let order : are_by_place c.self.inside.rows.entries ≡ true = ap are_by_place (sym c.in_ok-reserve.ensures.entries) ∙ c.busy.ensures.all in
+    let free : holds_place c.self.inside.rows.entries c.args.boxed.value.place ≡ false =
+    ap (λ (view : WatchView). holds_place view.entries c.args.boxed.value.place) c.self.view_is ∙ c.requires.free in
+    let order_now = with_entry_by_place c.args.boxed.value c.self.inside.rows.entries order free in
+    let was = seen c.self.inside.shelf c.self.inside.rows.entries c.of-before.result c.self.inside.set.rules c.self.inside.set.rows
+    (c.of-before.ensures.facts ∙ c.facts.ensures.current ∙ ap (λ (set : SetView). facts set.rules (sights_of set.rows)) c.in_ok-next.ensures.ok)
+    c.self.invariant.rules c.self.invariant.rows (c.of-before.ensures.entries ∙ c.busy.ensures.value ∙ ap busy c.in_ok-reserve.ensures.entries) in
+    let is = seen c.self.inside.shelf (with_entry c.args.boxed.value c.self.inside.rows.entries) c.with-after.result c.self.inside.set.rules _
+    (c.with-after.ensures.facts ∙ c.facts-2.ensures ∙ ap (λ (next : NextFacts). next.facts) c.in_ok-next.ensures.next) c.self.invariant.rules
+    (rows_plugged c.self.inside.set.rows c.self.inside.rows.entries (with_entry c.args.boxed.value c.self.inside.rows.entries) c.deref-entry.result.now
+    c.self.invariant.rows order (ap is_idle c.deref-entry.ensures ∙ c.requires.busy)
+    (ap (λ (entry : Entry). with_entry entry c.self.inside.rows.entries) (sym c.deref-entry.ensures)))
+    (busy_plugged c.deref-entry.result.now c.args.boxed.value c.reserve.new.self.entries _ c.with-after.result.entries c.deref-entry.ensures
+    c.busy.ensures.all (ap is_idle c.deref-entry.ensures ∙ c.requires.busy) c.busy-2.ensures.value c.with-after.ensures.entries
+    ∙ ap (λ (there : List Entry). busy (with_entry c.args.boxed.value there)) c.in_ok-reserve.ensures.entries) in
+    let differs = difference_is c.self.inside.shelf c.self.inside.shelf c.of-before.result c.with-after.result c.self.inside.rows.entries
+    (with_entry c.args.boxed.value c.self.inside.rows.entries) c.in_ok-difference.difference.gone_boards c.in_ok-difference.difference.new_boards was is
+    c.in_ok-difference.ensures in
+    let totals = totals_after c.self.inside.shelf c.self.inside.totals c.in_ok-difference.difference.gone_boards
+    c.in_ok-difference.difference.new_boards in
+    let counted = counted_then c.self.inside.shelf c.self.inside.rows.entries (with_entry c.args.boxed.value c.self.inside.rows.entries)
+    c.in_ok-difference.difference.gone_boards c.in_ok-difference.difference.new_boards c.self.inside.totals totals order order_now differs
+    c.self.invariant.stock.counted refl in
+    let limit = limit_named c.self.inside.shelf (with_entry c.args.boxed.value c.self.inside.rows.entries) totals c.in-Err.fault counted c.in-Err.ensures
+    ∙ ap Some (sym c.limit_refused.ensures) in
+    let known = c.requires.known ∙ ap (λ (view : WatchView). entry_of view.configs c.args.boxed.value.place c.args.boxed.value.fru) (sym c.self.view_is) in
+    subst (λ (refusal : Option Refusal). AddsUnless refusal c.args.boxed.value.place c.args.boxed.value.fru c.args.self.now c.refuse.new.self
+    × SettlesUnless refusal c.args.self.now c.refuse.new.self c.args.sensors.now c.args.sensors.now)
+    (sym c.refuse.ensures.reason) ((
+      subst (λ (view : WatchView). view_refusal (with_fru view c.args.boxed.value.place c.args.boxed.value.fru) ≡ Some c.limit_refused.result) c.self.view_is
+          (ap (λ (entry : Entry). option_map limit_refusal (passed_limit c.self.inside.shelf (keys_of (length c.self.inside.shelf)
+          (boards_in c.self.inside.shelf (map entry_sight (with_entry entry c.self.inside.rows.entries)))))) (sym known) ∙ limit),
+      c.refuse.ensures.left
+          ∙ ap (λ (entries : List Entry). record {
+            configs = c.self.inside.shelf;
+            entries = entries;
+            plugged = c.self.inside.plugged;
+            kept = c.self.inside.keep.kept;
+            changes = [];
+          }) c.in_ok-reserve.ensures.entries
+          ∙ ap (λ (view : WatchView). record view { changes = [] }) c.self.view_is,
+    ), refl)
+
+-- ---- want of memory
+
+pub returns-in_err-items-clause-same : goal.returns-in_err-items-clause-same
+returns-in_err-items-clause-same g c =
+    on_err c.from_residual-in_err-items.result (record {
+      configs = ap (λ (view : WatchView). view.configs) c.self.view_is;
+      entries = c.in_ok-reserve.ensures.entries ∙ ap (λ (view : WatchView). view.entries) c.self.view_is;
+      plugged = ap (λ (view : WatchView). view.plugged) c.self.view_is;
+      kept = λ number. ap (λ (view : WatchView). kept_of view.kept number) c.self.view_is;
+      changes = ap (λ (view : WatchView). view.changes) c.self.view_is;
+    }, λ name. refl)
+
+pub invariant_of-self-in_err-gone : goal.invariant_of-self-in_err-gone
+invariant_of-self-in_err-gone g c = record {
+  rules = ap (λ (set : SetView). set.rules) c.in_ok-next.ensures.ok ∙ c.self.invariant.rules;
+  rows = ap (λ (set : SetView). set.rows) c.in_ok-next.ensures.ok ∙ c.self.invariant.rows
+      ∙ sym (ap (λ (entries : List Entry). map row_of (busy entries)) c.in_ok-reserve.ensures.entries);
+  none = ap (λ (entries : List Entry). c.self.inside.plugged || (length entries == 0)) c.in_ok-reserve.ensures.entries ∙ c.self.invariant.none;
+  stock = subst (λ (entries : List Entry). IsStocked c.self.inside.shelf entries c.stage_changes.new.keep.kept c.self.inside.totals
+      c.self.inside.inventory)
+      (sym c.in_ok-reserve.ensures.entries)
+      (stocked_kept c.self.inside.shelf c.self.inside.rows.entries c.self.inside.keep.kept c.stage_changes.new.keep.kept c.self.inside.totals
+      c.self.inside.inventory c.stage_changes.ensures.kept c.self.invariant.stock);
+  room = omega (arith, c.self.invariant.room, c.stage_changes.ensures.more);
+}
+
+pub returns-in_err-gone-clause-same : goal.returns-in_err-gone-clause-same
+returns-in_err-gone-clause-same g c =
+    on_err c.from_residual-in_err-gone.result (record {
+      configs = ap (λ (view : WatchView). view.configs) c.self.view_is;
+      entries = c.in_ok-reserve.ensures.entries ∙ ap (λ (view : WatchView). view.entries) c.self.view_is;
+      plugged = ap (λ (view : WatchView). view.plugged) c.self.view_is;
+      kept = λ number. c.stage_changes.ensures.kept number ∙ ap (λ (view : WatchView). kept_of view.kept number) c.self.view_is;
+      changes = c.stage_changes.ensures.changes ∙ ap (λ (view : WatchView). view.changes) c.self.view_is;
+    }, c.stage_changes.ensures.sensors)
+
+-- ---- what is told
+
+pub tell_changes-requires-clause-staged : goal.tell_changes-requires-clause-staged
+tell_changes-requires-clause-staged g c =
+    let order : are_by_place c.self.inside.rows.entries ≡ true = ap are_by_place (sym c.in_ok-reserve.ensures.entries) ∙ c.busy.ensures.all in
+    let was = seen c.self.inside.shelf c.self.inside.rows.entries c.of-before.result c.self.inside.set.rules c.self.inside.set.rows
+    (c.of-before.ensures.facts ∙ c.facts.ensures.current ∙ ap (λ (set : SetView). facts set.rules (sights_of set.rows)) c.in_ok-next.ensures.ok)
+    c.self.invariant.rules c.self.invariant.rows (c.of-before.ensures.entries ∙ c.busy.ensures.value ∙ ap busy c.in_ok-reserve.ensures.entries) in
+    let is = seen c.self.inside.shelf (with_entry c.args.boxed.value c.self.inside.rows.entries) c.with-after.result c.self.inside.set.rules _
+    (c.with-after.ensures.facts ∙ c.facts-2.ensures ∙ ap (λ (next : NextFacts). next.facts) c.in_ok-next.ensures.next) c.self.invariant.rules
+    (rows_plugged c.self.inside.set.rows c.self.inside.rows.entries (with_entry c.args.boxed.value c.self.inside.rows.entries) c.deref-entry.result.now
+    c.self.invariant.rows order (ap is_idle c.deref-entry.ensures ∙ c.requires.busy)
+    (ap (λ (entry : Entry). with_entry entry c.self.inside.rows.entries) (sym c.deref-entry.ensures)))
+    (busy_plugged c.deref-entry.result.now c.args.boxed.value c.reserve.new.self.entries _ c.with-after.result.entries c.deref-entry.ensures
+    c.busy.ensures.all (ap is_idle c.deref-entry.ensures ∙ c.requires.busy) c.busy-2.ensures.value c.with-after.ensures.entries
+    ∙ ap (λ (there : List Entry). busy (with_entry c.args.boxed.value there)) c.in_ok-reserve.ensures.entries) in
+    let differs = difference_is c.self.inside.shelf c.self.inside.shelf c.of-before.result c.with-after.result c.self.inside.rows.entries
+    (with_entry c.args.boxed.value c.self.inside.rows.entries) c.in_ok-difference.difference.gone_boards c.in_ok-difference.difference.new_boards was is
+    c.in_ok-difference.ensures in
+    staged_within _ _ _ _ _ _ _ differs c.in_ok-gone.ensures.staged
+
+pub tell_changes-requires-clause-gone : goal.tell_changes-requires-clause-gone
+tell_changes-requires-clause-gone g c =
+    let order : are_by_place c.self.inside.rows.entries ≡ true = ap are_by_place (sym c.in_ok-reserve.ensures.entries) ∙ c.busy.ensures.all in
+    let was = seen c.self.inside.shelf c.self.inside.rows.entries c.of-before.result c.self.inside.set.rules c.self.inside.set.rows
+    (c.of-before.ensures.facts ∙ c.facts.ensures.current ∙ ap (λ (set : SetView). facts set.rules (sights_of set.rows)) c.in_ok-next.ensures.ok)
+    c.self.invariant.rules c.self.invariant.rows (c.of-before.ensures.entries ∙ c.busy.ensures.value ∙ ap busy c.in_ok-reserve.ensures.entries) in
+    let is = seen c.self.inside.shelf (with_entry c.args.boxed.value c.self.inside.rows.entries) c.with-after.result c.self.inside.set.rules _
+    (c.with-after.ensures.facts ∙ c.facts-2.ensures ∙ ap (λ (next : NextFacts). next.facts) c.in_ok-next.ensures.next) c.self.invariant.rules
+    (rows_plugged c.self.inside.set.rows c.self.inside.rows.entries (with_entry c.args.boxed.value c.self.inside.rows.entries) c.deref-entry.result.now
+    c.self.invariant.rows order (ap is_idle c.deref-entry.ensures ∙ c.requires.busy)
+    (ap (λ (entry : Entry). with_entry entry c.self.inside.rows.entries) (sym c.deref-entry.ensures)))
+    (busy_plugged c.deref-entry.result.now c.args.boxed.value c.reserve.new.self.entries _ c.with-after.result.entries c.deref-entry.ensures
+    c.busy.ensures.all (ap is_idle c.deref-entry.ensures ∙ c.requires.busy) c.busy-2.ensures.value c.with-after.ensures.entries
+    ∙ ap (λ (there : List Entry). busy (with_entry c.args.boxed.value there)) c.in_ok-reserve.ensures.entries) in
+    let differs = difference_is c.self.inside.shelf c.self.inside.shelf c.of-before.result c.with-after.result c.self.inside.rows.entries
+    (with_entry c.args.boxed.value c.self.inside.rows.entries) c.in_ok-difference.difference.gone_boards c.in_ok-difference.difference.new_boards was is
+    c.in_ok-difference.ensures in
+    gone_within _ _ _ _ _ _ _ differs c.in_ok-gone.ensures.gone
+
+pub invariant_of-self-2 : goal.invariant_of-self-2
+invariant_of-self-2 g c =
+    let old : WatchView = record {
+      configs = c.self.inside.shelf;
+      entries = c.self.inside.rows.entries;
+      plugged = c.self.inside.plugged;
+      kept = c.self.inside.keep.kept;
+      changes = c.self.inside.changes.items;
+    } in
+    let new : WatchView = record {
+      configs = c.self.inside.shelf;
+      entries = c.plug.new.self.entries;
+      plugged = true;
+      kept = c.tell_changes.new.keep.kept;
+      changes = c.tell_items.new.changes.items;
+    } in
+    let now : c.plug.new.self.entries ≡ with_entry c.args.boxed.value c.self.inside.rows.entries =
+    c.plug.ensures ∙ ap (with_entry c.args.boxed.value) c.in_ok-reserve.ensures.entries in
+    let order : are_by_place c.self.inside.rows.entries ≡ true = ap are_by_place (sym c.in_ok-reserve.ensures.entries) ∙ c.busy.ensures.all in
+    let free : holds_place c.self.inside.rows.entries c.args.boxed.value.place ≡ false =
+    ap (λ (view : WatchView). holds_place view.entries c.args.boxed.value.place) c.self.view_is ∙ c.requires.free in
+    let order_now = with_entry_by_place c.args.boxed.value c.self.inside.rows.entries order free in
+    let was = seen c.self.inside.shelf c.self.inside.rows.entries c.of-before.result c.self.inside.set.rules c.self.inside.set.rows
+    (c.of-before.ensures.facts ∙ c.facts.ensures.current ∙ ap (λ (set : SetView). facts set.rules (sights_of set.rows)) c.in_ok-next.ensures.ok)
+    c.self.invariant.rules c.self.invariant.rows (c.of-before.ensures.entries ∙ c.busy.ensures.value ∙ ap busy c.in_ok-reserve.ensures.entries) in
+    let is = seen c.self.inside.shelf c.plug.new.self.entries c.with-after.result c.self.inside.set.rules _
+    (c.with-after.ensures.facts ∙ c.facts-2.ensures ∙ ap (λ (next : NextFacts). next.facts) c.in_ok-next.ensures.next) c.self.invariant.rules
+    (rows_plugged c.self.inside.set.rows c.self.inside.rows.entries c.plug.new.self.entries c.deref-entry.result.now
+    c.self.invariant.rows order (ap is_idle c.deref-entry.ensures ∙ c.requires.busy)
+    (now ∙ ap (λ (entry : Entry). with_entry entry c.self.inside.rows.entries) (sym c.deref-entry.ensures)))
+    (busy_plugged c.deref-entry.result.now c.args.boxed.value c.reserve.new.self.entries _ c.with-after.result.entries c.deref-entry.ensures
+    c.busy.ensures.all (ap is_idle c.deref-entry.ensures ∙ c.requires.busy) c.busy-2.ensures.value c.with-after.ensures.entries
+    ∙ ap busy (sym c.plug.ensures)) in
+    let differs = difference_is c.self.inside.shelf c.self.inside.shelf c.of-before.result c.with-after.result c.self.inside.rows.entries
+    c.plug.new.self.entries c.in_ok-difference.difference.gone_boards c.in_ok-difference.difference.new_boards was is
+    c.in_ok-difference.ensures in
+    let tells = tells_those c.self.inside.shelf c.in_ok-difference.difference.gone_boards c.in_ok-difference.difference.new_boards c.in_ok-gone.gone
+    c.stage_changes.new.keep.staged _ _ _ c.in_ok-gone.ensures.gone c.in_ok-gone.ensures.staged c.tell_changes.ensures.told in
+    let keep = keeps old new c.in_ok-difference.difference.gone_boards c.in_ok-difference.difference.new_boards c.stage_changes.new.keep.kept
+    c.tell_changes.new.keep.kept c.tell_changes.new.changes.items differs c.stage_changes.ensures.kept tells refl in
+    let order_then = ap are_by_place now ∙ order_now in
+    let among = plug_among c.args.boxed.value (busy c.self.inside.rows.entries) (busy c.self.inside.rows.entries) (busy c.plug.new.self.entries) refl
+    (ap busy now ∙ sym (busy_with c.args.boxed.value c.self.inside.rows.entries order c.requires.busy)) in
+    let apart = busy_apart c.args.boxed.value c.self.inside.rows.entries (free_apart c.args.boxed.value c.self.inside.rows.entries free) in
+    let next : IsNext old new c.in-Ok.totals (items_behind c.in_ok-items.items.inventory c.self.inside.inventory)
+    c.in_ok-items.items.gone c.in_ok-items.items.new =
+    taken_over old new [] c.in_ok-difference.difference.gone_boards c.in_ok-difference.difference.new_boards c.stage_changes.new.keep.kept
+    c.tell_changes.new.keep.kept c.tell_changes.new.changes.items c.self.inside.totals c.in-Ok.totals c.self.inside.inventory c.in_ok-items.items
+    (sym (append-nil c.self.inside.shelf)) c.self.invariant.stock differs c.stage_changes.ensures.kept tells refl
+    (counted_then c.self.inside.shelf c.self.inside.rows.entries c.plug.new.self.entries c.in_ok-difference.difference.gone_boards
+    c.in_ok-difference.difference.new_boards c.self.inside.totals c.in-Ok.totals order order_then differs c.self.invariant.stock.counted
+    c.in-Ok.ensures.0) (ap limit_of c.in-Ok.ensures.0 ∙ c.in-Ok.ensures.1)
+    (items_plugged c.self.inside.shelf c.self.inside.keep.kept c.tell_changes.new.keep.kept c.self.inside.rows.entries c.plug.new.self.entries
+    c.in_ok-difference.difference.gone_boards c.in_ok-difference.difference.new_boards order order_then differs keep c.self.inside.inventory
+    c.self.invariant.stock.items c.self.invariant.stock.holds c.with-after.result is c.args.boxed.value among apart c.in_ok-items.items.inventory
+    c.in_ok-items.ensures.listed)
+    c.in_ok-items.ensures.tells c.tell_items.ensures.items in
+    let set = set_after (PlugEvent (row_of c.deref-entry.result.now)) c.self.inside.set c.prepare_plug.new.self c.commit.new.self c.in_ok-next.ensures.ok
+    c.commit.ensures in
+    record {
+      rules = set.0 ∙ c.self.invariant.rules;
+      rows = set.1 ∙ rows_plugged c.self.inside.set.rows c.self.inside.rows.entries c.plug.new.self.entries c.deref-entry.result.now c.self.invariant.rows
+          order (ap is_idle c.deref-entry.ensures ∙ c.requires.busy)
+          (now ∙ ap (λ (entry : Entry). with_entry entry c.self.inside.rows.entries) (sym c.deref-entry.ensures));
+      none = refl;
+      stock = subst (IsStocked c.self.inside.shelf c.plug.new.self.entries c.tell_changes.new.keep.kept c.in-Ok.totals) (sym c.take_items.ensures)
+          next.stocked;
+      room = omega (arith, c.self.invariant.room, c.stage_changes.ensures.more, c.tell_changes.ensures.capacity, c.tell_items.ensures.capacity);
+    }
+
+pub returns-clause-ok : goal.returns-clause-ok
+returns-clause-ok g c =
+    let old : WatchView = record {
+      configs = c.self.inside.shelf;
+      entries = c.self.inside.rows.entries;
+      plugged = c.self.inside.plugged;
+      kept = c.self.inside.keep.kept;
+      changes = c.self.inside.changes.items;
+    } in
+    let new : WatchView = record {
+      configs = c.self.inside.shelf;
+      entries = c.plug.new.self.entries;
+      plugged = true;
+      kept = c.tell_changes.new.keep.kept;
+      changes = c.tell_items.new.changes.items;
+    } in
+    let now : c.plug.new.self.entries ≡ with_entry c.args.boxed.value c.self.inside.rows.entries =
+    c.plug.ensures ∙ ap (with_entry c.args.boxed.value) c.in_ok-reserve.ensures.entries in
+    let order : are_by_place c.self.inside.rows.entries ≡ true = ap are_by_place (sym c.in_ok-reserve.ensures.entries) ∙ c.busy.ensures.all in
+    let free : holds_place c.self.inside.rows.entries c.args.boxed.value.place ≡ false =
+    ap (λ (view : WatchView). holds_place view.entries c.args.boxed.value.place) c.self.view_is ∙ c.requires.free in
+    let order_now = with_entry_by_place c.args.boxed.value c.self.inside.rows.entries order free in
+    let was = seen c.self.inside.shelf c.self.inside.rows.entries c.of-before.result c.self.inside.set.rules c.self.inside.set.rows
+    (c.of-before.ensures.facts ∙ c.facts.ensures.current ∙ ap (λ (set : SetView). facts set.rules (sights_of set.rows)) c.in_ok-next.ensures.ok)
+    c.self.invariant.rules c.self.invariant.rows (c.of-before.ensures.entries ∙ c.busy.ensures.value ∙ ap busy c.in_ok-reserve.ensures.entries) in
+    let is = seen c.self.inside.shelf c.plug.new.self.entries c.with-after.result c.self.inside.set.rules _
+    (c.with-after.ensures.facts ∙ c.facts-2.ensures ∙ ap (λ (next : NextFacts). next.facts) c.in_ok-next.ensures.next) c.self.invariant.rules
+    (rows_plugged c.self.inside.set.rows c.self.inside.rows.entries c.plug.new.self.entries c.deref-entry.result.now
+    c.self.invariant.rows order (ap is_idle c.deref-entry.ensures ∙ c.requires.busy)
+    (now ∙ ap (λ (entry : Entry). with_entry entry c.self.inside.rows.entries) (sym c.deref-entry.ensures)))
+    (busy_plugged c.deref-entry.result.now c.args.boxed.value c.reserve.new.self.entries _ c.with-after.result.entries c.deref-entry.ensures
+    c.busy.ensures.all (ap is_idle c.deref-entry.ensures ∙ c.requires.busy) c.busy-2.ensures.value c.with-after.ensures.entries
+    ∙ ap busy (sym c.plug.ensures)) in
+    let differs = difference_is c.self.inside.shelf c.self.inside.shelf c.of-before.result c.with-after.result c.self.inside.rows.entries
+    c.plug.new.self.entries c.in_ok-difference.difference.gone_boards c.in_ok-difference.difference.new_boards was is
+    c.in_ok-difference.ensures in
+    let tells = tells_those c.self.inside.shelf c.in_ok-difference.difference.gone_boards c.in_ok-difference.difference.new_boards c.in_ok-gone.gone
+    c.stage_changes.new.keep.staged _ _ _ c.in_ok-gone.ensures.gone c.in_ok-gone.ensures.staged c.tell_changes.ensures.told in
+    let keep = keeps old new c.in_ok-difference.difference.gone_boards c.in_ok-difference.difference.new_boards c.stage_changes.new.keep.kept
+    c.tell_changes.new.keep.kept c.tell_changes.new.changes.items differs c.stage_changes.ensures.kept tells refl in
+    let order_then = ap are_by_place now ∙ order_now in
+    let among = plug_among c.args.boxed.value (busy c.self.inside.rows.entries) (busy c.self.inside.rows.entries) (busy c.plug.new.self.entries) refl
+    (ap busy now ∙ sym (busy_with c.args.boxed.value c.self.inside.rows.entries order c.requires.busy)) in
+    let apart = busy_apart c.args.boxed.value c.self.inside.rows.entries (free_apart c.args.boxed.value c.self.inside.rows.entries free) in
+    let next : IsNext old new c.in-Ok.totals (items_behind c.in_ok-items.items.inventory c.self.inside.inventory)
+    c.in_ok-items.items.gone c.in_ok-items.items.new =
+    taken_over old new [] c.in_ok-difference.difference.gone_boards c.in_ok-difference.difference.new_boards c.stage_changes.new.keep.kept
+    c.tell_changes.new.keep.kept c.tell_changes.new.changes.items c.self.inside.totals c.in-Ok.totals c.self.inside.inventory c.in_ok-items.items
+    (sym (append-nil c.self.inside.shelf)) c.self.invariant.stock differs c.stage_changes.ensures.kept tells refl
+    (counted_then c.self.inside.shelf c.self.inside.rows.entries c.plug.new.self.entries c.in_ok-difference.difference.gone_boards
+    c.in_ok-difference.difference.new_boards c.self.inside.totals c.in-Ok.totals order order_then differs c.self.invariant.stock.counted
+    c.in-Ok.ensures.0) (ap limit_of c.in-Ok.ensures.0 ∙ c.in-Ok.ensures.1)
+    (items_plugged c.self.inside.shelf c.self.inside.keep.kept c.tell_changes.new.keep.kept c.self.inside.rows.entries c.plug.new.self.entries
+    c.in_ok-difference.difference.gone_boards c.in_ok-difference.difference.new_boards order order_then differs keep c.self.inside.inventory
+    c.self.invariant.stock.items c.self.invariant.stock.holds c.with-after.result is c.args.boxed.value among apart c.in_ok-items.items.inventory
+    c.in_ok-items.ensures.listed)
+    c.in_ok-items.ensures.tells c.tell_items.ensures.items in
+    let follows = settles old new c.in_ok-items.items.gone c.in_ok-items.items.new c.args.sensors.now c.stage_changes.new.sensors c.settle_sensors.new.sensors
+    next.goes next.comes c.stage_changes.ensures.sensors c.settle_sensors.ensures in
+    subst (λ (view : WatchView). AddsFru c.args.boxed.value.place c.args.boxed.value.fru view new
+    × Settles view new c.args.sensors.now c.settle_sensors.new.sensors) c.self.view_is (record {
+      configs = refl;
+      entries = now ∙ ap (λ (entry : Entry). with_entry entry c.self.inside.rows.entries)
+          (c.requires.known ∙ ap (λ (view : WatchView). entry_of view.configs c.args.boxed.value.place c.args.boxed.value.fru) (sym c.self.view_is));
+      plugged = refl;
+      fits = no_refusal new.configs new.entries new.kept c.in-Ok.totals (items_behind c.in_ok-items.items.inventory c.self.inside.inventory) next.stocked;
+      moves = next.moves;
+    }, follows)

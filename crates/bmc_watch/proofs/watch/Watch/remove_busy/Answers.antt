@@ -1,0 +1,271 @@
+use Rattle.std.proofs.Common.{arith, ◌≡◌, ◌∙◌, [], true, false, find, option_map, refl, ap, sym, subst, append-nil, inr}
+use Rattle.std.specs.List.{AllByRecursion}
+use Rattle.probe_lang.specs.Presents.{without_entry, is_entry_at, are_by_place}
+use Rattle.fru_rows.specs.Idle.{busy}
+use Rattle.found_set.specs.Found.{facts}
+use Rattle.found_set.specs.Rows.{sights_of}
+use Rattle.found_set.specs.Events.{UnplugEvent}
+use Rattle.found_set.specs.Sets.{SetView}
+use Rattle.found_set.specs.declared.next_facts.NextFacts.{NextFacts}
+use Rattle.inventory.specs.Indexes.{kept_of}
+use Rattle.bmc_watch.specs.Settling.{Settles}
+use Rattle.bmc_watch.specs.Watches.{WatchView}
+use Rattle.bmc_watch.specs.Steps.{RemovesFru}
+use Rattle.bmc_watch.proofs.BusyLemmas.{busy_found, busy_without}
+use Rattle.bmc_watch.proofs.EventsLemmas.{on_err, busy_at, busy_none, held_place, unplug_among, seen, difference_is, gone_within, staged_within}
+use Rattle.bmc_watch.proofs.EventsLemmas.{tells_those, set_after}
+use Rattle.bmc_watch.proofs.EventsLemmas.{rows_unplugged, none_left}
+use Rattle.probe_lang.specs.declared.rows.Entry.{Entry}
+use Rattle.match_rows.proofs.RowsLemmas.{without_entry_by_place}
+use Rattle.inventory.specs.Limits.{limit_of, totals_after}
+use Rattle.bmc_watch.specs.Insides.{IsStocked}
+use Rattle.bmc_watch.specs.ItemSteps.{items_behind}
+use Rattle.bmc_watch.proofs.ItemsLemmas.{gone_apart}
+use Rattle.bmc_watch.proofs.KeysLemmas.{keeps}
+use Rattle.bmc_watch.proofs.StockLemmas.{IsNext, counted_then, items_unplugged, none_passed, stocked_kept, settles, taken_over}
+use Rattle.bmc_watch.proofs.watch.Watch.remove_busy.Goals as goal
+
+pub prepare_unplug-requires : goal.prepare_unplug-requires
+prepare_unplug-requires g c =
+    held_place c.self.inside.set.rows c.self.inside.rows.entries c.args.place c.in-Some.entry.now c.self.invariant.rows (sym c.in-Some.ensures.value)
+    (busy_at (find (is_entry_at c.args.place) c.args.self.now.entries) c.in-Some.entry.now
+    (c.in-Some.ensures.value ∙ ap (λ (view : WatchView). find (is_entry_at c.args.place) view.entries) c.self.view_is) c.requires)
+
+pub difference_by-requires : goal.difference_by-requires
+difference_by-requires g c =
+    inr (unplug_among c.args.place c.in-Some.entry.now (busy c.self.inside.rows.entries) c.of-before.result.entries c.without-after.result.entries
+    (ap are_by_place (sym c.busy.ensures.value) ∙ c.busy.ensures.order)
+    (busy_found c.args.place c.in-Some.entry.now c.self.inside.rows.entries (sym c.in-Some.ensures.value) (busy_at (find (is_entry_at c.args.place)
+    c.args.self.now.entries) c.in-Some.entry.now
+    (c.in-Some.ensures.value ∙ ap (λ (view : WatchView). find (is_entry_at c.args.place) view.entries) c.self.view_is) c.requires))
+    (c.of-before.ensures.entries ∙ c.busy.ensures.value)
+    (c.without-after.ensures.entries ∙ ap (without_entry c.args.place) c.busy-2.ensures.value))
+
+-- ---- want of memory
+
+pub invariant_of-self-in_err-gone : goal.invariant_of-self-in_err-gone
+invariant_of-self-in_err-gone g c = record {
+  rules = ap (λ (set : SetView). set.rules) c.in_ok-next.ensures.ok ∙ c.self.invariant.rules;
+  rows = ap (λ (set : SetView). set.rows) c.in_ok-next.ensures.ok ∙ c.self.invariant.rows;
+  none = c.self.invariant.none;
+  stock = stocked_kept c.self.inside.shelf c.self.inside.rows.entries c.self.inside.keep.kept c.stage_changes.new.keep.kept c.self.inside.totals
+      c.self.inside.inventory c.stage_changes.ensures.kept c.self.invariant.stock;
+  room = omega (arith, c.self.invariant.room, c.stage_changes.ensures.more);
+}
+
+pub returns-in_err-items-clause-same : goal.returns-in_err-items-clause-same
+returns-in_err-items-clause-same g c =
+    on_err c.from_residual-in_err-items.result (record {
+      configs = ap (λ (view : WatchView). view.configs) c.self.view_is;
+      entries = ap (λ (view : WatchView). view.entries) c.self.view_is;
+      plugged = ap (λ (view : WatchView). view.plugged) c.self.view_is;
+      kept = λ number. ap (λ (view : WatchView). kept_of view.kept number) c.self.view_is;
+      changes = ap (λ (view : WatchView). view.changes) c.self.view_is;
+    }, λ name. refl)
+
+pub returns-in_err-gone-clause-same : goal.returns-in_err-gone-clause-same
+returns-in_err-gone-clause-same g c =
+    on_err c.from_residual-in_err-gone.result (record {
+      configs = ap (λ (view : WatchView). view.configs) c.self.view_is;
+      entries = ap (λ (view : WatchView). view.entries) c.self.view_is;
+      plugged = ap (λ (view : WatchView). view.plugged) c.self.view_is;
+      kept = λ number. c.stage_changes.ensures.kept number ∙ ap (λ (view : WatchView). kept_of view.kept number) c.self.view_is;
+      changes = c.stage_changes.ensures.changes ∙ ap (λ (view : WatchView). view.changes) c.self.view_is;
+    }, c.stage_changes.ensures.sensors)
+
+-- ---- what is told
+
+pub tell_changes-requires-clause-staged : goal.tell_changes-requires-clause-staged
+tell_changes-requires-clause-staged g c =
+    let was = seen c.self.inside.shelf c.self.inside.rows.entries c.of-before.result c.self.inside.set.rules c.self.inside.set.rows
+    (c.of-before.ensures.facts ∙ c.facts.ensures.current ∙ ap (λ (set : SetView). facts set.rules (sights_of set.rows)) c.in_ok-next.ensures.ok)
+    c.self.invariant.rules c.self.invariant.rows (c.of-before.ensures.entries ∙ c.busy.ensures.value) in
+    let is = seen c.self.inside.shelf (without_entry c.args.place c.self.inside.rows.entries) c.without-after.result c.self.inside.set.rules _
+    (c.without-after.ensures.facts ∙ c.facts-2.ensures ∙ ap (λ (next : NextFacts). next.facts) c.in_ok-next.ensures.next) c.self.invariant.rules
+    (rows_unplugged c.self.inside.set.rows c.self.inside.rows.entries (without_entry c.args.place c.self.inside.rows.entries) c.args.place
+    c.self.invariant.rows refl)
+    (c.without-after.ensures.entries ∙ ap (without_entry c.args.place) c.busy-2.ensures.value
+    ∙ busy_without c.args.place c.self.inside.rows.entries) in
+    let differs = difference_is c.self.inside.shelf c.self.inside.shelf c.of-before.result c.without-after.result c.self.inside.rows.entries
+    (without_entry c.args.place c.self.inside.rows.entries) c.in_ok-difference.difference.gone_boards c.in_ok-difference.difference.new_boards was is
+    c.in_ok-difference.ensures in
+    staged_within _ _ _ _ _ _ _ differs c.in_ok-gone.ensures.staged
+
+pub tell_changes-requires-clause-gone : goal.tell_changes-requires-clause-gone
+tell_changes-requires-clause-gone g c =
+    let was = seen c.self.inside.shelf c.self.inside.rows.entries c.of-before.result c.self.inside.set.rules c.self.inside.set.rows
+    (c.of-before.ensures.facts ∙ c.facts.ensures.current ∙ ap (λ (set : SetView). facts set.rules (sights_of set.rows)) c.in_ok-next.ensures.ok)
+    c.self.invariant.rules c.self.invariant.rows (c.of-before.ensures.entries ∙ c.busy.ensures.value) in
+    let is = seen c.self.inside.shelf (without_entry c.args.place c.self.inside.rows.entries) c.without-after.result c.self.inside.set.rules _
+    (c.without-after.ensures.facts ∙ c.facts-2.ensures ∙ ap (λ (next : NextFacts). next.facts) c.in_ok-next.ensures.next) c.self.invariant.rules
+    (rows_unplugged c.self.inside.set.rows c.self.inside.rows.entries (without_entry c.args.place c.self.inside.rows.entries) c.args.place
+    c.self.invariant.rows refl)
+    (c.without-after.ensures.entries ∙ ap (without_entry c.args.place) c.busy-2.ensures.value
+    ∙ busy_without c.args.place c.self.inside.rows.entries) in
+    let differs = difference_is c.self.inside.shelf c.self.inside.shelf c.of-before.result c.without-after.result c.self.inside.rows.entries
+    (without_entry c.args.place c.self.inside.rows.entries) c.in_ok-difference.difference.gone_boards c.in_ok-difference.difference.new_boards was is
+    c.in_ok-difference.ensures in
+    gone_within _ _ _ _ _ _ _ differs c.in_ok-gone.ensures.gone
+
+pub invariant_of-self-2 : goal.invariant_of-self-2
+invariant_of-self-2 g c =
+    let old : WatchView = record {
+      configs = c.self.inside.shelf;
+      entries = c.self.inside.rows.entries;
+      plugged = c.self.inside.plugged;
+      kept = c.self.inside.keep.kept;
+      changes = c.self.inside.changes.items;
+    } in
+    let new : WatchView = record {
+      configs = c.self.inside.shelf;
+      entries = c.unplug.new.self.entries;
+      plugged = c.self.inside.plugged;
+      kept = c.tell_changes.new.keep.kept;
+      changes = c.tell_items.new.changes.items;
+    } in
+    let order : are_by_place c.self.inside.rows.entries ≡ true = c.in-Some.ensures.order in
+    let was = seen c.self.inside.shelf c.self.inside.rows.entries c.of-before.result c.self.inside.set.rules c.self.inside.set.rows
+    (c.of-before.ensures.facts ∙ c.facts.ensures.current ∙ ap (λ (set : SetView). facts set.rules (sights_of set.rows)) c.in_ok-next.ensures.ok)
+    c.self.invariant.rules c.self.invariant.rows (c.of-before.ensures.entries ∙ c.busy.ensures.value) in
+    let is = seen c.self.inside.shelf c.unplug.new.self.entries c.without-after.result c.self.inside.set.rules _
+    (c.without-after.ensures.facts ∙ c.facts-2.ensures ∙ ap (λ (next : NextFacts). next.facts) c.in_ok-next.ensures.next) c.self.invariant.rules
+    (rows_unplugged c.self.inside.set.rows c.self.inside.rows.entries c.unplug.new.self.entries c.args.place
+    c.self.invariant.rows c.unplug.ensures.entries)
+    (c.without-after.ensures.entries ∙ ap (without_entry c.args.place) c.busy-2.ensures.value
+    ∙ busy_without c.args.place c.self.inside.rows.entries ∙ ap busy (sym c.unplug.ensures.entries)) in
+    let differs = difference_is c.self.inside.shelf c.self.inside.shelf c.of-before.result c.without-after.result c.self.inside.rows.entries
+    c.unplug.new.self.entries c.in_ok-difference.difference.gone_boards c.in_ok-difference.difference.new_boards was is
+    c.in_ok-difference.ensures in
+    let tells = tells_those c.self.inside.shelf c.in_ok-difference.difference.gone_boards c.in_ok-difference.difference.new_boards c.in_ok-gone.gone
+    c.stage_changes.new.keep.staged _ _ _ c.in_ok-gone.ensures.gone c.in_ok-gone.ensures.staged c.tell_changes.ensures.told in
+    let keep = keeps old new c.in_ok-difference.difference.gone_boards c.in_ok-difference.difference.new_boards c.stage_changes.new.keep.kept
+    c.tell_changes.new.keep.kept c.tell_changes.new.changes.items differs c.stage_changes.ensures.kept tells refl in
+    let order_then = ap are_by_place c.unplug.ensures.entries ∙ without_entry_by_place c.args.place c.self.inside.rows.entries order in
+    let works = busy_at (find (is_entry_at c.args.place) c.args.self.now.entries) c.in-Some.entry.now
+    (c.in-Some.ensures.value ∙ ap (λ (view : WatchView). find (is_entry_at c.args.place) view.entries) c.self.view_is) c.requires in
+    let found = busy_found c.args.place c.in-Some.entry.now c.self.inside.rows.entries (sym c.in-Some.ensures.value) works in
+    let left : busy c.unplug.new.self.entries ≡ without_entry c.args.place (busy c.self.inside.rows.entries) =
+    ap busy c.unplug.ensures.entries ∙ sym (busy_without c.args.place c.self.inside.rows.entries) in
+    let among = unplug_among c.args.place c.in-Some.entry.now (busy c.self.inside.rows.entries) (busy c.self.inside.rows.entries)
+    (busy c.unplug.new.self.entries) (ap are_by_place (sym c.busy.ensures.value) ∙ c.busy.ensures.order) found refl left in
+    let apart = subst (AllByRecursion (λ (each : Entry). is_entry_at each.place c.in-Some.entry.now ≡ false)) (sym left)
+    (gone_apart c.args.place c.in-Some.entry.now (busy c.self.inside.rows.entries) found) in
+    let next : IsNext old new c.in-Ok.totals (items_behind c.in_ok-items.items.inventory c.self.inside.inventory)
+    c.in_ok-items.items.gone c.in_ok-items.items.new =
+    taken_over old new [] c.in_ok-difference.difference.gone_boards c.in_ok-difference.difference.new_boards c.stage_changes.new.keep.kept
+    c.tell_changes.new.keep.kept c.tell_changes.new.changes.items c.self.inside.totals c.in-Ok.totals c.self.inside.inventory c.in_ok-items.items
+    (sym (append-nil c.self.inside.shelf)) c.self.invariant.stock differs c.stage_changes.ensures.kept tells refl
+    (counted_then c.self.inside.shelf c.self.inside.rows.entries c.unplug.new.self.entries c.in_ok-difference.difference.gone_boards
+    c.in_ok-difference.difference.new_boards c.self.inside.totals c.in-Ok.totals order order_then differs c.self.invariant.stock.counted
+    c.in-Ok.ensures.0) (ap limit_of c.in-Ok.ensures.0 ∙ c.in-Ok.ensures.1)
+    (items_unplugged c.self.inside.shelf c.self.inside.keep.kept c.tell_changes.new.keep.kept c.self.inside.rows.entries c.unplug.new.self.entries
+    c.in_ok-difference.difference.gone_boards c.in_ok-difference.difference.new_boards order order_then differs keep c.self.inside.inventory
+    c.self.invariant.stock.items c.self.invariant.stock.holds c.without-after.result is c.in-Some.entry.now among apart
+    c.in_ok-items.items.inventory c.in_ok-items.ensures.listed)
+    c.in_ok-items.ensures.tells c.tell_items.ensures.items in
+    let set = set_after (UnplugEvent c.args.place) c.self.inside.set c.prepare_unplug.new.self c.commit.new.self c.in_ok-next.ensures.ok c.commit.ensures in
+    record {
+      rules = set.0 ∙ c.self.invariant.rules;
+      rows = set.1 ∙ rows_unplugged c.self.inside.set.rows c.self.inside.rows.entries c.unplug.new.self.entries c.args.place c.self.invariant.rows
+          c.unplug.ensures.entries;
+      none = none_left c.self.inside.plugged c.self.inside.rows.entries c.unplug.new.self.entries c.args.place c.self.invariant.none
+          c.unplug.ensures.entries;
+      stock = subst (IsStocked c.self.inside.shelf c.unplug.new.self.entries c.tell_changes.new.keep.kept c.in-Ok.totals) (sym c.take_items.ensures)
+          next.stocked;
+      room = omega (arith, c.self.invariant.room, c.stage_changes.ensures.more, c.tell_changes.ensures.capacity, c.tell_items.ensures.capacity);
+    }
+
+pub returns-clause-ok : goal.returns-clause-ok
+returns-clause-ok g c =
+    let old : WatchView = record {
+      configs = c.self.inside.shelf;
+      entries = c.self.inside.rows.entries;
+      plugged = c.self.inside.plugged;
+      kept = c.self.inside.keep.kept;
+      changes = c.self.inside.changes.items;
+    } in
+    let new : WatchView = record {
+      configs = c.self.inside.shelf;
+      entries = c.unplug.new.self.entries;
+      plugged = c.self.inside.plugged;
+      kept = c.tell_changes.new.keep.kept;
+      changes = c.tell_items.new.changes.items;
+    } in
+    let order : are_by_place c.self.inside.rows.entries ≡ true = c.in-Some.ensures.order in
+    let was = seen c.self.inside.shelf c.self.inside.rows.entries c.of-before.result c.self.inside.set.rules c.self.inside.set.rows
+    (c.of-before.ensures.facts ∙ c.facts.ensures.current ∙ ap (λ (set : SetView). facts set.rules (sights_of set.rows)) c.in_ok-next.ensures.ok)
+    c.self.invariant.rules c.self.invariant.rows (c.of-before.ensures.entries ∙ c.busy.ensures.value) in
+    let is = seen c.self.inside.shelf c.unplug.new.self.entries c.without-after.result c.self.inside.set.rules _
+    (c.without-after.ensures.facts ∙ c.facts-2.ensures ∙ ap (λ (next : NextFacts). next.facts) c.in_ok-next.ensures.next) c.self.invariant.rules
+    (rows_unplugged c.self.inside.set.rows c.self.inside.rows.entries c.unplug.new.self.entries c.args.place
+    c.self.invariant.rows c.unplug.ensures.entries)
+    (c.without-after.ensures.entries ∙ ap (without_entry c.args.place) c.busy-2.ensures.value
+    ∙ busy_without c.args.place c.self.inside.rows.entries ∙ ap busy (sym c.unplug.ensures.entries)) in
+    let differs = difference_is c.self.inside.shelf c.self.inside.shelf c.of-before.result c.without-after.result c.self.inside.rows.entries
+    c.unplug.new.self.entries c.in_ok-difference.difference.gone_boards c.in_ok-difference.difference.new_boards was is
+    c.in_ok-difference.ensures in
+    let tells = tells_those c.self.inside.shelf c.in_ok-difference.difference.gone_boards c.in_ok-difference.difference.new_boards c.in_ok-gone.gone
+    c.stage_changes.new.keep.staged _ _ _ c.in_ok-gone.ensures.gone c.in_ok-gone.ensures.staged c.tell_changes.ensures.told in
+    let keep = keeps old new c.in_ok-difference.difference.gone_boards c.in_ok-difference.difference.new_boards c.stage_changes.new.keep.kept
+    c.tell_changes.new.keep.kept c.tell_changes.new.changes.items differs c.stage_changes.ensures.kept tells refl in
+    let order_then = ap are_by_place c.unplug.ensures.entries ∙ without_entry_by_place c.args.place c.self.inside.rows.entries order in
+    let works = busy_at (find (is_entry_at c.args.place) c.args.self.now.entries) c.in-Some.entry.now
+    (c.in-Some.ensures.value ∙ ap (λ (view : WatchView). find (is_entry_at c.args.place) view.entries) c.self.view_is) c.requires in
+    let found = busy_found c.args.place c.in-Some.entry.now c.self.inside.rows.entries (sym c.in-Some.ensures.value) works in
+    let left : busy c.unplug.new.self.entries ≡ without_entry c.args.place (busy c.self.inside.rows.entries) =
+    ap busy c.unplug.ensures.entries ∙ sym (busy_without c.args.place c.self.inside.rows.entries) in
+    let among = unplug_among c.args.place c.in-Some.entry.now (busy c.self.inside.rows.entries) (busy c.self.inside.rows.entries)
+    (busy c.unplug.new.self.entries) (ap are_by_place (sym c.busy.ensures.value) ∙ c.busy.ensures.order) found refl left in
+    let apart = subst (AllByRecursion (λ (each : Entry). is_entry_at each.place c.in-Some.entry.now ≡ false)) (sym left)
+    (gone_apart c.args.place c.in-Some.entry.now (busy c.self.inside.rows.entries) found) in
+    let next : IsNext old new c.in-Ok.totals (items_behind c.in_ok-items.items.inventory c.self.inside.inventory)
+    c.in_ok-items.items.gone c.in_ok-items.items.new =
+    taken_over old new [] c.in_ok-difference.difference.gone_boards c.in_ok-difference.difference.new_boards c.stage_changes.new.keep.kept
+    c.tell_changes.new.keep.kept c.tell_changes.new.changes.items c.self.inside.totals c.in-Ok.totals c.self.inside.inventory c.in_ok-items.items
+    (sym (append-nil c.self.inside.shelf)) c.self.invariant.stock differs c.stage_changes.ensures.kept tells refl
+    (counted_then c.self.inside.shelf c.self.inside.rows.entries c.unplug.new.self.entries c.in_ok-difference.difference.gone_boards
+    c.in_ok-difference.difference.new_boards c.self.inside.totals c.in-Ok.totals order order_then differs c.self.invariant.stock.counted
+    c.in-Ok.ensures.0) (ap limit_of c.in-Ok.ensures.0 ∙ c.in-Ok.ensures.1)
+    (items_unplugged c.self.inside.shelf c.self.inside.keep.kept c.tell_changes.new.keep.kept c.self.inside.rows.entries c.unplug.new.self.entries
+    c.in_ok-difference.difference.gone_boards c.in_ok-difference.difference.new_boards order order_then differs keep c.self.inside.inventory
+    c.self.invariant.stock.items c.self.invariant.stock.holds c.without-after.result is c.in-Some.entry.now among apart
+    c.in_ok-items.items.inventory c.in_ok-items.ensures.listed)
+    c.in_ok-items.ensures.tells c.tell_items.ensures.items in
+    let follows = settles old new c.in_ok-items.items.gone c.in_ok-items.items.new c.args.sensors.now c.stage_changes.new.sensors c.settle_sensors.new.sensors
+    next.goes next.comes c.stage_changes.ensures.sensors c.settle_sensors.ensures in
+    subst (λ (view : WatchView). RemovesFru c.args.place view new × Settles view new c.args.sensors.now c.settle_sensors.new.sensors) c.self.view_is (record {
+      configs = refl;
+      entries = c.unplug.ensures.entries;
+      plugged = refl;
+      moves = next.moves;
+    }, follows)
+
+pub unreachable-requires : goal.unreachable-requires
+unreachable-requires g c =
+    busy_none (find (is_entry_at c.args.place) c.args.self.now.entries)
+    (sym (ap (option_map (λ entry. entry.now)) c.in_default.is) ∙ c.entry.ensures.value
+    ∙ ap (λ (view : WatchView). find (is_entry_at c.args.place) view.entries) c.self.view_is) c.requires
+
+-- where a FRU is taken away no limit is passed
+pub unreachable-requires-in-Err : goal.unreachable-requires-in-Err
+unreachable-requires-in-Err g c =
+    let order : are_by_place c.self.inside.rows.entries ≡ true = c.in-Some.ensures.order in
+    let was = seen c.self.inside.shelf c.self.inside.rows.entries c.of-before.result c.self.inside.set.rules c.self.inside.set.rows
+    (c.of-before.ensures.facts ∙ c.facts.ensures.current ∙ ap (λ (set : SetView). facts set.rules (sights_of set.rows)) c.in_ok-next.ensures.ok)
+    c.self.invariant.rules c.self.invariant.rows (c.of-before.ensures.entries ∙ c.busy.ensures.value) in
+    let is = seen c.self.inside.shelf (without_entry c.args.place c.self.inside.rows.entries) c.without-after.result c.self.inside.set.rules _
+    (c.without-after.ensures.facts ∙ c.facts-2.ensures ∙ ap (λ (next : NextFacts). next.facts) c.in_ok-next.ensures.next) c.self.invariant.rules
+    (rows_unplugged c.self.inside.set.rows c.self.inside.rows.entries (without_entry c.args.place c.self.inside.rows.entries) c.args.place
+    c.self.invariant.rows refl)
+    (c.without-after.ensures.entries ∙ ap (without_entry c.args.place) c.busy-2.ensures.value
+    ∙ busy_without c.args.place c.self.inside.rows.entries) in
+    let differs = difference_is c.self.inside.shelf c.self.inside.shelf c.of-before.result c.without-after.result c.self.inside.rows.entries
+    (without_entry c.args.place c.self.inside.rows.entries) c.in_ok-difference.difference.gone_boards c.in_ok-difference.difference.new_boards was is
+    c.in_ok-difference.ensures in
+    let totals = totals_after c.self.inside.shelf c.self.inside.totals c.in_ok-difference.difference.gone_boards
+    c.in_ok-difference.difference.new_boards in
+    none_passed c.self.inside.shelf c.self.inside.rows.entries c.self.inside.keep.kept c.self.inside.totals totals c.self.inside.inventory c.args.place
+    c.in-Err.field-0 c.self.invariant.stock
+    (counted_then c.self.inside.shelf c.self.inside.rows.entries (without_entry c.args.place c.self.inside.rows.entries)
+    c.in_ok-difference.difference.gone_boards c.in_ok-difference.difference.new_boards c.self.inside.totals totals order
+    (without_entry_by_place c.args.place c.self.inside.rows.entries order) differs c.self.invariant.stock.counted refl) c.in-Err.ensures

@@ -1,0 +1,13 @@
+-- What is remembered of a sensor while it takes a reading.
+use Rattle.std.specs.Prelude.{ℕ, ◌≡◌, ◌<◌, false, slice_index_or}
+use Rattle.sensor_core.specs.Sensors.{Sensor, has_failed, has_alarm}
+use Rattle.bmc_watch.specs.declared.readings.Glimpse.{Glimpse}
+
+-- the most changes of a reading: a failure, and an alarm of each limit
+abbrev pub most_changes : ℕ
+most_changes = 9
+
+-- a glimpse is of a sensor that shows this
+pub record Shows (glimpse : Glimpse) (sensor : Sensor) : Type 0 where
+  pub failed : glimpse.failed ≡ has_failed sensor
+  pub alarms : (position : ℕ) → position < 8 → slice_index_or glimpse.alarms position false ≡ has_alarm sensor position

@@ -1,0 +1,25 @@
+-- The sensors of live items where these go and come.
+use Rattle.std.specs.Prelude.{ℕ, ◌≡◌, List, Option, Some, None}
+use Rattle.cfg_json.specs.declared.item.Item.{Item}
+use Rattle.inventory.specs.Items.{items_less, live}
+use Rattle.live_sensors.specs.Items.{settled}
+use Rattle.live_sensors.specs.Sensors.{LiveSensors, sensor_in}
+use Rattle.bmc_report.specs.declared.refusal.Refusal.{Refusal}
+use Rattle.bmc_watch.specs.Watches.{WatchView, view_items}
+
+-- each name has the sensor that it had
+abbrev pub AreKept : LiveSensors → LiveSensors → Type 0
+AreKept before now = (name : List ℕ) → sensor_in now name ≡ sensor_in before name
+
+-- the live items that are here and not there
+abbrev pub live_left : WatchView → WatchView → List Item
+live_left here there = items_less (live (view_items here)) (live (view_items there))
+
+-- the sensors of live items that go are dropped, and blank ones are started for those that come
+abbrev pub Settles : WatchView → WatchView → LiveSensors → LiveSensors → Type 0
+Settles old new before now = (name : List ℕ) → sensor_in now name ≡ settled (live_left old new) (live_left new old) name (sensor_in before name)
+
+-- the same, unless a step was refused
+abbrev pub SettlesUnless : Option Refusal → WatchView → WatchView → LiveSensors → LiveSensors → Type 0
+SettlesUnless None old new before now = Settles old new before now
+SettlesUnless (Some refusal) old new before now = now ≡ before

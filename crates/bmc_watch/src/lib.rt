@@ -1,0 +1,10 @@
+//! Watches the bus: takes configurations and FRUs that come and go, tells what changes, and settles the live sensors.
+#![tactic(auto)]
+
+mod changes;
+mod readings;
+mod refusing;
+mod watch;
+
+pub use readings::Glimpse;
+pub use watch::Watch;

@@ -1,0 +1,2 @@
+pub mod Sensors
+pub mod Items

@@ -1,0 +1,8 @@
+//! Holds the live sensors, each under its name.
+#![tactic(auto)]
+
+mod sensors;
+#[cfg(test)]
+mod tests;
+
+pub use sensors::LiveSensors;

@@ -1,0 +1,192 @@
+ghost use Rattle.std.specs.Prelude.{◌≡◌, ◌<◌, ◌≤◌, ◌+◌, ◌↔◌, ℕ, List, [], length, All, None, Some, is_none, if◌then◌else◌, IsOk, IfOk, OnOk, OnErr, IfSome, bytes_eq};
+ghost use Rattle.sensor_core.specs.Settings.{IsValidSetting, IsRaw};
+ghost use Rattle.sensor_core.specs.Sensors.{Good, Lost, sensor_of};
+ghost use Rattle.sensor_core.specs.Updates.{good_after, lost_after, Takes};
+ghost use Rattle.cfg_json.specs.declared.item.Item.{Item};
+ghost use Rattle.live_sensors.specs.Sensors.{slot_of, sensor_in, ContainsSlot, AtSlot, Changes};
+ghost use Rattle.inventory.specs.Items.{IsValidPart, IsValidItem};
+ghost use Rattle.live_sensors.specs.Items.{setting_in, without, started_one, dropped, started, settled};
+
+use bmc_base::{Name, OutOfMemory};
+use cfg_json::{Item, ItemPart};
+use indexmap::IndexMap;
+use sensor_core::{ReadingRange, Sensor, SensorSetting, SensorTable};
+use std::alloc::Global;
+use std::marker::Model;
+
+/// The live sensors, each under its name, and room for more of them. A sensor keeps its slot until it
+/// is dropped.
+#[derive(Drop)]
+pub struct LiveSensors {
+    slots: IndexMap<Name, usize>,
+    table: SensorTable,
+}
+
+impl Model for LiveSensors {
+    ghost use Rattle.std.specs.Prelude.{min};
+    ghost use Rattle.indexmap.specs.IndexMap.{spare};
+    ghost use Rattle.live_sensors.specs.Sensors.{LiveSensors, IsTied};
+
+    ghost Value = { LiveSensors };
+
+    ghost view = { λ s. record { names = s.slots.entries; slots = s.table.slots; room = min s.table.spare (spare s.slots) } };
+
+    ghost invariant = { λ s. IsTied s.slots.entries s.table.slots };
+}
+
+// Returns the setting of a sensor item.
+fn setting_in(part: &ItemPart) -> Option<SensorSetting>
+    ensures { result ≡ setting_in part.now }
+{
+    match part {
+        ItemPart::Sensor(sensor) => Some(sensor.setting),
+        _ => None,
+    }
+}
+
+impl LiveSensors {
+    /// Returns no sensors.
+    pub fn new(alloc: Global) -> Result<LiveSensors, OutOfMemory>
+        ensures names { IfOk result (λ sensors. sensors.names ≡ []) }
+        ensures none { IfOk result (λ sensors. (name : List ℕ) → sensor_in sensors name ≡ None) }
+    {
+        Ok(LiveSensors {
+            slots: IndexMap::new(alloc),
+            table: SensorTable::new(alloc)?,
+        })
+    }
+
+    /// Makes room for `n` more sensors. Where there is room for them it takes no memory. The sensors
+    /// keep their slots, and no room is given back, also for want of memory.
+    pub fn reserve(&mut self, alloc: Global, n: usize) -> Result<(), OutOfMemory>
+        ensures names { self.new.names ≡ self.old.names }
+        ensures slots { self.new.slots ≡ self.old.slots }
+        ensures room { OnOk result (n ≤ self.new.room) }
+        ensures more { self.old.room ≤ self.new.room }
+        ensures had_room { 0 < n → n ≤ self.old.room → IsOk result }
+    {
+        self.slots.reserve(n)?;
+        self.table.reserve(alloc, n)
+    }
+
+    /// Drops the sensors of the items that are gone, and then starts a blank one for each new sensor
+    /// item. It takes no memory, since there is room.
+    pub fn settle(&mut self, gone: &[Item], new: &[Item])
+        requires room { length new.now ≤ self.old.room }
+        requires valid { All IsValidItem new.now }
+        ensures { (name : List ℕ) → sensor_in self.new name ≡ settled gone.now new.now name (sensor_in self.old name) }
+    {
+        self.drop_all(gone);
+        self.start_all(new);
+    }
+
+    /// Returns the slot of a name, if the name has a sensor.
+    pub fn slot(&self, name: &Name) -> Option<usize>
+        ensures slot { result ≡ slot_of self.now name.now }
+        ensures sensor { is_none result ≡ is_none (sensor_in self.now name.now) }
+        ensures contains { IfSome result (ContainsSlot self.now.names) }
+    {
+        self.slots.get(name).copied()
+    }
+
+    /// Borrows the sensor in a slot that a name has.
+    pub fn at(&self, slot: usize) -> &Sensor
+        requires { ContainsSlot self.now.names slot }
+        ensures { (name : List ℕ) → slot_of self.now name ≡ Some slot → sensor_in self.now name ≡ Some result.now }
+    {
+        match self.table.get(slot) {
+            Some(sensor) => sensor,
+            None => unreachable!(),
+        }
+    }
+
+    /// Takes a good reading of the sensor in a slot that a name has, as [`Sensor::good`] does.
+    pub fn good(&mut self, slot: usize, raw: i64, tick: u64) -> Result<(), ReadingRange>
+        requires { ContainsSlot self.old.names slot }
+        ensures range { IsOk result ↔ IsRaw raw }
+        ensures changes { OnOk result (Changes self.old self.new slot (λ sensor. good_after sensor raw tick)) }
+        ensures takes { OnOk result (AtSlot self.old slot (λ sensor. Takes sensor (good_after sensor raw tick) (Good raw tick))) }
+        ensures same { OnErr result (self.new ≡ self.old) }
+    {
+        self.table.good_at(slot, raw, tick)
+    }
+
+    /// Takes a loss of the sensor in a slot that a name has, as [`Sensor::lost`] does.
+    pub fn lost(&mut self, slot: usize)
+        requires { ContainsSlot self.old.names slot }
+        ensures changes { Changes self.old self.new slot lost_after }
+        ensures takes { AtSlot self.old slot (λ sensor. Takes sensor (lost_after sensor) Lost) }
+    {
+        self.table.lost_at(slot);
+    }
+
+    // Drops the sensor of a name, if it has one.
+    fn forget(&mut self, name: &Name)
+        ensures sensors { (other : List ℕ) → sensor_in self.new other ≡ (if bytes_eq name.now other then None else sensor_in self.old other) }
+        ensures room { self.old.room ≤ self.new.room }
+    {
+        if let Some(slot) = self.slots.swap_remove(name) {
+            self.table.take(slot);
+        }
+    }
+
+    // Starts a blank sensor under a name that has none.
+    fn put(&mut self, name: Name, setting: SensorSetting)
+        requires valid { IsValidSetting setting }
+        requires room { 0 < self.old.room }
+        requires free { sensor_in self.old name ≡ None }
+        ensures sensors { (other : List ℕ)
+            → sensor_in self.new other ≡ (if bytes_eq name other then Some (sensor_of setting []) else sensor_in self.old other) }
+        ensures room { self.old.room ≤ self.new.room + 1 }
+    {
+        let slot = self.table.put(Sensor::new(setting));
+        match self.slots.insert(name, slot) {
+            Ok(_) => {}
+            Err(_) => unreachable!(),
+        }
+    }
+
+    // Drops the sensor of an item that is gone.
+    fn drop_one(&mut self, item: &Item)
+        ensures sensors { (name : List ℕ) → sensor_in self.new name ≡ without item.now name (sensor_in self.old name) }
+        ensures room { self.old.room ≤ self.new.room }
+    {
+        if setting_in(&item.part).is_some() {
+            self.forget(&item.name);
+        }
+    }
+
+    // Starts a blank sensor for a new sensor item, in the place of one that its name may have.
+    fn start_one(&mut self, item: &Item)
+        requires valid { IsValidPart item.now.part }
+        requires room { 0 < self.old.room }
+        ensures sensors { (name : List ℕ) → sensor_in self.new name ≡ started_one item.now name (sensor_in self.old name) }
+        ensures room { self.old.room ≤ self.new.room + 1 }
+    {
+        if let Some(setting) = setting_in(&item.part) {
+            self.forget(&item.name);
+            self.put(item.name.copied(), setting);
+        }
+    }
+
+    // Drops the sensors of the items that are gone.
+    fn drop_all(&mut self, gone: &[Item])
+        ensures sensors { (name : List ℕ) → sensor_in self.new name ≡ dropped gone.now name (sensor_in self.old name) }
+        ensures room { self.old.room ≤ self.new.room }
+    {
+        for item in gone {
+            self.drop_one(item);
+        }
+    }
+
+    // Starts a blank sensor for each new sensor item.
+    fn start_all(&mut self, new: &[Item])
+        requires room { length new.now ≤ self.old.room }
+        requires valid { All IsValidItem new.now }
+        ensures { (name : List ℕ) → sensor_in self.new name ≡ started new.now name (sensor_in self.old name) }
+    {
+        for item in new {
+            self.start_one(item);
+        }
+    }
+}

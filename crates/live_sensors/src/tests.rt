@@ -1,0 +1,186 @@
+ghost use Rattle.std.specs.Prelude.{◌≡◌, IfOk};
+ghost use Rattle.inventory.specs.Items.{IsValidPart};
+
+use crate::LiveSensors;
+use bmc_base::{Milli, Name};
+use cfg_json::{Item, ItemId, ItemPart, SensorItem};
+use sensor_core::{Limit, SensorSetting};
+use std::alloc::Global;
+use std::test::Fail;
+
+// A limit that is not in use.
+const UNUSED: Limit = Limit {
+    above: false,
+    severity: 0,
+    value: Milli(0),
+    hysteresis: Milli(0),
+};
+
+// Three halves of a raw number, and 0.100.
+fn setting() -> SensorSetting {
+    SensorSetting {
+        num: 3,
+        den: 2,
+        offset: Milli(100),
+        timeout: 0,
+        limits: [UNUSED; 8],
+        count: 0,
+    }
+}
+
+// A sensor.
+fn sensor() -> Result<ItemPart, Fail>
+    ensures { IfOk result IsValidPart }
+{
+    let setting = setting();
+    if !setting.is_valid() {
+        return Err(Fail::from("the setting is not valid"));
+    }
+    Ok(ItemPart::Sensor(SensorItem {
+        bus: None,
+        address: None,
+        setting,
+    }))
+}
+
+// An item of this name.
+fn item(name: &str, part: ItemPart) -> Result<Item, Fail>
+    ensures { IfOk result (λ item. item.part ≡ part) }
+{
+    let id = ItemId {
+        config: 0,
+        place: None,
+        expose: 0,
+    };
+    let name = Name::new(name)?;
+    Ok(Item { id, name, part })
+}
+
+// What happens to the items of a name, or to its sensor.
+#[derive(Clone, Copy)]
+enum Act {
+    Come,
+    Go,
+    FanGoes,
+    Read(i64),
+    Lose,
+}
+
+// Tells the sensors of an act. Where the name has no sensor, a reading and a loss change nothing.
+fn tell(sensors: &mut LiveSensors, alloc: Global, name: &str, act: Act) -> Result<(), Fail> {
+    match act {
+        Act::Come => {
+            sensors.reserve(alloc, 1)?;
+            sensors.settle(&[], &[item(name, sensor()?)?]);
+        }
+        Act::Go => sensors.settle(&[item(name, sensor()?)?], &[]),
+        Act::FanGoes => sensors.settle(&[item(name, ItemPart::Fan)?], &[]),
+        Act::Read(raw) => {
+            if let Some(slot) = sensors.slot(&Name::new(name)?) {
+                sensors.good(slot, raw, 7)?;
+            }
+        }
+        Act::Lose => {
+            if let Some(slot) = sensors.slot(&Name::new(name)?) {
+                sensors.lost(slot);
+            }
+        }
+    }
+    Ok(())
+}
+
+// The value of the sensor of a name, and whether it failed.
+fn shown(sensors: &LiveSensors, name: &str) -> Result<Option<(Option<i64>, bool)>, Fail> {
+    let Some(slot) = sensors.slot(&Name::new(name)?) else {
+        return Ok(None);
+    };
+    let sensor = sensors.at(slot);
+    let value = sensor.value().map(|value| value.0);
+    Ok(Some((value, sensor.is_failed())))
+}
+
+#[test]
+fn sensors_come_and_go(rt: HostRuntime) -> Result<(), Fail> {
+    let rows = [
+        ("T", Act::Lose, None, None),
+        ("T", Act::Come, Some((None, false)), None),
+        ("U", Act::Come, Some((None, false)), Some((None, false))),
+        (
+            "T",
+            Act::Read(5),
+            Some((Some(107), false)),
+            Some((None, false)),
+        ),
+        (
+            "U",
+            Act::Read(-5),
+            Some((Some(107), false)),
+            Some((Some(92), false)),
+        ),
+        (
+            "U",
+            Act::Lose,
+            Some((Some(107), false)),
+            Some((Some(92), false)),
+        ),
+        (
+            "U",
+            Act::Lose,
+            Some((Some(107), false)),
+            Some((Some(92), false)),
+        ),
+        (
+            "U",
+            Act::Lose,
+            Some((Some(107), false)),
+            Some((Some(92), false)),
+        ),
+        (
+            "U",
+            Act::Lose,
+            Some((Some(107), false)),
+            Some((Some(92), false)),
+        ),
+        (
+            "U",
+            Act::Lose,
+            Some((Some(107), false)),
+            Some((Some(92), true)),
+        ),
+        (
+            "U",
+            Act::FanGoes,
+            Some((Some(107), false)),
+            Some((Some(92), true)),
+        ),
+        (
+            "T",
+            Act::Lose,
+            Some((Some(107), false)),
+            Some((Some(92), true)),
+        ),
+        (
+            "U",
+            Act::Read(1),
+            Some((Some(107), false)),
+            Some((Some(101), false)),
+        ),
+        ("T", Act::Go, None, Some((Some(101), false))),
+        ("T", Act::Read(5), None, Some((Some(101), false))),
+        (
+            "T",
+            Act::Come,
+            Some((None, false)),
+            Some((Some(101), false)),
+        ),
+        ("U", Act::Come, Some((None, false)), Some((None, false))),
+        ("U", Act::Go, Some((None, false)), None),
+    ];
+    let mut sensors = LiveSensors::new(rt.alloc())?;
+    for (number, (name, act, first, second)) in rows.iter().enumerate() {
+        tell(&mut sensors, rt.alloc(), name, *act)?;
+        assert_eq!(rt; shown(&sensors, "T")?, *first, "in row {number}");
+        assert_eq!(rt; shown(&sensors, "U")?, *second, "in row {number}");
+    }
+    Ok(())
+}
