@@ -10,7 +10,7 @@ use Rattle.bmc_report.specs.declared.refusal.Refusal.TheVariants.{ConfigAfterPlu
 use Rattle.bmc_report.specs.declared.refusal.Refusal.TheVariants.{FruShort, FruTooLong, HeaderVersion, HeaderChecksum}
 use Rattle.bmc_report.specs.declared.refusal.Refusal.TheVariants.{AreaOutside, AreaVersion, AreaLength, AreaChecksum, FieldOutside, NoEnd}
 use Rattle.bmc_report.specs.declared.refusal.Refusal.TheVariants.{FruLimit, BoardLimit, SensorLimit, ZoneLimit, FanLimit}
-use Rattle.bmc_report.specs.declared.refusal.Refusal.TheVariants.{PidLimit, StepLimit, NotPresent}
+use Rattle.bmc_report.specs.declared.refusal.Refusal.TheVariants.{PidLimit, StepLimit, NotPresent, UnknownSensor, ReadingRange}
 
 -- the name of an area
 unfoldable pub area_text : Area → List ℕ
@@ -60,6 +60,8 @@ refusal_name FanLimit = codes "FanLimit"
 refusal_name PidLimit = codes "PidLimit"
 refusal_name StepLimit = codes "StepLimit"
 refusal_name NotPresent = codes "NotPresent"
+refusal_name UnknownSensor = codes "UnknownSensor"
+refusal_name ReadingRange = codes "ReadingRange"
 
 -- the area that breaks a rule, if the rule is one on areas
 abbrev pub area_of : Refusal → Option Area

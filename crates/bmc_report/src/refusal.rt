@@ -90,6 +90,10 @@ pub enum Refusal {
     StepLimit,
     /// No FRU is at the place.
     NotPresent,
+    /// No live sensor has the name.
+    UnknownSensor,
+    /// The raw number is above 1,000,000,000, or below -1,000,000,000.
+    ReadingRange,
 }
 
 impl Refusal {
@@ -139,6 +143,8 @@ impl Refusal {
             Refusal::PidLimit => "PidLimit",
             Refusal::StepLimit => "StepLimit",
             Refusal::NotPresent => "NotPresent",
+            Refusal::UnknownSensor => "UnknownSensor",
+            Refusal::ReadingRange => "ReadingRange",
         }
     }
 

@@ -1,5 +1,5 @@
 -- What the computed examples ask for.
-use Rattle.std.specs.Prelude.{ℕ, ℤ, pos, List, [], ◌∷◌, codes, negsuc, replicate, Result, Ok, Err}
+use Rattle.std.specs.Prelude.{ℕ, ℤ, List, [], ◌∷◌, negsuc, replicate, Result, Ok, Err}
 use Rattle.bmc_base.specs.Places.{Place}
 use Rattle.bmc_report.specs.declared.topic.Topic.{Topic}
 use Rattle.bmc_script.specs.declared.command.Command.{Command}

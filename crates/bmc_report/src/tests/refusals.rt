@@ -46,6 +46,8 @@ fn lines_of_refusals(rt: HostRuntime) -> Result<(), Fail> {
         (Refusal::PidLimit, "PidLimit"),
         (Refusal::StepLimit, "StepLimit"),
         (Refusal::NotPresent, "NotPresent"),
+        (Refusal::UnknownSensor, "UnknownSensor"),
+        (Refusal::ReadingRange, "ReadingRange"),
     ];
     for (refusal, name) in rows {
         for number in ["1", "30", "18446744073709551615"] {
