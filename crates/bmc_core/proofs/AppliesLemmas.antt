@@ -111,3 +111,104 @@ answered old new step (Err fault) watched takes tries kept = record {
   stands = λ past stood. unchanged_stands old new past (record { watch = kept.0; sensors = kept.1 }) stood;
   left = (takes, record { watch = kept.0; sensors = kept.1 });
 }
+
+-- ---- readings and losses
+
+-- an act that is refused leaves all but the last changes
+pub refused : (old new : CoreView) (step : Step) (refusal : Refusal) (result : Result ⊤ CoreFault) → ((past : List Step) → past_refused past step refusal ≡ past)
+    → ((past : List Step) → Stands old past → refusal_after past step ≡ Some refusal) → result ≡ Err (Refused refusal) → new ≡ quiet old
+    → Applies old step result new
+refused old new step refusal result leaves reason is left =
+    subst (λ (result : Result ⊤ CoreFault). Applies old step result new) (sym is) (record {
+      stands = λ past stood. (
+        reason past stood,
+        subst (λ (history : List Step). Stands new history) (sym (leaves past))
+            (subst (λ (core : CoreView). Stands core past) (sym left) (quiet_stands old past stood)),
+      );
+      left = left;
+    })
+  where
+    quiet_watch : (watch : WatchView) (past : List Step) → WatchStands watch past → WatchStands (record watch { changes = [] }) past
+    quiet_watch watch past stood =
+        record { legal = stood.legal; configs = stood.configs; entries = stood.entries; plugged = stood.plugged; kept = stood.kept }
+
+    quiet_stands : (core : CoreView) (past : List Step) → Stands core past → Stands (quiet core) past
+    quiet_stands core past stood = record { watch = quiet_watch core.watch past stood.watch; sensors = stood.sensors; last = tt }
+
+-- whether a name is unknown, by whether it has a sensor
+pub unknown_is : (past : List Step) (name : List ℕ) → is_unknown (live_now past) name ≡ is_none (sensor_now past name)
+unknown_is past name = by (holder (live_now past) families.Sensor name) refl
+  where
+    none_of : (setting : Option SensorSetting) (outcomes : List Outcome) → is_some setting ≡ true
+        → is_none (option_map (λ (setting : SensorSetting). sensor_of setting outcomes) setting) ≡ false
+    none_of None outcomes is = absurd (cc)
+    none_of (Some setting) outcomes is = refl
+
+    by : (held : Option Item) → holder (live_now past) families.Sensor name ≡ held → is_none held ≡ is_none (sensor_now past name)
+    by None is = sym (ap is_none (sensor_is past name None is))
+    by (Some item) is =
+        let of_family : is_of families.Sensor item ≡ true = (holder_is families.Sensor name (λ item. ⊤) (live_now past) item (all_any _ (λ item. tt) (live_now past)) is).1 in
+        sym (ap is_none (sensor_is past name (Some item) is) ∙ none_of (setting_in item.part) (outcomes item past) (sym (of_sensors item.part) ∙ of_family))
+
+-- the sensor of a name takes an outcome, and the changes are told
+pub record IsTold (old : CoreView) (name : List ℕ) (change : Sensor → Sensor) (new : CoreView) : Type 0 where
+  pub sensors : (other : List ℕ)
+      → sensor_in new.sensors other ≡ (if bytes_eq name other then option_map change (sensor_in old.sensors other) else sensor_in old.sensors other)
+  pub watch : new.watch ≡ record old.watch { changes = changes_of_sensor name (sensor_in old.sensors name) (sensor_in new.sensors name) }
+
+-- names are one whichever comes first
+names_turned : (name other : List ℕ) → bytes_eq name other ≡ bytes_eq other name
+names_turned [] [] = refl
+names_turned [] (y ∷ ys) = refl
+names_turned (x ∷ xs) [] = refl
+names_turned (x ∷ xs) (y ∷ ys) = ap₂ (λ (first later : Bool). first && later) (nat_turned x y) (names_turned xs ys)
+  where
+    nat_turned : (x y : ℕ) → nat_eq x y ≡ nat_eq y x
+    nat_turned x y = grind (arith, nat_tests)
+
+-- what is known of the bus stands also with other changes, after a step that is none of its events
+watch_idle : (old new : WatchView) (past : List Step) (step : Step) (told : List Change) → is_idle_step step ≡ true → IsLegal (step ∷ past)
+    → WatchStands old past → new ≡ record old { changes = told } → WatchStands new (step ∷ past)
+watch_idle old new past step told idle legal stood is = subst (λ (watch : WatchView). WatchStands watch (step ∷ past)) (sym is) (record {
+  legal = legal;
+  configs = stood.configs ∙ sym (ap (λ (now : Standing). now.configs) same);
+  entries = stood.entries ∙ sym (ap (λ (now : Standing). map (fru_entry now.configs) now.frus) same);
+  plugged = stood.plugged ∙ sym (ap (λ (now : Standing). now.plugged) same);
+  kept = λ number. stood.kept number ∙ sym (ap (λ (kept : ℕ → List (Option Place)). kept number) (kept_same step past idle));
+})
+  where
+    same : standing (step ∷ past) ≡ standing past
+    same = standing_idle step past idle
+
+-- a step that a sensor takes is an act
+pub told : (old new : CoreView) (step : Step) (name : List ℕ) (change : Sensor → Sensor) (result : Result ⊤ CoreFault) → result ≡ Ok tt
+    → is_idle_step step ≡ true → ((past : List Step) → Stands old past → refusal_after past step ≡ None)
+    → ((past : List Step) → Stands old past → IsLegal (step ∷ past))
+    → ((past : List Step) → Stands old past → (other : List ℕ)
+    → sensor_now (step ∷ past) other ≡ (if bytes_eq other name then option_map change (sensor_now past other) else sensor_now past other))
+    → ((past : List Step) → Stands old past → changes past step ≡ changes_of_sensor name (sensor_now past name) (sensor_now (step ∷ past) name))
+    → IsTold old name change new → Applies old step result new
+told old new step name change result is idle accepted legal sensors tells told =
+    subst (λ (result : Result ⊤ CoreFault). Applies old step result new) (sym is) (record {
+      stands = λ past stood. (accepted past stood, stands past stood, changes_are past stood);
+      left = tt;
+    })
+  where
+    sensors_stand : (past : List Step) → Stands old past → SensorsStand new.sensors (step ∷ past)
+    sensors_stand past stood other =
+        told.sensors other
+        ∙ (λ i. if names_turned name other i then option_map change (stood.sensors other i) else stood.sensors other i)
+        ∙ sym (sensors past stood other)
+
+    changes_are : (past : List Step) → Stands old past → new.watch.changes ≡ changes past step
+    changes_are past stood =
+        ap (λ (watch : WatchView). watch.changes) told.watch
+        ∙ ap₂ (changes_of_sensor name) (stood.sensors name) (sensors_stand past stood name)
+        ∙ sym (tells past stood)
+
+    stands : (past : List Step) → Stands old past → Stands new (step ∷ past)
+    stands past stood = record {
+      watch = watch_idle old.watch new.watch past step _ idle (legal past stood) stood.watch told.watch;
+      sensors = sensors_stand past stood;
+      last = last_told new.watch.changes past step (changes_are past stood);
+    }

@@ -1,6 +1,6 @@
 -- A live item of a family holds its name, and one that is live before a step and after it holds its name both times.
 use Rattle.std.proofs.Common.{◌≡◌, ℕ, List, [], ◌∷◌, Bool, true, false, cond, ◌||◌, Option, Some, None, filter, refl, sym, ap, ◌∙◌, subst}
-use Rattle.std.specs.Prelude.{⊤, bytes_eq, find}
+use Rattle.std.specs.Prelude.{⊤, find}
 use Rattle.std.specs.List.{list_any, AllByRecursion}
 use Rattle.std.specs.Cmp.Lexicographic.{bytes_decides}
 use Rattle.cfg_json.specs.declared.item.Item.{Item}

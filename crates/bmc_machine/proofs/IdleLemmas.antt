@@ -1,15 +1,14 @@
 -- A step that is no configuration, plug or unplug leaves what is present, the boards, the items and what of them is live.
 use Rattle.std.proofs.Common.{◌≡◌, ℕ, List, [], ◌∷◌, ◌++◌, Bool, true, false, not, map, Option, refl, ap, ap₂}
 use Rattle.std.specs.Prelude.{length, filter_map}
-use Rattle.std.specs.List.{AllByRecursion, list_any, flat_map, range_with_len}
+use Rattle.std.specs.List.{AllByRecursion, flat_map, range_with_len}
 use Rattle.std.proofs.lemmas.Bool.{or_left, or_right}
 use Rattle.bmc_base.specs.Places.{Place}
 use Rattle.cfg_json.specs.declared.item.Item.{Item}
-use Rattle.bmc_report.specs.declared.change.Change.{Change}
 use Rattle.inventory.specs.Boards.{has_board}
 use Rattle.inventory.specs.Differences.{key_of, keys_left}
 use Rattle.inventory.specs.Indexes.{except}
-use Rattle.inventory.specs.Items.{id_eq, items, items_less, live}
+use Rattle.inventory.specs.Items.{items, items_less, live}
 use Rattle.inventory.specs.Lists.{board_list}
 use Rattle.inventory.specs.declared.board.BoardKey.{BoardKey}
 use Rattle.inventory.proofs.BoardLemmas.{except_none, pass_all}

@@ -16,7 +16,7 @@ use Rattle.bmc_machine.specs.Indexes.{live_now}
 use Rattle.live_sensors.specs.Items.{setting_in, blank_in}
 use Rattle.bmc_machine.specs.Lives.{has_id, outcome_of, IsNoOutcome, outcomes, item_sensor, sensor_now}
 use Rattle.bmc_machine.specs.Refusals.{IsLegalStep}
-use Rattle.bmc_machine.specs.Changes.{inventory, changes_between, failure_change, alarm_change, sensor_changes, changes_of_sensor, changes_of_item}
+use Rattle.bmc_machine.specs.Changes.{inventory, changes_between, alarm_change, sensor_changes, changes_of_sensor, changes_of_item}
 use Rattle.bmc_machine.specs.Changes.{changes_of_sensors, changes}
 use Rattle.bmc_machine.proofs.HolderLemmas.{holder_was}
 

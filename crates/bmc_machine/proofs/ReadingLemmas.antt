@@ -1,16 +1,15 @@
 -- A reading and a loss of the sensor of a name: what they make of it, and what they change.
 use Rattle.std.proofs.Common.{◌≡◌, ℕ, ◌+◌, ℤ, List, [], ◌∷◌, ◌++◌, Bool, true, false, cond, ◌&&◌, Option, Some, None, refl, sym, ap, ap₂, ◌∙◌, option_map}
 use Rattle.std.proofs.Common.{append-nil, is_some, arith, subst}
-use Rattle.std.specs.Prelude.{⊤, bytes_eq, min, option_and_then, IfSome}
+use Rattle.std.specs.Prelude.{bytes_eq, min, option_and_then, IfSome}
 use Rattle.std.specs.List.{flat_map, prefix_len}
 use Rattle.std.specs.Cmp.Lexicographic.{bytes_decides}
 use Rattle.std.proofs.lemmas.Option.{IfSome_then}
 use Rattle.cfg_json.specs.declared.item.Item.{Item}
-use Rattle.cfg_json.specs.declared.item.ItemPart.{ItemPart}
 use Rattle.inventory.specs.Items.{has_name, holder}
 use Rattle.inventory.specs.declared.family.Family.TheVariants as families
 use Rattle.bmc_report.specs.declared.change.Change.{Change}
-use Rattle.sensor_core.specs.Sensors.{Outcome, Good, Lost, Sensor, sensor_of, is_lost, failing_losses}
+use Rattle.sensor_core.specs.Sensors.{Outcome, Good, Lost, Sensor, sensor_of, is_lost}
 use Rattle.sensor_core.specs.Settings.{IsValidSetting}
 use Rattle.sensor_core.specs.Updates.{good_after, lost_after, Takes}
 use Rattle.sensor_core.specs.declared.setting.SensorSetting.{SensorSetting}
@@ -19,9 +18,8 @@ use Rattle.bmc_machine.specs.Histories.{Step, Read, Lose, tick_of, is_idle_step}
 use Rattle.bmc_machine.specs.Indexes.{live_now}
 use Rattle.live_sensors.specs.Items.{setting_in}
 use Rattle.bmc_machine.specs.Lives.{has_id, outcome_of, outcomes, item_sensor, sensor_now}
-use Rattle.bmc_machine.specs.Names.{is_of}
 use Rattle.bmc_machine.specs.Refusals.{IsLegal}
-use Rattle.bmc_machine.specs.Changes.{inventory, changes_between, changes_of_sensor, changes_of_item, changes_of_sensors, changes}
+use Rattle.bmc_machine.specs.Changes.{inventory, changes_between, changes_of_sensor, changes_of_item, changes}
 use Rattle.bmc_machine.proofs.IdleLemmas.{live_same, inventory_same, nothing_between}
 use Rattle.bmc_machine.proofs.HolderLemmas.{holder_name, holder_has_id}
 use Rattle.bmc_machine.proofs.LivesLemmas.{sensor_after, sensor_next, sensor_is, no_change}

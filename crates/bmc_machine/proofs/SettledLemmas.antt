@@ -1,6 +1,6 @@
 -- The sensors after a step, from those before it: the ones of items that are gone are dropped, and blank ones are started for new items.
 use Rattle.std.proofs.Common.{◌≡◌, ℕ, List, [], ◌∷◌, Bool, true, false, not, cond, ◌&&◌, Option, Some, None, map, filter, refl, sym, ap, ◌∙◌, is_some}
-use Rattle.std.specs.Prelude.{⊤, bytes_eq, find, option_and_then}
+use Rattle.std.specs.Prelude.{⊤, bytes_eq, option_and_then}
 use Rattle.std.specs.Option.{option_eq, option_or}
 use Rattle.std.specs.List.{AllByRecursion, IsDistinct}
 use Rattle.std.specs.Cmp.Lexicographic.{bytes_decides, nat_list_eq_equiv}
@@ -15,11 +15,11 @@ use Rattle.sensor_core.specs.Sensors.{Sensor}
 use Rattle.bmc_machine.specs.Histories.{Step}
 use Rattle.bmc_machine.specs.Indexes.{live_now}
 use Rattle.live_sensors.specs.Items.{setting_in, dropped_one, dropped, blank_in, started_one, started, settled}
-use Rattle.bmc_machine.specs.Lives.{has_id, IsNoOutcome, item_sensor, sensor_now}
+use Rattle.bmc_machine.specs.Lives.{has_id, IsNoOutcome, sensor_now}
 use Rattle.bmc_machine.specs.Names.{is_of, names_of}
 use Rattle.bmc_machine.specs.Refusals.{IsLegal}
-use Rattle.bmc_machine.proofs.HolderLemmas.{holder_is, holder_has_id, holder_was, holder_stays}
-use Rattle.bmc_machine.proofs.LivesLemmas.{sensor_is, sensor_stays, sensor_blank, sensor_none}
+use Rattle.bmc_machine.proofs.HolderLemmas.{holder_has_id, holder_was, holder_stays}
+use Rattle.bmc_machine.proofs.LivesLemmas.{sensor_stays, sensor_blank, sensor_none}
 use Rattle.bmc_machine.proofs.NameLemmas.{live_names_differ}
 use Rattle.bmc_machine.proofs.StayLemmas.{legal_step, legal_before}
 

@@ -18,7 +18,7 @@ use Rattle.cfg_json.specs.Documents.{config_read}
 use Rattle.cfg_json.specs.Verdicts.{Verdict, Accepted, BadPattern, LargePattern}
 use Rattle.cfg_json.specs.declared.config_fault.ConfigFault.{ConfigFault}
 use Rattle.bmc_machine.specs.Shows.{shown}
-use Rattle.bmc_machine.specs.Histories.{Step, Configure, Plug, RefusedPlug, Unplug, Read, Lose, standing, tick_of}
+use Rattle.bmc_machine.specs.Histories.{Step, Configure, Plug, RefusedPlug, Unplug, Read, Lose, tick_of}
 use Rattle.bmc_machine.specs.Refusals.{command_refusal, config_refusal, refusal_after}
 use Rattle.bmc_machine.specs.Changes.{changes}
 

@@ -1,5 +1,5 @@
 -- What the sensors of live items show: what came of asking them since they became live.
-use Rattle.std.specs.Prelude.{ℕ, ◌≡◌, Bool, bytes_eq, if◌then◌else◌, List, [], ◌∷◌, ◌++◌, Option, Some, None, option_map, option_and_then}
+use Rattle.std.specs.Prelude.{ℕ, ◌≡◌, Bool, bytes_eq, if◌then◌else◌, List, [], ◌∷◌, ◌++◌, Option, option_map, option_and_then}
 use Rattle.std.specs.List.{list_any}
 use Rattle.cfg_json.specs.declared.item.Item.{Item}
 use Rattle.cfg_json.specs.declared.item.ItemId.{ItemId}

@@ -1,5 +1,5 @@
 -- Why an item is refused.
-use Rattle.std.specs.Prelude.{ℕ, ◌≡◌, ⊤, Bool, nat_le, nat_lt, ℤ, unsigned_abs, is_some, is_none, if◌then◌else◌, List, [], ◌∷◌, length}
+use Rattle.std.specs.Prelude.{ℕ, ◌≡◌, ⊤, Bool, nat_le, nat_lt, unsigned_abs, is_some, is_none, if◌then◌else◌, List, [], ◌∷◌, length}
 use Rattle.std.specs.Prelude.{Option, Some, None, option_map, Result, Ok, Err}
 use Rattle.fru_area.specs.declared.field.Field.{Field}
 use Rattle.fru_area.specs.declared.fault.FruFault.{FruFault}

@@ -1,5 +1,5 @@
 -- The lists that a script asks for.
-use Rattle.std.specs.Prelude.{ℕ, List, [], ◌++◌, length, Bool, Option, Some, None, option_map, slice_get}
+use Rattle.std.specs.Prelude.{ℕ, List, [], ◌++◌, length, Option, Some, None, option_map, slice_get}
 use Rattle.std.specs.List.{flat_map, range_with_len}
 use Rattle.std.specs.Option.{unwrap_or}
 use Rattle.bmc_base.specs.Places.{Place}
