@@ -2,6 +2,7 @@
 #![tactic(auto)]
 
 mod changes;
+mod listing;
 mod readings;
 mod refusing;
 mod watch;

@@ -16,6 +16,7 @@ use crate::changes::{
     compare_items, count_boards, fixed_channels, settle_sensors, stage_changes, step_items,
     take_items, tell_changes, tell_items,
 };
+use crate::listing::{list_board, list_boards};
 use crate::readings::{Glimpse, append_reading};
 use crate::refusing::{limit_refused, record_refused};
 use bmc_base::{Ledger, Name, OutOfMemory, Place, Steps};
@@ -24,17 +25,13 @@ use cfg_json::{Config, Item, MOST_CONFIGS, Shelf};
 use found_set::FoundSet;
 use fru_record::FruRecord;
 use fru_rows::{Entries, FruRows, is_idle};
-use inventory::{
-    Board, IndexKeep, Inventory, Live, Moment, Totals, difference, difference_by, list_all,
-    list_items,
-};
+use inventory::{Board, IndexKeep, Inventory, Live, Moment, Totals, difference, difference_by};
 use live_sensors::LiveSensors;
 use match_rows::make;
 use probe_lang::Entry;
 use sensor_core::Sensor;
 use std::alloc::Global;
 use std::marker::Model;
-use std::slice;
 
 // The most FRUs that are present at one time.
 const MOST_FRUS: usize = 256;
@@ -130,7 +127,7 @@ impl<L: Ledger> Watch<L> {
         ensures { IfOk result (λ boards. boards.items ≡ view_list self.now) }
     {
         let moment = Moment::of(self.set.facts(), self.rows.busy());
-        list_all(alloc, &self.shelf, None, &self.keep, &moment)
+        list_boards(alloc, &self.shelf, &self.keep, &moment)
     }
 
     /// Lists what a board exposes, in the order of its configuration.
@@ -138,7 +135,7 @@ impl<L: Ledger> Watch<L> {
         ensures { IfOk result (λ items. items.items ≡ board_items self.now.configs (entry_fields (busy self.now.entries)) board.now) }
     {
         let moment = Moment::of(self.set.facts(), self.rows.busy());
-        list_items(alloc, &self.shelf, None, slice::from_ref(board), &moment)
+        list_board(alloc, &self.shelf, board, &moment)
     }
 
     /// Lists what a sensor of this name shows otherwise than before, in place of the last changes. It takes no memory.
