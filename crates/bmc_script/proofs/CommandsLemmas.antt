@@ -31,7 +31,9 @@ seven_bytes others seven = absurd (omega arith)
 
 -- nine bytes are a list of them
 pub nine_bytes : (bytes : List ℕ) → length bytes ≡ 9
-    → bytes ≡ get_or bytes 0 0 ∷ get_or bytes 1 0 ∷ get_or bytes 2 0 ∷ get_or bytes 3 0 ∷ get_or bytes 4 0 ∷ get_or bytes 5 0 ∷ get_or bytes 6 0 ∷ get_or bytes 7 0 ∷ get_or bytes 8 0 ∷ []
+    → bytes
+    ≡ get_or bytes 0 0 ∷ get_or bytes 1 0 ∷ get_or bytes 2 0 ∷ get_or bytes 3 0 ∷ get_or bytes 4 0 ∷ get_or bytes 5 0 ∷ get_or bytes 6 0
+    ∷ get_or bytes 7 0 ∷ get_or bytes 8 0 ∷ []
 nine_bytes (a ∷ b ∷ c ∷ d ∷ e ∷ f ∷ g ∷ h ∷ i ∷ []) nine = refl
 nine_bytes others nine = absurd (omega arith)
 

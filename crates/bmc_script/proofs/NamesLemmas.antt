@@ -6,7 +6,8 @@ use Rattle.std.specs.Result.{result_ok}
 use Rattle.std.specs.Str.{IsUtf8, is_utf8}
 use Rattle.std.proofs.Math.Seq.{take-append_seam, drop-append-add}
 use Rattle.std.proofs.lemmas.Bool.{eq-eqb, ne_eqb, lt-ltb, le-ltb, false_from_ne_true}
-use Rattle.std.proofs.lemmas.List.{take-append-drop, drop_more, get_or-drop, get_or-reverse, get_or_append_left, get_or-append-add, length-reverse, reverse-append, reverse-reverse}
+use Rattle.std.proofs.lemmas.List.{take-append-drop, drop_more, get_or-drop, get_or-reverse, get_or_append_left, get_or-append-add}
+use Rattle.std.proofs.lemmas.List.{length-reverse, reverse-append, reverse-reverse}
 use Rattle.std.proofs.lemmas.Grind.{reverse_onto}
 use Rattle.std.proofs.lemmas.List.Sums.{position_or_len_is}
 use Rattle.std.proofs.lemmas.Str.{IsUtf8-from_is_utf8, is_utf8-from_IsUtf8}
@@ -33,7 +34,9 @@ parts_none bytes = rw (le-ltb (length bytes) (length bytes) (omega arith)) refl
 
 split_none : (bytes : List ℕ) → HasNoSpace bytes → split_space bytes ≡ None
 split_none bytes none =
-    let past = position_or_len_is is_space bytes (length bytes) 0 (omega arith) (λ k within. ne_eqb (get_or bytes k 0) 32 (none k within)) (λ within. absurd (omega arith)) in
+    let past = position_or_len_is is_space bytes (length bytes) 0 (omega arith)
+    (λ k within. ne_eqb (get_or bytes k 0) 32 (none k within))
+    (λ within. absurd (omega arith)) in
     ap (parts bytes) past ∙ parts_none bytes
 
 split_parts : (front back : List ℕ) → HasNoSpace front → split_space (front ++ 32 ∷ back) ≡ Some (front, back)
@@ -72,7 +75,8 @@ last_at bytes at within here behind =
     let back = drop (at + 1) bytes in
     let halves : bytes ≡ front ++ 32 ∷ back = sym (take-append-drop at bytes)
     ∙ ap (λ (rest : List ℕ). front ++ rest) (drop_more bytes at 0 within ∙ ap (λ (byte : ℕ). byte ∷ back) here) in
-    let none : HasNoSpace back = λ k inside is. behind (at + 1 + k) (omega arith) (omega (arith, length-drop (at + 1) bytes)) (sym (get_or-drop (at + 1) bytes k 0) ∙ is) in
+    let none : HasNoSpace back = λ k inside is.
+    behind (at + 1 + k) (omega arith) (omega (arith, length-drop (at + 1) bytes)) (sym (get_or-drop (at + 1) bytes k 0) ∙ is) in
     ap split_last_space halves ∙ last_parts front back none
 
 -- the name of a text, and of bytes that are none

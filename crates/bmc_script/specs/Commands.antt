@@ -1,5 +1,6 @@
 -- The command of a line of a script.
-use Rattle.std.specs.Prelude.{ℕ, ◌≡◌, ⊤, ◌==◌, ◌||◌, if◌then◌else◌, List, [], ◌∷◌, length, reverse, codes, bytes_eq, Option, Some, None, option_map, Result, Ok, Err}
+use Rattle.std.specs.Prelude.{ℕ, ◌≡◌, ⊤, ◌==◌, ◌||◌, if◌then◌else◌, List, [], ◌∷◌, length, reverse, codes, bytes_eq}
+use Rattle.std.specs.Prelude.{Option, Some, None, option_map, Result, Ok, Err}
 use Rattle.std.specs.Str.{is_utf8}
 use Rattle.std.specs.List.{list_any}
 use Rattle.std.specs.Option.{ok_or, unwrap_or}
