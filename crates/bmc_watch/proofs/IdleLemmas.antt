@@ -168,7 +168,7 @@ busy_boards configs entries number = behind [] entries
             ∙ ap (λ (there : List Entry). boards_in configs (map entry_sight there) number) (append_assoc front (entry ∷ []) entries)
 
 -- no board is left over of those that are there too
-except_self : (boards : List (Option Place)) → except (has_board boards) boards ≡ []
+pub except_self : (boards : List (Option Place)) → except (has_board boards) boards ≡ []
 except_self boards = except_none (has_board boards) boards (pass_all (has_board boards) boards (λ place has. has))
 
 no_keys : (boards boards_after : ℕ → List (Option Place)) → ((number : ℕ) → boards_after number ≡ boards number) → (numbers : List ℕ)

@@ -1,5 +1,6 @@
 pub mod WatchesLemmas
 pub mod StepsLemmas
+pub mod ReadingsLemmas
 pub mod ChangesLemmas
 pub mod KeysLemmas
 pub mod BusyLemmas
@@ -8,4 +9,5 @@ pub mod ItemsLemmas
 pub mod RowsLemmas
 pub mod EventsLemmas
 pub mod StockLemmas
+pub mod ListedLemmas
 pub mod GrowthLemmas

@@ -89,7 +89,7 @@ new_have kept (place ∷ places) other has =
     ]
 
 -- boards that are kept already add nothing
-with_new : (kept before after : List (Option Place)) → ((place : Option Place) → has_board before place ≡ true → has_board kept place ≡ true)
+pub with_new : (kept before after : List (Option Place)) → ((place : Option Place) → has_board before place ≡ true → has_board kept place ≡ true)
     → with_boards kept (except (has_board before) after) ≡ with_boards kept after
 with_new kept before [] all = refl
 with_new kept before (place ∷ after) all =

@@ -23,12 +23,12 @@ use Rattle.bmc_report.specs.declared.refusal.Refusal.{Refusal}
 use Rattle.bmc_machine.specs.Standings.{Fru, Standing, is_at, fields_of}
 use Rattle.bmc_machine.specs.Boards.{sights_of, boards, board_keys, fields_at}
 use Rattle.bmc_machine.specs.Histories.{Step, Configure, Plug, RefusedPlug, Unplug, Read, Lose, standing}
-use Rattle.bmc_machine.specs.Lives.{outcome_of}
+use Rattle.bmc_machine.specs.Lives.{IsNoOutcome}
 use Rattle.bmc_machine.specs.Indexes.{kept, boards_now, items_now, live_now}
 use Rattle.bmc_machine.specs.Refusals.{limit_refusal, refusal_by_limit, refusal_after, IsLegalStep, IsLegal}
 use Rattle.bmc_machine.specs.Changes.{inventory, changes_between}
 use Rattle.bmc_machine.specs.Answers.{past_refused}
-use Rattle.bmc_machine.proofs.IdleLemmas.{changes_watched}
+use Rattle.bmc_machine.proofs.LivesLemmas.{changes_watched}
 use Rattle.bmc_machine.proofs.IndexLemmas.{kept_next, kept_now, kept_idle}
 use Rattle.bmc_machine.proofs.MeetingLemmas.{boards_differ}
 use Rattle.bmc_machine.proofs.StandingLemmas.{places, frus_ascend}
@@ -154,7 +154,7 @@ kept_after old new past step legal before held after moves number =
 
 -- an accepted step joins the history, and the changes are its own
 pub accepted : (old new : WatchView) (past : List Step) (step : Step) → WatchStands old past → refusal_after past step ≡ None → IsLegalStep past step
-    → ((name : List ℕ) (tick : ℕ) → outcome_of name tick step ≡ []) → new.configs ≡ (standing (step ∷ past)).configs → new.entries ≡ map (fru_entry (standing (step ∷ past)).configs) (standing (step ∷ past)).frus
+    → IsNoOutcome step → new.configs ≡ (standing (step ∷ past)).configs → new.entries ≡ map (fru_entry (standing (step ∷ past)).configs) (standing (step ∷ past)).frus
     → new.plugged ≡ (standing (step ∷ past)).plugged → Moves old new → Accepts past step new
 unfolding IsLegal
 accepted old new past step stood reason legal watched configs entries plugged moves =

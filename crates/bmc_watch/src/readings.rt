@@ -90,9 +90,8 @@ fn append_alarms(name: &Name, before: &Glimpse, after: &Sensor, changes: &mut Ve
         → changes.new.items ≡ changes.old.items ++ flat_map (alarm_change name.now sensor after.now) (enumerate_from 0 (limits_of after.now.setting)) }
     ensures capacity { vec_capacity changes.new ≡ vec_capacity changes.old }
 {
-    let limits = after.setting().limits_in_use();
-    for position in 0..limits.len() {
-        append_alarm(name, before, after, position as u8, &limits[position], changes);
+    for (position, limit) in after.setting().limits_in_use().iter().enumerate() {
+        append_alarm(name, before, after, position as u8, limit, changes);
     }
 }
 

@@ -75,6 +75,7 @@ impl<L: Ledger> Watch<L> {
         let set = FoundSet::new(alloc)?;
         let keep = IndexKeep::new(alloc)?;
         let inventory = Inventory::new(alloc)?;
+        let changes = Vec::with_capacity(alloc, MOST_CHANGES)?;
         Ok(Watch {
             shelf,
             rows,
@@ -83,7 +84,7 @@ impl<L: Ledger> Watch<L> {
             totals: Totals::none(),
             inventory,
             plugged: false,
-            changes: Vec::with_capacity(alloc, MOST_CHANGES)?,
+            changes,
         })
     }
 

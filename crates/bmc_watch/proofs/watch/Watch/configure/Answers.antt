@@ -39,6 +39,11 @@ prepare_config-requires-clause-new g c =
     (no_number c.self.inside.shelf c.name.result c.args.config c.position.result c.position.ensures c.name.ensures (sym c.is_some.ensures ∙
     c.if-is_some.false))
 
+pub add-requires-clause-new : goal.add-requires-clause-new
+add-requires-clause-new g c =
+    no_number c.self.inside.shelf c.name.result c.args.config c.position.result c.position.ensures c.name.ensures (sym c.is_some.ensures ∙
+    c.if-is_some.false)
+
 -- ---- a limit
 
 pub returns-in-Err-clause-tried : goal.returns-in-Err-clause-tried

@@ -14,5 +14,5 @@ invariant_of-result g c = record {
   none = ap (λ (entries : List Entry). length entries == 0) c.in_ok-rows.ensures;
   stock = stocked_new c.in_ok-shelf.shelf c.in_ok-rows.rows.entries c.in_ok-keep.keep.kept c.none.result c.in_ok-inventory.inventory
       c.in_ok-shelf.ensures c.in_ok-rows.ensures (ap (λ keep. keep.kept) c.in_ok-keep.ensures) c.none.ensures c.in_ok-inventory.ensures;
-  room = ?room;
+  room = omega (arith, c.in_ok-changes.ensures.capacity);
 }

@@ -1,4 +1,4 @@
-use Rattle.std.proofs.Common.{◌∙◌, length, Option, ap, sym, subst, arith}
+use Rattle.std.proofs.Common.{refl, ◌∙◌, length, Option, ap, sym, subst, arith}
 use Rattle.std.specs.Prelude.{nat_le}
 use Rattle.std.proofs.lemmas.Bool.{le-leb, lt-leb}
 use Rattle.probe_lang.specs.Presents.{holds_place}
