@@ -1,7 +1,6 @@
 -- Items of valid configurations are valid.
 use Rattle.std.proofs.Common.{◌≡◌, ℕ, zero, suc, ◌+◌, List, [], ◌∷◌, ◌++◌, Option, Some, None, option_map, option_to_list}
-use Rattle.std.specs.Prelude.{slice_get, IfSome}
-use Rattle.std.specs.Option.{unwrap_or}
+use Rattle.std.specs.Prelude.{IfSome}
 use Rattle.std.specs.List.{All, filter_map, cons_option, enumerate_from}
 use Rattle.std.proofs.lemmas.List.Elements.{All-nil, All-cons, All-head, All-tail, All-same, All-append, All-push, All-filter}
 use Rattle.bmc_base.specs.Places.{Place}
@@ -14,7 +13,7 @@ use Rattle.cfg_json.specs.declared.expose.Body.TheVariants.{Sensor, Fan, Zone, M
 use Rattle.cfg_json.specs.declared.item.Item.{Item}
 use Rattle.inventory.specs.declared.board.Board.{Board}
 use Rattle.inventory.specs.declared.board.BoardKey.{BoardKey}
-use Rattle.inventory.specs.Items.{IsValidPart, IsValidItem, part_of, board_fields, exposes_of, rendered_item, rendered_items, board_items, items}
+use Rattle.inventory.specs.Items.{IsValidPart, IsValidItem, part_of, board_fields, exposes_of, rendered_item, board_items, items}
 use Rattle.inventory.specs.Items.{is_live, live, items_less}
 use Rattle.inventory.specs.Lists.{board_list}
 use Rattle.inventory.specs.Naming.{naming, naming_items}

@@ -5,7 +5,7 @@ ghost use Rattle.cfg_json.specs.Configs.{IsValidConfig};
 use bmc_base::Ledger;
 use cfg_json::{Config, Shelf};
 
-/// Counts the configurations of a shelf and one more, if one is given.
+/// Counts the configurations of a shelf and one more, if one is given. What they expose is valid.
 pub fn config_count<L: Ledger>(shelf: &Shelf<L>, plus: Option<&Config<L>>) -> usize
     ensures value { result ≡ length (shelf.now ++ option_to_list (option_map (λ config. config.now) plus.entry)) }
     ensures valid { All IsValidConfig (shelf.now ++ option_to_list (option_map (λ config. config.now) plus.entry)) }

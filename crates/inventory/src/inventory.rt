@@ -99,9 +99,9 @@ impl Inventory {
             ≡ naming_items all (kept_then keep.now.kept all found reach moment.now) (entry_fields moment.now.entries)
             (moment_keys all found reach moment.now)) }
     {
-        // the configurations are valid, which is said with their count, and the entries of a moment come by place,
-        // which is said with what is found
+        // the configurations are valid, which is said with their count
         let _count = config_count(shelf, plus);
+        // the entries of a moment come by place, which is said with what is found
         let _found = moment.found(0);
         let boards = list_naming(alloc, shelf, plus, keep, moment)?;
         let items = list_items(alloc, shelf, plus, &boards, moment)?;
@@ -134,7 +134,8 @@ impl Inventory {
         Live::of(&self.items, &self.holders)
     }
 
-    /// Lists copies of the live items that are here and not in another inventory.
+    /// Lists copies of the live items that are here and not in another inventory. The settings of the sensors among them
+    /// are valid.
     pub fn less(&self, alloc: Global, other: &Inventory) -> Result<ItemList, OutOfMemory>
         ensures value { IfOk result (λ list. list ≡ items_less (live self.now) (live other.now)) }
         ensures valid { IfOk result (λ list. All IsValidItem list) }

@@ -21,8 +21,7 @@ pub invariant_of-result : goal.invariant_of-result
 invariant_of-result g c =
     let by_key = listed_by_key _ c.args.keep.now.kept c.args.moment.now c.in_ok-boards.boards.items c.in_ok-boards.ensures c.found-found.ensures.order in
     let by_id : AreById c.in_ok-items.items.items =
-    subst AreById (sym (c.in_ok-items.ensures ∙ ap (items _ _) c.deref.ensures.value)) (items_ascend _ _ c.in_ok-boards.boards.items by_key) in
-    (
+    subst AreById (sym (c.in_ok-items.ensures ∙ ap (items _ _) c.deref.ensures.value)) (items_ascend _ _ c.in_ok-boards.boards.items by_key) in (
       by_id,
       subst (λ (items : List Item). AreHolders items c.in_ok-holders.holders) c.deref-2.ensures.value c.in_ok-holders.ensures,
       All-same IsValidItem c.in_ok-items.items.items _ c.in_ok-items.ensures (items_valid _ _ c.deref.result.now c.config_count-count.ensures.valid),
