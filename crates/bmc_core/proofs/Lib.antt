@@ -1,2 +1,4 @@
 pub mod AppliesLemmas
 pub mod ListsLemmas
+pub mod RowsLemmas
+pub mod WalksLemmas

@@ -1,27 +1,18 @@
 ghost use Rattle.std.specs.Prelude.{◌≡◌, ◌++◌, OnOk, string_bytes};
-ghost use Rattle.bmc_report.specs.declared.topic.Topic.{Topic as TopicView};
-ghost use Rattle.inventory.specs.Items.{live};
-ghost use Rattle.inventory.specs.Indexes.{kept_of};
-ghost use Rattle.bmc_machine.specs.Boards.{name_of};
-ghost use Rattle.bmc_machine.specs.Shows.{sensor_text, index_rows, item_text};
-ghost use Rattle.bmc_watch.specs.Watches.{view_items};
-ghost use Rattle.bmc_core.specs.Lists.{entry_rows, sensor_of_item, sensor_rows, kept_rows, board_rows, inventory_rows, core_list};
+ghost use Rattle.std.specs.List.{flat_map};
+ghost use Rattle.inventory.specs.Indexes.{kept_of, index_in};
+ghost use Rattle.bmc_report.specs.BoardRows.{index_row};
+ghost use Rattle.bmc_core.specs.Lists.{entry_rows, item_sensor_row, sensor_rows, kept_rows};
 
-use crate::Core;
 use bmc_base::{Ledger, Name, OutOfMemory};
-use bmc_report::{
-    ItemRow, SensorRow, Topic, push_board_row, push_fru_row, push_index_row, push_item_row,
-    push_sensor_row,
-};
-use bmc_watch::Watch;
-use cfg_json::{Expose, Item, ItemPart};
+use bmc_report::{SensorRow, push_fru_row, push_index_row, push_sensor_row};
+use cfg_json::{Item, ItemPart, Shelf};
 use fru_rows::Entries;
-use inventory::{Board, BoardKey, Family, IndexKeep, Live};
+use inventory::{BoardKey, IndexKeep, Live};
 use live_sensors::LiveSensors;
-use std::alloc::Global;
 
-// Appends the row of each FRU that is present.
-fn push_frus(mut entries: Entries<'_>, text: &mut String) -> Result<(), OutOfMemory>
+/// Appends the row of each FRU that is present.
+pub(crate) fn push_frus(mut entries: Entries<'_>, text: &mut String) -> Result<(), OutOfMemory>
     ensures { OnOk result (string_bytes text.new ≡ string_bytes text.old ++ entry_rows entries.entry) }
 {
     while let Some(entry) = entries.next() {
@@ -37,7 +28,7 @@ fn push_sensor(
     tick: u64,
     text: &mut String,
 ) -> Result<(), OutOfMemory>
-    ensures { OnOk result (string_bytes text.new ≡ string_bytes text.old ++ sensor_text item.now.name tick (sensor_of_item sensors.now item.now)) }
+    ensures { OnOk result (string_bytes text.new ≡ string_bytes text.old ++ item_sensor_row sensors.now tick item.now) }
 {
     let ItemPart::Sensor(_) = &item.part else {
         return Ok(());
@@ -58,8 +49,8 @@ fn push_sensor(
     )
 }
 
-// Appends the rows of the sensors among live items.
-fn push_sensors(
+/// Appends the rows of the sensors among live items.
+pub(crate) fn push_sensors(
     live: &Live<'_>,
     sensors: &LiveSensors,
     tick: u64,
@@ -73,22 +64,44 @@ fn push_sensors(
     Ok(())
 }
 
-// Appends the rows of all boards that a configuration with this name ever had.
+// Appends the rows of all boards that the configuration with this number and name ever had.
 fn push_kept(
     name: &Name,
     keep: &IndexKeep,
     number: u32,
     text: &mut String,
 ) -> Result<(), OutOfMemory>
+    ensures { let kept = kept_of keep.now.kept number in OnOk result (string_bytes text.new ≡ string_bytes text.old
+        ++ flat_map (λ place. index_row name.now (index_in kept place) place) kept) }
 {
-    let mut position = 0;
-    while let Some(place) = keep.at(number, position) {
+    for position in 0..usize::MAX {
+        let Some(place) = keep.at(number, position) else {
+            return Ok(());
+        };
         let key = BoardKey {
             config: number,
             place,
         };
-        push_index_row(text, name, keep.index(&key), place)?;
-        position += 1;
+        let index = keep.index(&key);
+        push_index_row(text, name, index, key.place)?;
+    }
+    // no list is so long
+    Err(OutOfMemory)
+}
+
+/// Appends the rows of all boards that each configuration ever had.
+pub(crate) fn push_indexes<L: Ledger>(
+    configs: &Shelf<L>,
+    keep: &IndexKeep,
+    text: &mut String,
+) -> Result<(), OutOfMemory>
+    ensures { OnOk result (string_bytes text.new ≡ string_bytes text.old ++ kept_rows configs.now keep.now.kept) }
+{
+    for number in 0..configs.len() {
+        let Some(config) = configs.at(number) else {
+            unreachable!()
+        };
+        push_kept(&config.name(), keep, number as u32, text)?;
     }
     Ok(())
 }
