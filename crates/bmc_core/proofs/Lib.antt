@@ -2,3 +2,4 @@ pub mod AppliesLemmas
 pub mod ListsLemmas
 pub mod RowsLemmas
 pub mod WalksLemmas
+pub mod BoardItemsLemmas
