@@ -1,2 +1,1 @@
 pub mod AppliesLemmas
-pub mod ListsLemmas
