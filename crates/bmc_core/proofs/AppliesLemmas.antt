@@ -1,28 +1,40 @@
 -- What each act leaves.
-use Rattle.std.proofs.Common.{◌≡◌, ◌≢◌, ℕ, List, [], ◌∷◌, Bool, true, false, cond, Option, Some, None, Ok, Err, refl, ap, ap₂, sym, subst, ◌∙◌}
-use Rattle.std.specs.Prelude.{⊤, ℤ, Result, IfOk, OnErr, is_none, bytes_eq, nat_lt, unsigned_abs, option_map}
+use Rattle.std.proofs.Common.{arith, ◌≡◌, ◌∙◌, ℕ, List, [], ◌∷◌, Bool, true, false, ◌&&◌, nat_eq, if◌then◌else◌, Option, Some, None, Ok, Err, map}
+use Rattle.std.proofs.Common.{refl, ap, ap₂, sym, subst, option_map}
+use Rattle.std.specs.Prelude.{⊤, ℤ, Result, IfOk, OnErr, is_none, bytes_eq}
+use Rattle.std.specs.Option.{is_some}
+use Rattle.std.proofs.lemmas.Bool.Decides.{nat_tests}
 use Rattle.bmc_base.specs.Places.{Place}
 use Rattle.bmc_base.specs.declared.out_of_memory.OutOfMemory.{OutOfMemory as NoMemory}
 use Rattle.cfg_json.specs.Configs.{Config}
 use Rattle.cfg_json.specs.declared.item.Item.{Item}
-use Rattle.inventory.specs.Items.{items_less, live}
-use Rattle.sensor_core.specs.Sensors.{Sensor}
-use Rattle.live_sensors.specs.Items.{settled}
+use Rattle.inventory.specs.Items.{items_less, live, holder}
+use Rattle.inventory.specs.declared.family.Family.TheVariants as families
+use Rattle.inventory.proofs.ListLemmas.{all_any}
+use Rattle.sensor_core.specs.Sensors.{Outcome, Sensor, sensor_of}
+use Rattle.sensor_core.specs.declared.setting.SensorSetting.{SensorSetting}
+use Rattle.live_sensors.specs.Items.{setting_in, settled}
 use Rattle.live_sensors.specs.Sensors.{LiveSensors, sensor_in}
 use Rattle.bmc_report.specs.declared.change.Change.{Change}
 use Rattle.bmc_report.specs.declared.refusal.Refusal.{Refusal}
-use Rattle.bmc_machine.specs.Histories.{Step, Configure, Plug, RefusedPlug, Unplug, Read, Lose}
-use Rattle.bmc_machine.specs.Indexes.{live_now}
-use Rattle.bmc_machine.specs.Lives.{outcome_of, sensor_now}
-use Rattle.bmc_machine.specs.Refusals.{refusal_after, IsLegal}
-use Rattle.bmc_machine.specs.Changes.{changes}
+use Rattle.bmc_machine.specs.Standings.{Standing}
+use Rattle.bmc_machine.specs.Histories.{Step, Configure, Plug, RefusedPlug, Unplug, Read, Lose, standing, is_idle_step}
+use Rattle.bmc_machine.specs.Indexes.{kept, live_now}
+use Rattle.bmc_machine.specs.Lives.{IsNoOutcome, outcomes, sensor_now}
+use Rattle.bmc_machine.specs.Names.{is_of}
+use Rattle.bmc_machine.specs.Refusals.{is_unknown, refusal_after, IsLegal}
+use Rattle.bmc_machine.specs.Changes.{changes, changes_of_sensor}
 use Rattle.bmc_machine.specs.Answers.{past_refused}
-use Rattle.bmc_watch.specs.Watches.{WatchView, view_items, WatchStands, IsSame}
+use Rattle.bmc_machine.proofs.HolderLemmas.{holder_is}
+use Rattle.bmc_machine.proofs.IdleLemmas.{standing_idle, kept_same, live_same, less_self}
+use Rattle.bmc_machine.proofs.LivesLemmas.{sensor_is}
+use Rattle.bmc_machine.proofs.SettledLemmas.{of_sensors, sensor_settled}
+use Rattle.bmc_watch.specs.Watches.{WatchView, fru_entry, view_items, WatchStands, IsSame}
 use Rattle.bmc_watch.specs.Settling.{AreKept, Settles, SettlesUnless}
-use Rattle.bmc_watch.specs.Steps.{Tries, Accepts, Refuses}
+use Rattle.bmc_watch.specs.Steps.{Tries}
 use Rattle.bmc_watch.proofs.WatchesLemmas.{live_is}
 use Rattle.bmc_core.specs.Cores.{CoreView, SensorsStand, AreLast, Stands, quiet, IsUnchanged}
-use Rattle.bmc_core.specs.Acts.{answer_of, TakesMemory, StandsAfter, IsLeft, Applies}
+use Rattle.bmc_core.specs.Acts.{answer_of, TakesMemory, Applies}
 use Rattle.bmc_core.specs.declared.fault.CoreFault.{CoreFault}
 use Rattle.bmc_core.specs.declared.fault.CoreFault.TheVariants.{Refused, OutOfMemory}
 
@@ -34,12 +46,12 @@ last_told (change ∷ more) past step is = is
 -- ---- steps of the bus and of the operator
 
 -- the sensors follow the live items
-sensors_follow : (old new : CoreView) (past : List Step) (step : Step) → ((name : List ℕ) (tick : ℕ) → outcome_of name tick step ≡ [])
+sensors_follow : (old new : CoreView) (past : List Step) (step : Step) → IsNoOutcome step
     → Stands old past → WatchStands new.watch (step ∷ past) → Settles old.watch new.watch old.sensors new.sensors → SensorsStand new.sensors (step ∷ past)
 sensors_follow old new past step watched stood stands settles name =
     settles name
     ∙ (λ i. settled (items_less (before i) (after i)) (items_less (after i) (before i)) name (stood.sensors name i))
-    ∙ sym (sensors_settle past step name stands.legal watched)
+    ∙ sym (sensor_settled past step stands.legal watched name)
   where
     before : live (view_items old.watch) ≡ live_now past
     before = live_is old.watch past stood.watch
@@ -64,19 +76,35 @@ unchanged_stands old new past same stood = record {
   last = subst (λ (told : List Change). AreLast told past) (sym same.watch.changes) stood.last;
 }
 
+-- a plug that was refused leaves the sensors
+plug_refused : (past : List Step) (place : Place) (bytes : List ℕ) (refusal : Refusal) (name : List ℕ) → IsLegal (RefusedPlug place bytes refusal ∷ past)
+    → sensor_now (RefusedPlug place bytes refusal ∷ past) name ≡ sensor_now past name
+plug_refused past place bytes refusal name legal =
+    sensor_settled past (RefusedPlug place bytes refusal) legal (λ name tick. refl) name
+    ∙ (λ i. settled (none_gone i) (none_new i) name (sensor_now past name))
+  where
+    same : live_now (RefusedPlug place bytes refusal ∷ past) ≡ live_now past
+    same = live_same (RefusedPlug place bytes refusal) past refl
+
+    none_gone : items_less (live_now past) (live_now (RefusedPlug place bytes refusal ∷ past)) ≡ []
+    none_gone = ap (items_less (live_now past)) same ∙ less_self (live_now past)
+
+    none_new : items_less (live_now (RefusedPlug place bytes refusal ∷ past)) (live_now past) ≡ []
+    none_new = ap (λ (now : List Item). items_less now (live_now past)) same ∙ less_self (live_now past)
+
 -- a step that is refused leaves the sensors, also where it joins the history
-sensors_refused : (sensors : LiveSensors) (past : List Step) (step : Step) (refusal : Refusal) → SensorsStand sensors past
-    → SensorsStand sensors (past_refused past step refusal)
-sensors_refused sensors past (Plug place bytes) refusal stood name = stood name ∙ sym (sensor_idle past (RefusedPlug place bytes refusal) name)
-sensors_refused sensors past (Configure config) refusal stood = stood
-sensors_refused sensors past (RefusedPlug place bytes reason) refusal stood = stood
-sensors_refused sensors past (Unplug place) refusal stood = stood
-sensors_refused sensors past (Read name raw) refusal stood = stood
-sensors_refused sensors past (Lose name) refusal stood = stood
+sensors_refused : (sensors : LiveSensors) (past : List Step) (step : Step) (refusal : Refusal) → IsLegal (past_refused past step refusal)
+    → SensorsStand sensors past → SensorsStand sensors (past_refused past step refusal)
+sensors_refused sensors past (Plug place bytes) refusal legal stood = λ name. stood name ∙ sym (plug_refused past place bytes refusal name legal)
+sensors_refused sensors past (Configure config) refusal legal stood = stood
+sensors_refused sensors past (RefusedPlug place bytes reason) refusal legal stood = stood
+sensors_refused sensors past (Unplug place) refusal legal stood = stood
+sensors_refused sensors past (Read name raw) refusal legal stood = stood
+sensors_refused sensors past (Lose name) refusal legal stood = stood
 
 -- a step of the bus or of the operator is an act
 pub answered : (old new : CoreView) (step : Step) (tried : Result (Option Refusal) NoMemory)
-    → ((name : List ℕ) (tick : ℕ) → outcome_of name tick step ≡ []) → TakesMemory step
+    → IsNoOutcome step → TakesMemory step
     → IfOk tried (λ refusal. Tries old.watch step refusal new.watch × SettlesUnless refusal old.watch new.watch old.sensors new.sensors)
     → OnErr tried (IsSame old.watch new.watch × AreKept old.sensors new.sensors)
     → Applies old step (answer_of tried) new
@@ -100,7 +128,7 @@ answered old new step (Ok (Some refusal)) watched takes tries kept = record {
         record {
           watch = refuses.stands;
           sensors = subst (λ (sensors : LiveSensors). SensorsStand sensors (past_refused past step refusal)) (sym tries.1)
-              (sensors_refused old.sensors past step refusal stood.sensors);
+              (sensors_refused old.sensors past step refusal refuses.stands.legal stood.sensors);
           last = subst (λ (told : List Change). AreLast told (past_refused past step refusal))
               (sym (ap (λ (watch : WatchView). watch.changes) tries.0.left)) tt;
         },

@@ -30,7 +30,7 @@ answer_of (Err fault) = Err OutOfMemory
 abbrev pub TakesMemory : Step → Type 0
 TakesMemory (Configure config) = ⊤
 TakesMemory (Plug place bytes) = ⊤
-TakesMemory (RefusedPlug place bytes refusal) = ⊤
+TakesMemory (RefusedPlug place bytes refusal) = ⊥
 TakesMemory (Unplug place) = ⊤
 TakesMemory (Read name raw) = ⊥
 TakesMemory (Lose name) = ⊥

@@ -7,6 +7,6 @@ use Rattle.bmc_watch.proofs.StockLemmas.{live_all}
 use Rattle.bmc_watch.proofs.watch.Watch.live.Goals as goal
 
 pub returns : goal.returns
-returns c =
+returns g c =
     c.live.ensures ∙ live_all (view_of c.self.inside) c.self.inside.totals c.self.inside.inventory c.self.invariant.stock
     ∙ ap (λ (view : WatchView). live (view_items view)) c.self.view_is

@@ -1,4 +1,4 @@
-use Rattle.std.proofs.Common.{◌∙◌, List, map, length, ◌==◌, sym, ap, ap₂}
+use Rattle.std.proofs.Common.{arith, ◌∙◌, List, map, length, ◌==◌, sym, ap, ap₂}
 use Rattle.probe_lang.specs.declared.rows.Entry.{Entry}
 use Rattle.found_set.specs.Rows.{row_of}
 use Rattle.found_set.specs.Sets.{SetView}
