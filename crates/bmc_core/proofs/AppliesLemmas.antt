@@ -1,7 +1,8 @@
 -- What each act leaves.
 use Rattle.std.proofs.Common.{arith, ◌≡◌, ◌∙◌, ℕ, List, [], ◌∷◌, Bool, true, false, ◌&&◌, nat_eq, if◌then◌else◌, Option, Some, None, Ok, Err, map}
 use Rattle.std.proofs.Common.{refl, ap, ap₂, sym, subst, option_map}
-use Rattle.std.specs.Prelude.{⊤, ⊥, ℤ, ◌≤◌, nat_lt, unsigned_abs, Result, IfOk, OnErr, IfSome, is_none, bytes_eq}
+use Rattle.std.specs.Prelude.{⊤, ℤ, ◌≤◌, nat_lt, unsigned_abs, Result, IfOk, OnErr, IfSome, is_none, bytes_eq}
+use Rattle.std.specs.Map.{lookup}
 use Rattle.std.specs.Option.{is_some}
 use Rattle.std.proofs.lemmas.Bool.Decides.{nat_tests}
 use Rattle.bmc_base.specs.Places.{Place}
@@ -289,6 +290,10 @@ read_outside old new name raw slot found result same some outside is left =
         by true is = refl
         by false is = absurd (outside (grind (arith, nat_tests, is)))
 
+-- a name has its slot as long as the slots of the names stay
+pub slot_stays : (old new : LiveSensors) (name : List ℕ) (slot : ℕ) → new.names ≡ old.names → slot_of old name ≡ Some slot → slot_of new name ≡ Some slot
+slot_stays old new name slot same has = ap (lookup (bytes_eq name)) same ∙ has
+
 -- what a sensor showed and shows is told
 told_between : (name : List ℕ) (old new : Option Sensor) (before after : Sensor) → old ≡ Some before → new ≡ Some after
     → sensor_changes name before after ≡ changes_of_sensor name old new
@@ -310,6 +315,7 @@ module _ (old new : CoreView) (name : List ℕ) (slot : ℕ) (found : Option ℕ
   known past stood = slot_unknown old past name found same stood ∙ ap is_none some
 
   pub lose_told : Changes old.sensors now slot lost_after → (result : Result ⊤ CoreFault) → result ≡ Ok tt → Applies old (Lose name) result new
+  unfolding IsLegal
   lose_told changed result done =
       told old new (Lose name) name lost_after result done refl accepted (λ past stood. legal past stood) (λ past stood. sensors_lost past name)
       (λ past stood. changes_lost past name stood.watch.legal) (is_told lost_after changed)
@@ -318,13 +324,13 @@ module _ (old new : CoreView) (name : List ℕ) (slot : ℕ) (found : Option ℕ
       accepted past stood = ap (λ (unknown : Bool). if unknown then Some UnknownSensor else None) (known past stood)
 
       legal : (past : List Step) → Stands old past → IsLegal (Lose name ∷ past)
-      unfolding IsLegal
       legal past stood = (stood.watch.legal, accepted past stood)
 
   pub read_told : (raw : ℤ) (tick : ℕ) → IsRaw raw → ((past : List Step) → Stands old past → tick ≡ tick_of past)
       → Changes old.sensors now slot (λ sensor. good_after sensor raw tick)
       → AtSlot old.sensors slot (λ sensor. Takes sensor (good_after sensor raw tick) (Good raw tick)) → (result : Result ⊤ CoreFault) → result ≡ Ok tt
       → Applies old (Read name raw) result new
+  unfolding IsLegal
   read_told raw tick within clock changed takes result done =
       told old new (Read name raw) name (λ sensor. good_after sensor raw tick) result done refl accepted (λ past stood. legal past stood)
       (λ past stood other. sensors_taken past name raw (taken past stood) other
@@ -339,7 +345,6 @@ module _ (old new : CoreView) (name : List ℕ) (slot : ℕ) (found : Option ℕ
       accepted past stood = read_refusal past name raw false (known past stood) (inside (unsigned_abs raw) within)
 
       legal : (past : List Step) → Stands old past → IsLegal (Read name raw ∷ past)
-      unfolding IsLegal
       legal past stood = (stood.watch.legal, accepted past stood)
 
       taken : (past : List Step) → Stands old past
