@@ -1,38 +1,45 @@
 -- What each act leaves.
 use Rattle.std.proofs.Common.{arith, ◌≡◌, ◌∙◌, ℕ, List, [], ◌∷◌, Bool, true, false, ◌&&◌, nat_eq, if◌then◌else◌, Option, Some, None, Ok, Err, map}
 use Rattle.std.proofs.Common.{refl, ap, ap₂, sym, subst, option_map}
-use Rattle.std.specs.Prelude.{⊤, ℤ, Result, IfOk, OnErr, is_none, bytes_eq}
+use Rattle.std.specs.Prelude.{⊤, ℤ, ◌≤◌, nat_lt, unsigned_abs, Result, IfOk, OnErr, IfSome, is_none, bytes_eq}
+use Rattle.std.specs.Map.{lookup}
 use Rattle.std.specs.Option.{is_some}
 use Rattle.std.proofs.lemmas.Bool.Decides.{nat_tests}
 use Rattle.bmc_base.specs.Places.{Place}
 use Rattle.bmc_base.specs.declared.out_of_memory.OutOfMemory.{OutOfMemory as NoMemory}
 use Rattle.cfg_json.specs.Configs.{Config}
 use Rattle.cfg_json.specs.declared.item.Item.{Item}
-use Rattle.inventory.specs.Items.{items_less, live, holder}
+use Rattle.inventory.specs.Boards.{boards_in, board_places}
+use Rattle.inventory.specs.Items.{items_less, items, live, holder}
 use Rattle.inventory.specs.declared.family.Family.TheVariants as families
 use Rattle.inventory.proofs.ListLemmas.{all_any}
-use Rattle.sensor_core.specs.Sensors.{Outcome, Sensor, sensor_of}
+use Rattle.sensor_core.specs.Sensors.{Outcome, Good, Sensor, sensor_of}
+use Rattle.sensor_core.specs.Settings.{most_raw, IsRaw}
+use Rattle.sensor_core.specs.Updates.{good_after, lost_after, Takes}
 use Rattle.sensor_core.specs.declared.setting.SensorSetting.{SensorSetting}
 use Rattle.live_sensors.specs.Items.{setting_in, settled}
-use Rattle.live_sensors.specs.Sensors.{LiveSensors, sensor_in}
+use Rattle.live_sensors.specs.Sensors.{LiveSensors, slot_of, sensor_in, AtSlot, Changes}
 use Rattle.bmc_report.specs.declared.change.Change.{Change}
 use Rattle.bmc_report.specs.declared.refusal.Refusal.{Refusal}
+use Rattle.bmc_report.specs.declared.refusal.Refusal.TheVariants.{UnknownSensor, ReadingRange}
 use Rattle.bmc_machine.specs.Standings.{Standing}
-use Rattle.bmc_machine.specs.Histories.{Step, Configure, Plug, RefusedPlug, Unplug, Read, Lose, standing, is_idle_step}
-use Rattle.bmc_machine.specs.Indexes.{kept, live_now}
+use Rattle.bmc_machine.specs.Histories.{Step, Configure, Plug, RefusedPlug, Unplug, Read, Lose, standing, is_idle_step, tick_of}
+use Rattle.bmc_machine.specs.Boards.{boards, board_keys}
+use Rattle.bmc_machine.specs.Indexes.{boards_now, items_now, live_now}
 use Rattle.bmc_machine.specs.Lives.{IsNoOutcome, outcomes, sensor_now}
 use Rattle.bmc_machine.specs.Names.{is_of}
 use Rattle.bmc_machine.specs.Refusals.{is_unknown, refusal_after, IsLegal}
-use Rattle.bmc_machine.specs.Changes.{changes, changes_of_sensor}
+use Rattle.bmc_machine.specs.Changes.{changes, sensor_changes, changes_of_sensor}
 use Rattle.bmc_machine.specs.Answers.{past_refused}
 use Rattle.bmc_machine.proofs.HolderLemmas.{holder_is}
 use Rattle.bmc_machine.proofs.IdleLemmas.{standing_idle, kept_same, live_same, less_self}
 use Rattle.bmc_machine.proofs.LivesLemmas.{sensor_is}
+use Rattle.bmc_machine.proofs.ReadingLemmas.{sensors_taken, changes_taken, sensors_lost, changes_lost}
 use Rattle.bmc_machine.proofs.SettledLemmas.{of_sensors, sensor_settled}
-use Rattle.bmc_watch.specs.Watches.{WatchView, fru_entry, view_items, WatchStands, IsSame}
+use Rattle.bmc_watch.specs.Watches.{WatchView, no_view, fru_entry, view_items, WatchStands, IsSame}
 use Rattle.bmc_watch.specs.Settling.{AreKept, Settles, SettlesUnless}
 use Rattle.bmc_watch.specs.Steps.{Tries}
-use Rattle.bmc_watch.proofs.WatchesLemmas.{live_is}
+use Rattle.bmc_watch.proofs.WatchesLemmas.{live_is, stands_none}
 use Rattle.bmc_core.specs.Cores.{CoreView, SensorsStand, AreLast, Stands, quiet, IsUnchanged}
 use Rattle.bmc_core.specs.Acts.{answer_of, TakesMemory, Applies}
 use Rattle.bmc_core.specs.declared.fault.CoreFault.{CoreFault}
@@ -216,7 +223,7 @@ pub told : (old new : CoreView) (step : Step) (name : List ℕ) (change : Sensor
     → sensor_now (step ∷ past) other ≡ (if bytes_eq other name then option_map change (sensor_now past other) else sensor_now past other))
     → ((past : List Step) → Stands old past → changes past step ≡ changes_of_sensor name (sensor_now past name) (sensor_now (step ∷ past) name))
     → IsTold old name change new → Applies old step result new
-told old new step name change result is idle accepted legal sensors tells told =
+told old new step name change result is idle accepted legal sensors tells has =
     subst (λ (result : Result ⊤ CoreFault). Applies old step result new) (sym is) (record {
       stands = λ past stood. (accepted past stood, stands past stood, changes_are past stood);
       left = tt;
@@ -224,19 +231,139 @@ told old new step name change result is idle accepted legal sensors tells told =
   where
     sensors_stand : (past : List Step) → Stands old past → SensorsStand new.sensors (step ∷ past)
     sensors_stand past stood other =
-        told.sensors other
+        has.sensors other
         ∙ (λ i. if names_turned name other i then option_map change (stood.sensors other i) else stood.sensors other i)
         ∙ sym (sensors past stood other)
 
     changes_are : (past : List Step) → Stands old past → new.watch.changes ≡ changes past step
     changes_are past stood =
-        ap (λ (watch : WatchView). watch.changes) told.watch
+        ap (λ (watch : WatchView). watch.changes) has.watch
         ∙ ap₂ (changes_of_sensor name) (stood.sensors name) (sensors_stand past stood name)
         ∙ sym (tells past stood)
 
     stands : (past : List Step) → Stands old past → Stands new (step ∷ past)
     stands past stood = record {
-      watch = watch_idle old.watch new.watch past step _ idle (legal past stood) stood.watch told.watch;
+      watch = watch_idle old.watch new.watch past step _ idle (legal past stood) stood.watch has.watch;
       sensors = sensors_stand past stood;
       last = last_told new.watch.changes past step (changes_are past stood);
     }
+
+-- ---- the answers to readings and losses
+
+-- a name without a slot is unknown, and one with a slot is known
+slot_unknown : (core : CoreView) (past : List Step) (name : List ℕ) (slot : Option ℕ) → is_none slot ≡ is_none (sensor_in core.sensors name) → Stands core past
+    → is_unknown (live_now past) name ≡ is_none slot
+slot_unknown core past name slot same stood = unknown_is past name ∙ ap is_none (sym (stood.sensors name)) ∙ sym same
+
+pub read_unknown : (old new : CoreView) (name : List ℕ) (raw : ℤ) (slot : Option ℕ) (result : Result ⊤ CoreFault)
+    → is_none slot ≡ is_none (sensor_in old.sensors name) → slot ≡ None → result ≡ Err (Refused UnknownSensor) → new ≡ quiet old
+    → Applies old (Read name raw) result new
+read_unknown old new name raw slot result same none is left =
+    refused old new (Read name raw) UnknownSensor result (λ past. refl)
+    (λ past stood. ap (λ (unknown : Bool). if unknown then Some UnknownSensor
+    else (if nat_lt most_raw (unsigned_abs raw) then Some ReadingRange else None)) (slot_unknown old past name slot same stood ∙ ap is_none none)) is left
+
+pub lose_unknown : (old new : CoreView) (name : List ℕ) (slot : Option ℕ) (result : Result ⊤ CoreFault)
+    → is_none slot ≡ is_none (sensor_in old.sensors name) → slot ≡ None → result ≡ Err (Refused UnknownSensor) → new ≡ quiet old
+    → Applies old (Lose name) result new
+lose_unknown old new name slot result same none is left =
+    refused old new (Lose name) UnknownSensor result (λ past. refl)
+    (λ past stood. ap (λ (unknown : Bool). if unknown then Some UnknownSensor else None) (slot_unknown old past name slot same stood ∙ ap is_none none)) is left
+
+-- a raw number out of its range is refused
+read_refusal : (past : List Step) (name : List ℕ) (raw : ℤ) (outside : Bool) → is_unknown (live_now past) name ≡ false
+    → nat_lt most_raw (unsigned_abs raw) ≡ outside → refusal_after past (Read name raw) ≡ (if outside then Some ReadingRange else None)
+read_refusal past name raw outside known is =
+    ap₂ (λ (unknown outside : Bool). if unknown then Some UnknownSensor else (if outside then Some ReadingRange else None)) known is
+
+pub read_outside : (old new : CoreView) (name : List ℕ) (raw : ℤ) (slot : ℕ) (found : Option ℕ) (result : Result ⊤ CoreFault)
+    → is_none found ≡ is_none (sensor_in old.sensors name) → found ≡ Some slot → (IsRaw raw → ⊥) → result ≡ Err (Refused ReadingRange) → new ≡ quiet old
+    → Applies old (Read name raw) result new
+read_outside old new name raw slot found result same some outside is left =
+    refused old new (Read name raw) ReadingRange result (λ past. refl)
+    (λ past stood. read_refusal past name raw true (slot_unknown old past name found same stood ∙ ap is_none some) (beyond (unsigned_abs raw) outside)) is left
+  where
+    beyond : (size : ℕ) → (size ≤ most_raw → ⊥) → nat_lt most_raw size ≡ true
+    beyond size outside = by (nat_lt most_raw size) refl
+      where
+        by : (more : Bool) → nat_lt most_raw size ≡ more → more ≡ true
+        by true is = refl
+        by false is = absurd (outside (grind (arith, nat_tests, is)))
+
+-- a name has its slot as long as the slots of the names stay
+pub slot_stays : (old new : LiveSensors) (name : List ℕ) (slot : ℕ) → new.names ≡ old.names → slot_of old name ≡ Some slot → slot_of new name ≡ Some slot
+slot_stays old new name slot same has = ap (lookup (bytes_eq name)) same ∙ has
+
+-- what a sensor showed and shows is told
+told_between : (name : List ℕ) (old new : Option Sensor) (before after : Sensor) → old ≡ Some before → new ≡ Some after
+    → sensor_changes name before after ≡ changes_of_sensor name old new
+told_between name old new before after was is = sym (ap₂ (changes_of_sensor name) was is)
+
+module _ (old new : CoreView) (name : List ℕ) (slot : ℕ) (found : Option ℕ) (before after : Sensor) (now : LiveSensors)
+    (same : is_none found ≡ is_none (sensor_in old.sensors name)) (some : found ≡ Some slot) (has : found ≡ slot_of old.sensors name)
+    (was : sensor_in old.sensors name ≡ Some before) (is : sensor_in now name ≡ Some after)
+    (watch : new.watch ≡ record old.watch { changes = sensor_changes name before after }) (sensors : new.sensors ≡ now) where
+  is_told : (change : Sensor → Sensor) → Changes old.sensors now slot change → IsTold old name change new
+  is_told change changed = record {
+    sensors = λ other. ap (λ (sensors : LiveSensors). sensor_in sensors other) sensors ∙ changed.sensors name (sym has ∙ some) other;
+    watch = watch ∙ ap (λ (told : List Change). record old.watch { changes = told })
+        (told_between name (sensor_in old.sensors name) (sensor_in new.sensors name) before after was
+        (ap (λ (sensors : LiveSensors). sensor_in sensors name) sensors ∙ is));
+  }
+
+  known : (past : List Step) → Stands old past → is_unknown (live_now past) name ≡ false
+  known past stood = slot_unknown old past name found same stood ∙ ap is_none some
+
+  pub lose_told : Changes old.sensors now slot lost_after → (result : Result ⊤ CoreFault) → result ≡ Ok tt → Applies old (Lose name) result new
+  unfolding IsLegal
+  lose_told changed result done =
+      told old new (Lose name) name lost_after result done refl accepted (λ past stood. legal past stood) (λ past stood. sensors_lost past name)
+      (λ past stood. changes_lost past name stood.watch.legal) (is_told lost_after changed)
+    where
+      accepted : (past : List Step) → Stands old past → refusal_after past (Lose name) ≡ None
+      accepted past stood = ap (λ (unknown : Bool). if unknown then Some UnknownSensor else None) (known past stood)
+
+      legal : (past : List Step) → Stands old past → IsLegal (Lose name ∷ past)
+      legal past stood = (stood.watch.legal, accepted past stood)
+
+  pub read_told : (raw : ℤ) (tick : ℕ) → IsRaw raw → ((past : List Step) → Stands old past → tick ≡ tick_of past)
+      → Changes old.sensors now slot (λ sensor. good_after sensor raw tick)
+      → AtSlot old.sensors slot (λ sensor. Takes sensor (good_after sensor raw tick) (Good raw tick)) → (result : Result ⊤ CoreFault) → result ≡ Ok tt
+      → Applies old (Read name raw) result new
+  unfolding IsLegal
+  read_told raw tick within clock changed takes result done =
+      told old new (Read name raw) name (λ sensor. good_after sensor raw tick) result done refl accepted (λ past stood. legal past stood)
+      (λ past stood other. sensors_taken past name raw (taken past stood) other
+      ∙ ap (λ (at : ℕ). if bytes_eq other name then option_map (λ sensor. good_after sensor raw at) (sensor_now past other) else sensor_now past other)
+      (sym (clock past stood)))
+      (λ past stood. changes_taken past name raw (taken past stood) stood.watch.legal) (is_told (λ sensor. good_after sensor raw tick) changed)
+    where
+      inside : (size : ℕ) → size ≤ most_raw → nat_lt most_raw size ≡ false
+      inside size within = grind (arith, nat_tests, within)
+
+      accepted : (past : List Step) → Stands old past → refusal_after past (Read name raw) ≡ None
+      accepted past stood = read_refusal past name raw false (known past stood) (inside (unsigned_abs raw) within)
+
+      legal : (past : List Step) → Stands old past → IsLegal (Read name raw ∷ past)
+      legal past stood = (stood.watch.legal, accepted past stood)
+
+      taken : (past : List Step) → Stands old past
+          → IfSome (sensor_now past name) (λ sensor. Takes sensor (good_after sensor raw (tick_of past)) (Good raw (tick_of past)))
+      taken past stood =
+          subst (λ (at : ℕ). IfSome (sensor_now past name) (λ sensor. Takes sensor (good_after sensor raw at) (Good raw at))) (clock past stood)
+          (subst (λ (sensor : Option Sensor). IfSome sensor (λ sensor. Takes sensor (good_after sensor raw tick) (Good raw tick))) (stood.sensors name)
+          (takes name (sym has ∙ some)))
+
+-- ---- a new core
+
+-- where nothing has happened no name has a sensor
+none_now : (name : List ℕ) → sensor_now [] name ≡ None
+unfolding sensor_now live_now items_now boards_now board_keys standing live items boards boards_in board_places
+none_now name = refl
+
+pub stands_new : (core : CoreView) → core.watch ≡ no_view → ((name : List ℕ) → sensor_in core.sensors name ≡ None) → Stands core []
+stands_new core nothing none = record {
+  watch = subst (λ (watch : WatchView). WatchStands watch []) (sym nothing) stands_none;
+  sensors = λ name. none name ∙ sym (none_now name);
+  last = subst (λ (watch : WatchView). AreLast watch.changes []) (sym nothing) tt;
+}

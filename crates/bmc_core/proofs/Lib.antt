@@ -1,5 +1,5 @@
 pub mod AppliesLemmas
-pub mod ListsLemmas
 pub mod RowsLemmas
-pub mod WalksLemmas
 pub mod BoardItemsLemmas
+pub mod WalksLemmas
+pub mod ListsLemmas

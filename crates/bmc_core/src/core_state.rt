@@ -46,10 +46,9 @@ impl<L: Ledger> Core<L> {
     pub fn new(alloc: Global) -> Result<Core<L>, OutOfMemory>
         ensures { IfOk result (λ core. Stands core []) }
     {
-        Ok(Core {
-            watch: Watch::new(alloc)?,
-            sensors: LiveSensors::new(alloc)?,
-        })
+        let watch = Watch::new(alloc)?;
+        let sensors = LiveSensors::new(alloc)?;
+        Ok(Core { watch, sensors })
     }
 
     /// Borrows the changes of the last act, if it was done: boards that are gone and boards that are new, live items that are
@@ -122,8 +121,9 @@ impl<L: Ledger> Core<L> {
         let Some(slot) = self.sensors.slot(name) else {
             return self.refuse(Refusal::UnknownSensor);
         };
+        let tick = self.tick_count();
         let before = Glimpse::of(self.sensors.at(slot));
-        match self.sensors.good(slot, raw, self.tick_count()) {
+        match self.sensors.good(slot, raw, tick) {
             Ok(()) => {
                 self.watch.tell_reading(name, &before, self.sensors.at(slot));
                 Ok(())
