@@ -91,7 +91,10 @@ impl<L: Ledger> Core<L> {
     ) -> Result<(), CoreFault>
         ensures { Applies self.old (Configure config) result self.new }
     {
-        answer(self.watch.configure(alloc, config, &mut self.sensors, steps))
+        answer(
+            self.watch
+                .configure(alloc, config, &mut self.sensors, steps),
+        )
     }
 
     // Takes a FRU that appeared.
@@ -104,7 +107,10 @@ impl<L: Ledger> Core<L> {
     ) -> Result<(), CoreFault>
         ensures { Applies self.old (Plug place bytes.now) result self.new }
     {
-        answer(self.watch.plug(alloc, place, bytes, &mut self.sensors, steps))
+        answer(
+            self.watch
+                .plug(alloc, place, bytes, &mut self.sensors, steps),
+        )
     }
 
     // Takes away the FRU at a place.
@@ -125,7 +131,8 @@ impl<L: Ledger> Core<L> {
         let before = Glimpse::of(self.sensors.at(slot));
         match self.sensors.good(slot, raw, tick) {
             Ok(()) => {
-                self.watch.tell_reading(name, &before, self.sensors.at(slot));
+                self.watch
+                    .tell_reading(name, &before, self.sensors.at(slot));
                 Ok(())
             }
             Err(ReadingRange) => self.refuse(Refusal::ReadingRange),
@@ -141,7 +148,8 @@ impl<L: Ledger> Core<L> {
         };
         let before = Glimpse::of(self.sensors.at(slot));
         self.sensors.lost(slot);
-        self.watch.tell_reading(name, &before, self.sensors.at(slot));
+        self.watch
+            .tell_reading(name, &before, self.sensors.at(slot));
         Ok(())
     }
 

@@ -23,7 +23,7 @@ returns-in-Ok g c =
     subst (λ (raw : ℤ). Applies c.args.self.now (Read c.args.name.now raw) _ new) same
     (subst (λ (core : CoreView). Applies core (Read c.args.name.now (to_z w64 (of_z w64 c.args.raw))) _ new) c.self.view_is
     (read_told old new c.args.name.now c.in-Some.slot c.slot.result c.at.result.now c.at-in-Ok.result.now c.good.new.self c.slot.ensures.sensor c.in-Some.is
-    c.slot.ensures.slot (c.at.ensures c.args.name.now has) 
+    c.slot.ensures.slot (c.at.ensures c.args.name.now has)
     (c.at-in-Ok.ensures c.args.name.now (slot_stays c.self.inside.sensors c.good.new.self c.args.name.now c.in-Some.slot c.in-Ok.ensures.changes.names has))
     (c.tell_reading.ensures c.at.result.now c.of-before.ensures) refl _ c.tick_count-tick.result (c.in-Ok.ensures.range.0 refl)
     (λ past stood. c.tick_count-tick.ensures past (subst (λ (core : CoreView). Stands core past) c.self.view_is stood)) c.in-Ok.ensures.changes
