@@ -1,3 +1,4 @@
 pub mod Cores
 pub mod Acts
 pub mod Lists
+pub mod Walks

@@ -1,7 +1,9 @@
 -- The lists that a core shows.
 use Rattle.std.specs.Prelude.{ℕ, List, ◌++◌, length, Option, option_and_then}
 use Rattle.std.specs.List.{flat_map, range_with_len}
+use Rattle.bmc_base.specs.Places.{Place}
 use Rattle.probe_lang.specs.declared.rows.Entry.{Entry}
+use Rattle.cfg_json.specs.Configs.{Config}
 use Rattle.cfg_json.specs.declared.item.Item.{Item}
 use Rattle.fru_rows.specs.Idle.{busy}
 use Rattle.inventory.specs.Indexes.{kept_of}
@@ -30,22 +32,30 @@ entry_rows entries = flat_map entry_row entries
 abbrev pub sensor_of_item : LiveSensors → Item → Option Sensor
 sensor_of_item sensors item = option_and_then (λ setting. sensor_in sensors item.name) (setting_in item.part)
 
--- the rows of the sensors among live items, at a tick
-unfoldable pub sensor_rows : LiveSensors → ℕ → List Item → List ℕ
-sensor_rows sensors tick items = flat_map (λ (item : Item). sensor_text item.name tick (sensor_of_item sensors item)) items
+-- its row, at a tick
+abbrev pub item_sensor_row : LiveSensors → ℕ → Item → List ℕ
+item_sensor_row sensors tick item = sensor_text item.name tick (sensor_of_item sensors item)
 
--- the rows of the boards that each configuration ever had
-unfoldable pub kept_rows : WatchView → List ℕ
-kept_rows watch = flat_map (index_rows watch.configs (kept_of watch.kept)) (range_with_len 0 (length watch.configs))
+-- the rows of the sensors among live items
+abbrev pub sensor_rows : LiveSensors → ℕ → List Item → List ℕ
+sensor_rows sensors tick items = flat_map (item_sensor_row sensors tick) items
 
--- the row of a board, and those of its items. FRUs that are idle have no boards
+-- the rows of the boards that are kept of each configuration
+abbrev pub kept_rows : List Config → List (List (Option Place)) → List ℕ
+kept_rows configs kept = flat_map (index_rows configs (kept_of kept)) (range_with_len 0 (length configs))
+
+-- what a board exposes; FRUs that are idle have no boards
+abbrev pub items_of : WatchView → Board → List Item
+items_of watch board = board_items watch.configs (entry_fields (busy watch.entries)) board
+
+-- the row of a board, and those of its items
 abbrev pub board_rows : WatchView → Board → List ℕ
 board_rows watch board =
     board_row (name_of watch.configs board.key.config) board.index board.key.place
-    ++ flat_map (item_text watch.configs (live (view_items watch))) (board_items watch.configs (entry_fields (busy watch.entries)) board)
+    ++ flat_map (item_text watch.configs (live (view_items watch))) (items_of watch board)
 
 -- the rows of all boards
-unfoldable pub inventory_rows : WatchView → List ℕ
+abbrev pub inventory_rows : WatchView → List ℕ
 inventory_rows watch = flat_map (board_rows watch) (view_list watch)
 
 -- what a core shows of a topic
@@ -53,4 +63,4 @@ abbrev pub core_list : Topic → CoreView → List ℕ
 core_list Frus core = entry_rows core.watch.entries
 core_list Inventory core = inventory_rows core.watch
 core_list Sensors core = sensor_rows core.sensors 0 (live (view_items core.watch))
-core_list Indexes core = kept_rows core.watch
+core_list Indexes core = kept_rows core.watch.configs core.watch.kept

@@ -1,12 +1,15 @@
-ghost use Rattle.std.specs.Prelude.{◌≡◌, [], List, Ok, Err, Some, None, is_none, IfOk, OnOk, option_and_then};
+ghost use Rattle.std.specs.Prelude.{◌≡◌, ◌++◌, [], List, Ok, Err, Some, None, is_none, IfOk, OnOk, option_and_then, string_bytes};
 ghost use Rattle.bmc_machine.specs.Histories.{Step, Configure, Plug, Unplug, Read, Lose, tick_of};
 ghost use Rattle.bmc_core.specs.declared.fault.CoreFault.{CoreFault as Fault};
 ghost use Rattle.bmc_core.specs.Acts.{step_of, answer_of, Applies};
 ghost use Rattle.bmc_core.specs.Cores.{Stands, quiet};
+ghost use Rattle.bmc_core.specs.Lists.{core_list};
 
+use crate::board_list::push_inventory;
+use crate::lists::{push_frus, push_indexes, push_sensors};
 use crate::{Act, CoreFault};
 use bmc_base::{Ledger, Name, OutOfMemory, Place, Steps};
-use bmc_report::{Change, Refusal};
+use bmc_report::{Change, Refusal, Topic};
 use bmc_watch::{Glimpse, Watch};
 use cfg_json::Config;
 use fru_rows::Entries;
@@ -61,7 +64,8 @@ impl<L: Ledger> Core<L> {
 
     /// Returns the number of ticks of 100 milliseconds that have passed. No act ticks yet.
     pub fn tick_count(&self) -> u64
-        ensures { (past : List Step) → Stands self.now past → result ≡ tick_of past }
+        ensures value { result ≡ 0 }
+        ensures stands { (past : List Step) → Stands self.now past → result ≡ tick_of past }
     {
         0
     }
@@ -71,6 +75,26 @@ impl<L: Ledger> Core<L> {
         ensures { result ≡ self.now.watch.entries }
     {
         self.watch.entries()
+    }
+
+    /// Appends the rows of a topic.
+    pub fn push_list(
+        &self,
+        alloc: Global,
+        topic: Topic,
+        text: &mut String,
+    ) -> Result<(), OutOfMemory>
+        ensures { OnOk result (string_bytes text.new ≡ string_bytes text.old ++ core_list topic self.now) }
+    {
+        match topic {
+            Topic::Frus => push_frus(self.entries(), text),
+            Topic::Inventory => push_inventory(alloc, &self.watch, text),
+            Topic::Sensors => {
+                let tick = self.tick_count();
+                push_sensors(&self.watch.live(), &self.sensors, tick, text)
+            }
+            Topic::Indexes => push_indexes(self.watch.configs(), self.watch.keep(), text),
+        }
     }
 
     // Refuses an act, and forgets the last changes.

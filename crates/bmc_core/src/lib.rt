@@ -2,8 +2,11 @@
 #![tactic(auto)]
 
 mod act;
+mod board_list;
 mod core_state;
 mod fault;
+mod lists;
+mod live_walk;
 
 pub use act::Act;
 pub use core_state::Core;

@@ -26,7 +26,7 @@ returns-in-Ok g c =
     c.slot.ensures.slot (c.at.ensures c.args.name.now has)
     (c.at-in-Ok.ensures c.args.name.now (slot_stays c.self.inside.sensors c.good.new.self c.args.name.now c.in-Some.slot c.in-Ok.ensures.changes.names has))
     (c.tell_reading.ensures c.at.result.now c.of-before.ensures) refl _ c.tick_count-tick.result (c.in-Ok.ensures.range.0 refl)
-    (λ past stood. c.tick_count-tick.ensures past (subst (λ (core : CoreView). Stands core past) c.self.view_is stood)) c.in-Ok.ensures.changes
+    (λ past stood. c.tick_count-tick.ensures.stands past (subst (λ (core : CoreView). Stands core past) c.self.view_is stood)) c.in-Ok.ensures.changes
     c.in-Ok.ensures.takes _ refl))
 
 pub returns-in-Err : goal.returns-in-Err

@@ -1,0 +1,41 @@
+-- Rows that are appended one after another.
+use Rattle.std.proofs.Common.{◌≡◌, ◌∙◌, ℕ, zero, suc, ◌+◌, List, [], ◌∷◌, ◌++◌, drop, Some, None, slice_get, refl, sym, ap, append_assoc, append-nil}
+use Rattle.std.proofs.Common.{zero-add}
+use Rattle.std.specs.List.{flat_map, range_with_len}
+use Rattle.std.proofs.lemmas.List.{flat_map_more}
+use Rattle.inventory.proofs.DifferencesLemmas.{range_push}
+use Rattle.inventory.proofs.LessLemmas.{drop_at}
+
+drop_past : {X : Type 0} (xs : List X) (i : ℕ) → slice_get xs i ≡ None → drop i xs ≡ []
+drop_past [] zero past = refl
+drop_past [] (suc i) past = refl
+drop_past (first ∷ xs) zero past = absurd (cc)
+drop_past (first ∷ xs) (suc i) past = drop_past xs i past
+
+module _ {X : Type 0} (row : X → List ℕ) (text whole : List ℕ) where
+  -- of the rows that are left one more is appended
+  pub rows_more : (rest later : List X) (x : X) (grown : List ℕ) → text ++ flat_map row rest ≡ whole → rest ≡ x ∷ later → grown ≡ text ++ row x
+      → grown ++ flat_map row later ≡ whole
+  rows_more rest later x grown before next grows =
+      ap (λ (front : List ℕ). front ++ flat_map row later) grows ∙ append_assoc text (row x) (flat_map row later)
+      ∙ ap (λ (rest : List X). text ++ flat_map row rest) (sym next) ∙ before
+
+  -- none is left
+  pub rows_all : (rest : List X) → text ++ flat_map row rest ≡ whole → rest ≡ [] → text ≡ whole
+  rows_all rest before none = sym (append-nil text) ∙ ap (λ (rest : List X). text ++ flat_map row rest) (sym none) ∙ before
+
+  -- the same by a position
+  pub rows_next : (xs : List X) (i : ℕ) (x : X) (grown : List ℕ) → text ++ flat_map row (drop i xs) ≡ whole → slice_get xs i ≡ Some x
+      → grown ≡ text ++ row x → grown ++ flat_map row (drop (i + 1) xs) ≡ whole
+  rows_next xs i x grown before at grows = rows_more (drop i xs) (drop (i + 1) xs) x grown before (drop_at xs i x at) grows
+
+  pub rows_past : (xs : List X) (i : ℕ) → text ++ flat_map row (drop i xs) ≡ whole → slice_get xs i ≡ None → text ≡ whole
+  rows_past xs i before past = rows_all (drop i xs) before (drop_past xs i past)
+
+-- the rows of the next number
+pub rows_numbered : (row : ℕ → List ℕ) (start text grown : List ℕ) (number : ℕ) → text ≡ start ++ flat_map row (range_with_len 0 number)
+    → grown ≡ text ++ row number → grown ≡ start ++ flat_map row (range_with_len 0 (number + 1))
+rows_numbered row start text grown number before grows =
+    grows ∙ ap (λ (front : List ℕ). front ++ row number) before ∙ flat_map_more row start (range_with_len 0 number) number
+    ∙ ap (λ (n : ℕ). start ++ flat_map row (range_with_len 0 number ++ n ∷ [])) (sym (zero-add number))
+    ∙ ap (λ (numbers : List ℕ). start ++ flat_map row numbers) (sym (range_push 0 number))

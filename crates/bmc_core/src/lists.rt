@@ -1,0 +1,107 @@
+ghost use Rattle.std.specs.Prelude.{◌≡◌, ◌++◌, OnOk, string_bytes};
+ghost use Rattle.std.specs.List.{flat_map};
+ghost use Rattle.inventory.specs.Indexes.{kept_of, index_in};
+ghost use Rattle.bmc_report.specs.BoardRows.{index_row};
+ghost use Rattle.bmc_core.specs.Lists.{entry_rows, item_sensor_row, sensor_rows, kept_rows};
+
+use bmc_base::{Ledger, Name, OutOfMemory};
+use bmc_report::{SensorRow, push_fru_row, push_index_row, push_sensor_row};
+use cfg_json::{Item, ItemPart, Shelf};
+use fru_rows::Entries;
+use inventory::{BoardKey, IndexKeep, Live};
+use live_sensors::LiveSensors;
+
+/// Appends the row of each FRU that is present.
+pub(crate) fn push_frus(mut entries: Entries<'_>, text: &mut String) -> Result<(), OutOfMemory>
+    ensures { OnOk result (string_bytes text.new ≡ string_bytes text.old ++ entry_rows entries.entry) }
+{
+    while let Some(entry) = entries.next() {
+        push_fru_row(text, entry.place, entry.fru.fields())?;
+    }
+    Ok(())
+}
+
+// Appends the row of a live item, if it is a sensor.
+fn push_sensor(
+    item: &Item,
+    sensors: &LiveSensors,
+    tick: u64,
+    text: &mut String,
+) -> Result<(), OutOfMemory>
+    ensures { OnOk result (string_bytes text.new ≡ string_bytes text.old ++ item_sensor_row sensors.now tick item.now) }
+{
+    let ItemPart::Sensor(_) = &item.part else {
+        return Ok(());
+    };
+    let Some(slot) = sensors.slot(&item.name) else {
+        return Ok(());
+    };
+    let sensor = sensors.at(slot);
+    push_sensor_row(
+        text,
+        &SensorRow {
+            name: &item.name,
+            value: sensor.value(),
+            failed: sensor.is_failed(),
+            age: sensor.age(tick),
+            alarms: sensor.alarms(),
+        },
+    )
+}
+
+/// Appends the rows of the sensors among live items.
+pub(crate) fn push_sensors(
+    live: &Live<'_>,
+    sensors: &LiveSensors,
+    tick: u64,
+    text: &mut String,
+) -> Result<(), OutOfMemory>
+    ensures { OnOk result (string_bytes text.new ≡ string_bytes text.old ++ sensor_rows sensors.now tick live.now) }
+{
+    for number in 0..live.len() {
+        push_sensor(live.at(number), sensors, tick, text)?;
+    }
+    Ok(())
+}
+
+// Appends the rows of all boards that the configuration with this number and name ever had.
+fn push_kept(
+    name: &Name,
+    keep: &IndexKeep,
+    number: u32,
+    text: &mut String,
+) -> Result<(), OutOfMemory>
+    ensures { let kept = kept_of keep.now.kept number in OnOk result (string_bytes text.new ≡ string_bytes text.old
+        ++ flat_map (λ place. index_row name.now (index_in kept place) place) kept) }
+{
+    for position in 0..usize::MAX {
+        let Some(place) = keep.at(number, position) else {
+            return Ok(());
+        };
+        let key = BoardKey {
+            config: number,
+            place,
+        };
+        let index = keep.index(&key);
+        push_index_row(text, name, index, key.place)?;
+    }
+    // no list is so long
+    Err(OutOfMemory)
+}
+
+/// Appends the rows of all boards that each configuration ever had.
+pub(crate) fn push_indexes<L: Ledger>(
+    configs: &Shelf<L>,
+    keep: &IndexKeep,
+    text: &mut String,
+) -> Result<(), OutOfMemory>
+    ensures { OnOk result (string_bytes text.new ≡ string_bytes text.old ++ kept_rows configs.now keep.now.kept) }
+{
+    for number in 0..configs.len() {
+        let Some(config) = configs.at(number) else {
+            unreachable!()
+        };
+        push_kept(&config.name(), keep, number as u32, text)?;
+    }
+    Ok(())
+}
