@@ -1,37 +1,43 @@
 -- The lists that a core shows are those of the machine, where it stands for a history.
-use Rattle.std.proofs.Common.{◌≡◌, ◌∙◌, ℕ, List, [], ◌∷◌, ◌++◌, map, length, true, Option, Some, None, option_map, refl, sym, ap, ap₂}
+use Rattle.std.proofs.Common.{◌≡◌, ◌∙◌, ℕ, List, [], ◌∷◌, ◌++◌, map, length, Bool, true, false, cond, Option, Some, None, option_map, refl, sym, ap, ap₂}
 use Rattle.std.specs.Prelude.{option_and_then}
 use Rattle.std.specs.List.{AllByRecursion, flat_map, range_with_len}
+use Rattle.std.specs.Cmp.Lexicographic.{nat_list_eq_equiv}
 use Rattle.std.specs.Option.{is_some}
 use Rattle.bmc_base.specs.Places.{Place}
 use Rattle.sensor_core.specs.Sensors.{Sensor, sensor_of}
 use Rattle.sensor_core.specs.declared.setting.SensorSetting.{SensorSetting}
 use Rattle.cfg_json.specs.Configs.{Config}
 use Rattle.cfg_json.specs.declared.item.Item.{Item}
+use Rattle.fru_rows.specs.Idle.{busy}
 use Rattle.inventory.specs.Indexes.{kept_of}
-use Rattle.inventory.specs.Items.{holder, is_item, live}
+use Rattle.inventory.specs.Items.{board_fields, entry_fields, exposes_of, has_name, holder, rendered_items}
+use Rattle.inventory.specs.Lists.{board_list, keys_of}
+use Rattle.inventory.specs.declared.board.Board.{Board}
 use Rattle.inventory.specs.declared.family.Family.TheVariants as families
-use Rattle.inventory.proofs.IdsLemmas.{id_same}
+use Rattle.inventory.proofs.BoardLemmas.{and_both}
+use Rattle.inventory.proofs.ListLemmas.{all_weaker}
+use Rattle.bmc_report.specs.BoardRows.{board_row}
 use Rattle.bmc_report.specs.Rows.{fru_row}
 use Rattle.bmc_report.specs.declared.topic.Topic.{Topic}
 use Rattle.bmc_report.specs.declared.topic.Topic.TheVariants.{Frus, Inventory, Sensors, Indexes}
 use Rattle.live_sensors.specs.Items.{setting_in}
 use Rattle.live_sensors.specs.Sensors.{LiveSensors, sensor_in}
+use Rattle.bmc_machine.specs.Boards.{board_keys, boards, fields_at, name_of}
 use Rattle.bmc_machine.specs.Histories.{Step, standing, tick_of}
-use Rattle.bmc_machine.specs.Indexes.{items_now, kept, live_now}
+use Rattle.bmc_machine.specs.Indexes.{boards_now, kept, live_now}
 use Rattle.bmc_machine.specs.Lives.{item_sensor, outcomes, sensor_now}
 use Rattle.bmc_machine.specs.Names.{is_of}
-use Rattle.bmc_machine.specs.Shows.{fru_list, index_list, index_rows, sensor_list, sensor_text, shown}
+use Rattle.bmc_machine.specs.Refusals.{IsLegal}
+use Rattle.bmc_machine.specs.Shows.{board_lists, board_text, fru_list, index_list, index_rows, item_text, sensor_list, sensor_text, shown}
 use Rattle.bmc_machine.specs.Standings.{Fru, fields_of}
-use Rattle.bmc_machine.proofs.HolderLemmas.{IsLive, holder_is, holder_live, live_are}
 use Rattle.bmc_machine.proofs.LivesLemmas.{sensor_is}
-use Rattle.bmc_machine.proofs.MadeLemmas.{IsItem, item_at, items_are}
-use Rattle.bmc_machine.proofs.NameLemmas.{live_is as live_where}
-use Rattle.bmc_machine.proofs.SettledLemmas.{of_sensors}
-use Rattle.bmc_watch.specs.Watches.{WatchView, WatchStands, fru_entry, view_items}
-use Rattle.bmc_watch.proofs.WatchesLemmas.{live_is}
+use Rattle.bmc_machine.proofs.SettledLemmas.{AreNamedOnce, live_once, none_behind, of_sensors}
+use Rattle.bmc_watch.specs.Watches.{WatchView, WatchStands, fru_entry, view_boards, view_items, view_list}
+use Rattle.bmc_watch.proofs.ItemsLemmas.{IsAlike, busy_alike}
+use Rattle.bmc_watch.proofs.WatchesLemmas.{boards_are, fields_are, known_by_place, live_is}
 use Rattle.bmc_core.specs.Cores.{CoreView, Stands}
-use Rattle.bmc_core.specs.Lists.{core_list, entry_rows, item_sensor_row, kept_rows, sensor_of_item, sensor_rows}
+use Rattle.bmc_core.specs.Lists.{board_rows, core_list, entry_rows, inventory_rows, item_sensor_row, kept_rows, sensor_of_item, sensor_rows}
 
 -- the rows of elements that have the same rows
 rows_alike : {X : Type 0} (row other : X → List ℕ) (xs : List X) → AllByRecursion (λ x. row x ≡ other x) xs → flat_map row xs ≡ flat_map other xs
@@ -54,24 +60,33 @@ indexes_are watch past stood =
 
 -- ---- sensors
 
-module _ (past : List Step) (sensors : LiveSensors) (stood : (name : List ℕ) → sensor_in sensors name ≡ sensor_now past name) where
-  -- a live sensor holds its name
-  holds : (item : Item) → IsLive past item → is_of families.Sensor item ≡ true → holder (live_now past) families.Sensor item.name ≡ Some item
-  unfolding live_now
-  holds item is of_family =
-      holder_live families.Sensor item.name (items_now past)
-      ∙ by (holder (items_now past) families.Sensor item.name) refl
-      (sym (live_where families.Sensor (items_now past) item.id item.name item.part of_family) ∙ is.live)
-    where
-      by : (held : Option Item) → holder (items_now past) families.Sensor item.name ≡ held → is_item item.id held ≡ true → held ≡ Some item
-      by None found lives = absurd (cc)
-      by (Some other) found lives =
-          let made = (holder_is families.Sensor item.name (IsItem past) (items_now past) other (items_are past) found).0 in
-          sym made.made ∙ ap (item_at past) (id_same other.id item.id lives) ∙ is.made.made
+-- where names are given once each sensor item holds its name
+each_holds : (items : List Item) → AreNamedOnce families.Sensor items
+    → AllByRecursion (λ (item : Item). is_of families.Sensor item ≡ true → holder items families.Sensor item.name ≡ Some item) items
+each_holds [] once = tt
+each_holds (first ∷ items) once =
+    (here, all_weaker (Holds items) (Holds (first ∷ items)) (λ item. later item (has_name families.Sensor item.name first) refl) items (each_holds items once.1))
+  where
+    Holds : List Item → Item → Type 0
+    Holds items item = is_of families.Sensor item ≡ true → holder items families.Sensor item.name ≡ Some item
 
-  -- so its name has its sensor
-  shows : (item : Item) → IsLive past item → sensor_of_item sensors item ≡ item_sensor past item
-  shows item is = by (setting_in item.part) refl
+    here : Holds (first ∷ items) first
+    here of =
+        ap (λ (named : Bool). cond named (Some first) (holder items families.Sensor first.name)) (and_both _ _ of (nat_list_eq_equiv.refl first.name))
+
+    later : (item : Item) (named : Bool) → has_name families.Sensor item.name first ≡ named → Holds items item
+        → is_of families.Sensor item ≡ true → cond named (Some first) (holder items families.Sensor item.name) ≡ Some item
+    later item true named holds of =
+        let none : holder items families.Sensor item.name ≡ None = none_behind families.Sensor item.name first items once named in
+        let some : holder items families.Sensor item.name ≡ Some item = holds of in
+        absurd (cc)
+    later item false named holds of = holds of
+
+module _ (past : List Step) (sensors : LiveSensors) (stood : (name : List ℕ) → sensor_in sensors name ≡ sensor_now past name) where
+  -- the name of a sensor that holds it has its sensor
+  shows : (item : Item) → (is_of families.Sensor item ≡ true → holder (live_now past) families.Sensor item.name ≡ Some item)
+      → sensor_of_item sensors item ≡ item_sensor past item
+  shows item holds = by (setting_in item.part) refl
     where
       by : (setting : Option SensorSetting) → setting_in item.part ≡ setting → sensor_of_item sensors item ≡ item_sensor past item
       by None none =
@@ -79,25 +94,50 @@ module _ (past : List Step) (sensors : LiveSensors) (stood : (name : List ℕ) �
           ∙ sym (ap (option_map (λ (setting : SensorSetting). sensor_of setting (outcomes item past))) none)
       by (Some setting) some =
           ap (option_and_then (λ (setting : SensorSetting). sensor_in sensors item.name)) some
-          ∙ stood item.name
-          ∙ sensor_is past item.name (Some item) (holds item is (of_sensors item.part ∙ ap is_some some))
+          ∙ stood item.name ∙ sensor_is past item.name (Some item) (holds (of_sensors item.part ∙ ap is_some some))
 
-  rows_same : (items : List Item) → AllByRecursion (IsLive past) items
-      → AllByRecursion (λ (item : Item). item_sensor_row sensors 0 item ≡ sensor_text item.name (tick_of past) (item_sensor past item)) items
-  rows_same [] are = tt
-  rows_same (item ∷ items) are = (ap (sensor_text item.name 0) (shows item are.0), rows_same items are.1)
-
-  sensors_are : sensor_rows sensors 0 (live_now past) ≡ sensor_list past
+  sensors_are : IsLegal past → sensor_rows sensors 0 (live_now past) ≡ sensor_list past
   unfolding sensor_list
-  sensors_are =
+  sensors_are legal =
       rows_alike (item_sensor_row sensors 0) (λ (item : Item). sensor_text item.name (tick_of past) (item_sensor past item)) (live_now past)
-      (rows_same (live_now past) (live_are past))
+      (all_weaker _ _ (λ (item : Item) holds. ap (sensor_text item.name 0) (shows item holds)) (live_now past)
+      (each_holds (live_now past) (live_once past legal)))
+
+-- ---- boards and their items
+
+module _ (watch : WatchView) (past : List Step) (stood : WatchStands watch past) where
+  -- a board that has the same fields among the busy FRUs as among all has the same rows
+  board_same : (board : Board) → IsAlike (entry_fields (busy watch.entries)) (entry_fields watch.entries) board
+      → board_rows watch board ≡ board_text (standing past).configs (standing past).frus (live_now past) board
+  board_same board alike = λ i.
+      board_row (name_of (stood.configs i) board.key.config) board.index board.key.place
+      ++ flat_map (item_text (stood.configs i) (live_is watch past stood i))
+      (rendered_items board (fields i) (exposes_of (stood.configs i) board.key.config))
+    where
+      fields : board_fields (entry_fields (busy watch.entries)) board ≡ board_fields (fields_at (standing past).frus) board
+      fields =
+          alike ∙ ap (λ fields_at. board_fields fields_at board) (ap entry_fields stood.entries ∙ fields_are (standing past).configs (standing past).frus)
+
+  list_same : view_list watch ≡ boards_now past
+  unfolding boards_now board_keys
+  list_same = λ i. board_list (λ number. stood.kept number i) (keys_of (length (stood.configs i)) (λ number. same number i))
+    where
+      same : (number : ℕ) → view_boards watch number ≡ boards (standing past) number
+      same = boards_are watch (standing past) stood.configs stood.entries
+
+  boards_same : inventory_rows watch ≡ board_lists past
+  unfolding board_lists
+  boards_same =
+      rows_alike (board_rows watch) (board_text (standing past).configs (standing past).frus (live_now past)) (view_list watch)
+      (all_weaker _ _ board_same (view_list watch) (busy_alike watch.configs (kept_of watch.kept) (length watch.configs) watch.entries
+      (known_by_place watch past stood.legal stood.entries)))
+      ∙ ap (flat_map (board_text (standing past).configs (standing past).frus (live_now past))) list_same
 
 -- ---- all topics
 
 pub lists_are : (topic : Topic) (core : CoreView) (past : List Step) → Stands core past → core_list topic core ≡ shown topic past
 lists_are Frus core past stood = ap entry_rows stood.watch.entries ∙ frus_are (standing past).configs (standing past).frus
-lists_are Inventory core past stood = ?
+lists_are Inventory core past stood = boards_same core.watch past stood.watch
 lists_are Sensors core past stood =
-    ap (sensor_rows core.sensors 0) (live_is core.watch past stood.watch) ∙ sensors_are past core.sensors stood.sensors
+    ap (sensor_rows core.sensors 0) (live_is core.watch past stood.watch) ∙ sensors_are past core.sensors stood.sensors stood.watch.legal
 lists_are Indexes core past stood = indexes_are core.watch past stood.watch

@@ -76,23 +76,28 @@ module _ (Fact : Place → Type 0) where
       (all_flat_map (λ (key : BoardKey). OnPlace Fact key.place) (λ (number : ℕ). Unit {0}) (λ number. map (key_of number) (boards number))
       (λ number u. all_map _ (key_of number) (boards number) (each number)) (range_with_len 0 count) (all_any _ (λ number. tt) (range_with_len 0 count)))
 
--- boards expose the same where their places have the same fields
+-- a board has the same fields in two places of fields
+abbrev pub IsAlike : (fields others : Place → Option (List Field)) → Board → Type 0
+IsAlike fields others board = board_fields fields board ≡ board_fields others board
+
+-- as its place has, if it has one
+alike_at : (fields others : Place → Option (List Field)) (board : Board) → OnPlace (λ place. fields place ≡ others place) board.key.place
+    → IsAlike fields others board
+alike_at fields others board same = by board.key.place same
+  where
+    by : (place : Option Place) → OnPlace (λ place. fields place ≡ others place) place → option_and_then fields place ≡ option_and_then others place
+    by None same = refl
+    by (Some place) same = same
+
+-- boards expose the same where they have the same fields
 items_alike : (configs : List Config) (fields others : Place → Option (List Field)) (boards : List Board)
-    → AllByRecursion (λ (board : Board). OnPlace (λ place. fields place ≡ others place) board.key.place) boards
-    → items configs fields boards ≡ items configs others boards
+    → AllByRecursion (IsAlike fields others) boards → items configs fields boards ≡ items configs others boards
 unfolding items
 items_alike configs fields others [] alike = refl
 items_alike configs fields others (board ∷ boards) alike =
     ap₂ (λ (first later : List _). first ++ later)
-    (ap (λ (fields : Option (List Field)). rendered_items board fields (exposes_of configs board.key.config)) (same board alike.0))
+    (ap (λ (fields : Option (List Field)). rendered_items board fields (exposes_of configs board.key.config)) alike.0)
     (items_alike configs fields others boards alike.1)
-  where
-    same : (board : Board) → OnPlace (λ place. fields place ≡ others place) board.key.place → board_fields fields board ≡ board_fields others board
-    same board alike = by board.key.place alike
-      where
-        by : (place : Option Place) → OnPlace (λ place. fields place ≡ others place) place → option_and_then fields place ≡ option_and_then others place
-        by None alike = refl
-        by (Some place) alike = alike
 
 -- each entry is found at its place
 abbrev pub AreByPlace : List Entry → Type 0
@@ -116,12 +121,12 @@ found_each (entry ∷ entries) order = (here, behind entries order.0 (found_each
       behind later after.1 found.1,
     )
 
--- the busy FRUs expose what all do
-pub busy_items : (configs : List Config) (kept : ℕ → List (Option Place)) (count : ℕ) (entries : List Entry) → AreByPlace entries
-    → items configs (entry_fields (busy entries)) (board_list kept (keys_of count (boards_in configs (map entry_sight entries))))
-    ≡ items configs (entry_fields entries) (board_list kept (keys_of count (boards_in configs (map entry_sight entries))))
-busy_items configs kept count entries order =
-    items_alike configs (entry_fields (busy entries)) (entry_fields entries) _
+-- each board has the same fields among the busy FRUs as among all
+pub busy_alike : (configs : List Config) (kept : ℕ → List (Option Place)) (count : ℕ) (entries : List Entry) → AreByPlace entries
+    → AllByRecursion (IsAlike (entry_fields (busy entries)) (entry_fields entries))
+    (board_list kept (keys_of count (boards_in configs (map entry_sight entries))))
+busy_alike configs kept count entries order =
+    all_weaker _ _ (alike_at (entry_fields (busy entries)) (entry_fields entries)) _
     (list_on Same kept (boards_in configs (map entry_sight entries)) count (λ number.
     subst (AllByRecursion (OnPlace Same)) (busy_boards configs entries number)
     (boards_on Same configs (map entry_sight (busy entries)) number (all_map _ entry_sight (busy entries) each))))
@@ -148,6 +153,13 @@ busy_items configs kept count entries order =
         both [] found works = tt
         both (entry ∷ some) found works = (same entry found.0 works.0, both some found.1 works.1)
 
+-- so the busy FRUs expose what all do
+pub busy_items : (configs : List Config) (kept : ℕ → List (Option Place)) (count : ℕ) (entries : List Entry) → AreByPlace entries
+    → items configs (entry_fields (busy entries)) (board_list kept (keys_of count (boards_in configs (map entry_sight entries))))
+    ≡ items configs (entry_fields entries) (board_list kept (keys_of count (boards_in configs (map entry_sight entries))))
+busy_items configs kept count entries order =
+    items_alike configs (entry_fields (busy entries)) (entry_fields entries) _ (busy_alike configs kept count entries order)
+
 -- ---- where one FRU comes or goes
 
 module _ (configs : List Config) (kept : ℕ → List (Option Place)) (count : ℕ) (entry : Entry) (fewer more : List Entry)
@@ -158,11 +170,11 @@ module _ (configs : List Config) (kept : ℕ → List (Option Place)) (count : �
   find_skip place (first ∷ front) back away =
       ap (λ (later : Option Entry). cond (is_entry_at place first) (Some first) later) (find_skip place front back away)
 
-  abbrev IsAlike : Place → Type 0
-  IsAlike place = entry_fields (busy more) place ≡ entry_fields (busy fewer) place
+  abbrev Same : Place → Type 0
+  Same place = entry_fields (busy more) place ≡ entry_fields (busy fewer) place
 
   all_alike : (some : List Entry) → AllByRecursion (λ (each : Entry). is_entry_at each.place entry ≡ false) some
-      → AllByRecursion (λ (each : Entry). IsAlike each.place) some
+      → AllByRecursion (λ (each : Entry). Same each.place) some
   all_alike [] away = tt
   all_alike (each ∷ some) away = (
     ap (option_map (λ (entry : Entry). entry.fru)) (ap (find (is_entry_at each.place)) among.with
@@ -176,9 +188,10 @@ module _ (configs : List Config) (kept : ℕ → List (Option Place)) (count : �
       ≡ items configs (entry_fields (busy fewer)) (filter test (board_list kept (keys_of count (boards_in configs (map entry_sight fewer)))))
   items_apart test =
       items_alike configs (entry_fields (busy more)) (entry_fields (busy fewer)) _
-      (all_filter _ test _ (list_on IsAlike kept (boards_in configs (map entry_sight fewer)) count (λ number.
-      subst (AllByRecursion (OnPlace IsAlike)) (busy_boards configs fewer number)
-      (boards_on IsAlike configs (map entry_sight (busy fewer)) number (all_map _ entry_sight (busy fewer) (all_alike (busy fewer) apart))))))
+      (all_weaker _ _ (alike_at (entry_fields (busy more)) (entry_fields (busy fewer))) _
+      (all_filter _ test _ (list_on Same kept (boards_in configs (map entry_sight fewer)) count (λ number.
+      subst (AllByRecursion (OnPlace Same)) (busy_boards configs fewer number)
+      (boards_on Same configs (map entry_sight (busy fewer)) number (all_map _ entry_sight (busy fewer) (all_alike (busy fewer) apart)))))))
 
 eq_reverse : (order : Ordering) → is_eq (ordering_reverse order) ≡ is_eq order
 eq_reverse Less = refl

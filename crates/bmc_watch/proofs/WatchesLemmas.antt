@@ -48,7 +48,7 @@ entry_sights configs (fru ∷ frus) =
     ap₂ (λ (first : Sight) (later : List Sight). first ∷ later) (entry_sight_is configs fru.place (fields_of fru)) (entry_sights configs frus)
 
 -- the boards by what is known are those of a scan
-boards_are : (view : WatchView) (now : Standing) → view.configs ≡ now.configs → view.entries ≡ map (fru_entry now.configs) now.frus
+pub boards_are : (view : WatchView) (now : Standing) → view.configs ≡ now.configs → view.entries ≡ map (fru_entry now.configs) now.frus
     → (number : ℕ) → view_boards view number ≡ boards now number
 unfolding boards
 boards_are view now configs entries number =
@@ -56,7 +56,7 @@ boards_are view now configs entries number =
     (ap (map entry_sight) entries ∙ entry_sights now.configs now.frus)
 
 -- the fields that are known at a place are those of the FRU there
-fields_are : (configs : List Config) (frus : List Fru) → entry_fields (map (fru_entry configs) frus) ≡ fields_at frus
+pub fields_are : (configs : List Config) (frus : List Fru) → entry_fields (map (fru_entry configs) frus) ≡ fields_at frus
 fields_are configs frus = λ i place. at frus place i
   where
     at : (frus : List Fru) (place : Place) → entry_fields (map (fru_entry configs) frus) place ≡ fields_at frus place
@@ -74,7 +74,7 @@ entry_places configs [] = refl
 entry_places configs (fru ∷ frus) = ap (λ (later : List Place). fru.place ∷ later) (entry_places configs frus)
 
 -- what is known of the FRUs comes by place
-known_by_place : (view : WatchView) (past : List Step) → IsLegal past → view.entries ≡ map (fru_entry (standing past).configs) (standing past).frus
+pub known_by_place : (view : WatchView) (past : List Step) → IsLegal past → view.entries ≡ map (fru_entry (standing past).configs) (standing past).frus
     → AreByPlace view.entries
 known_by_place view past legal entries =
     subst (λ (places : List Place). IsStrictlySortedBy place_cmp places)
