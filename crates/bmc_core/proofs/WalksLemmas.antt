@@ -145,8 +145,7 @@ module _ (test : Item → Bool) (at : ItemId → Option Item) where
     walked_are [] those known lines = (refl, refl)
     walked_are (item ∷ some) those known lines =
         let behind = behind_passes item known.0 (some ++ those) known.1 in
-        let rest = walked_are some those known.1 lines.1 in
-        (
+        let rest = walked_are some those known.1 lines.1 in (
           ap₂ (λ (first later : List ℕ). first ++ later)
               (ap (λ (is : Bool). item_line exposes is item) (next_passes item known.0 (some ++ those) known.1) ∙ lines.0)
               (ap (λ (live : List Item). walked_items exposes live some) behind ∙ rest.0),
