@@ -112,9 +112,7 @@ fn take_block<M: PatternMaker, L: Ledger>(
     ensures err { OnErr result (LeavesItem (items.Block block.now) (M.seen maker.old) (M.seen maker.new)) }
 {
     match Config::read(alloc, block, maker) {
-        Ok(config) => {
-            effect_of(core.apply(alloc, Act::Config(config), steps))
-        }
+        Ok(config) => effect_of(core.apply(alloc, Act::Config(config), steps)),
         Err(rule) => {
             let refusal = config_refused(rule)?;
             Ok(Effect::Refused(refusal))

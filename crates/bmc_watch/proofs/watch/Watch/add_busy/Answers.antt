@@ -88,32 +88,38 @@ returns-in-Err-clause-ok g c =
     let known = c.requires.known ∙ ap (λ (view : WatchView). entry_of view.configs c.args.boxed.value.place c.args.boxed.value.fru) (sym c.self.view_is) in
     subst (λ (refusal : Option Refusal). AddsUnless refusal c.args.boxed.value.place c.args.boxed.value.fru c.args.self.now c.refuse.new.self
     × SettlesUnless refusal c.args.self.now c.refuse.new.self c.args.sensors.now c.args.sensors.now)
-    (sym c.refuse.ensures.reason) ((
-      subst (λ (view : WatchView). view_refusal (with_fru view c.args.boxed.value.place c.args.boxed.value.fru) ≡ Some c.limit_refused.result) c.self.view_is
-          (ap (λ (entry : Entry). option_map limit_refusal (passed_limit c.self.inside.shelf (keys_of (length c.self.inside.shelf)
-          (boards_in c.self.inside.shelf (map entry_sight (with_entry entry c.self.inside.rows.entries)))))) (sym known) ∙ limit),
-      c.refuse.ensures.left
-          ∙ ap (λ (entries : List Entry). record {
-            configs = c.self.inside.shelf;
-            entries = entries;
-            plugged = c.self.inside.plugged;
-            kept = c.self.inside.keep.kept;
-            changes = [];
-          }) c.in_ok-reserve.ensures.entries
-          ∙ ap (λ (view : WatchView). record view { changes = [] }) c.self.view_is,
-    ), refl)
+    (sym c.refuse.ensures.reason) (
+      (
+        subst (λ (view : WatchView). view_refusal (with_fru view c.args.boxed.value.place c.args.boxed.value.fru) ≡ Some c.limit_refused.result) c.self.view_is
+            (ap (λ (entry : Entry). option_map limit_refusal (passed_limit c.self.inside.shelf (keys_of (length c.self.inside.shelf)
+            (boards_in c.self.inside.shelf (map entry_sight (with_entry entry c.self.inside.rows.entries)))))) (sym known) ∙ limit),
+        c.refuse.ensures.left
+            ∙ ap (λ (entries : List Entry). record {
+              configs = c.self.inside.shelf;
+              entries = entries;
+              plugged = c.self.inside.plugged;
+              kept = c.self.inside.keep.kept;
+              changes = [];
+            }) c.in_ok-reserve.ensures.entries
+            ∙ ap (λ (view : WatchView). record view { changes = [] }) c.self.view_is,
+      ),
+      refl,
+    )
 
 -- ---- want of memory
 
 pub returns-in_err-items-clause-same : goal.returns-in_err-items-clause-same
 returns-in_err-items-clause-same g c =
-    on_err c.from_residual-in_err-items.result (record {
-      configs = ap (λ (view : WatchView). view.configs) c.self.view_is;
-      entries = c.in_ok-reserve.ensures.entries ∙ ap (λ (view : WatchView). view.entries) c.self.view_is;
-      plugged = ap (λ (view : WatchView). view.plugged) c.self.view_is;
-      kept = λ number. ap (λ (view : WatchView). kept_of view.kept number) c.self.view_is;
-      changes = ap (λ (view : WatchView). view.changes) c.self.view_is;
-    }, λ name. refl)
+    on_err c.from_residual-in_err-items.result (
+      record {
+        configs = ap (λ (view : WatchView). view.configs) c.self.view_is;
+        entries = c.in_ok-reserve.ensures.entries ∙ ap (λ (view : WatchView). view.entries) c.self.view_is;
+        plugged = ap (λ (view : WatchView). view.plugged) c.self.view_is;
+        kept = λ number. ap (λ (view : WatchView). kept_of view.kept number) c.self.view_is;
+        changes = ap (λ (view : WatchView). view.changes) c.self.view_is;
+      },
+      λ name. refl,
+    )
 
 pub invariant_of-self-in_err-gone : goal.invariant_of-self-in_err-gone
 invariant_of-self-in_err-gone g c = record {
@@ -131,13 +137,16 @@ invariant_of-self-in_err-gone g c = record {
 
 pub returns-in_err-gone-clause-same : goal.returns-in_err-gone-clause-same
 returns-in_err-gone-clause-same g c =
-    on_err c.from_residual-in_err-gone.result (record {
-      configs = ap (λ (view : WatchView). view.configs) c.self.view_is;
-      entries = c.in_ok-reserve.ensures.entries ∙ ap (λ (view : WatchView). view.entries) c.self.view_is;
-      plugged = ap (λ (view : WatchView). view.plugged) c.self.view_is;
-      kept = λ number. c.stage_changes.ensures.kept number ∙ ap (λ (view : WatchView). kept_of view.kept number) c.self.view_is;
-      changes = c.stage_changes.ensures.changes ∙ ap (λ (view : WatchView). view.changes) c.self.view_is;
-    }, c.stage_changes.ensures.sensors)
+    on_err c.from_residual-in_err-gone.result (
+      record {
+        configs = ap (λ (view : WatchView). view.configs) c.self.view_is;
+        entries = c.in_ok-reserve.ensures.entries ∙ ap (λ (view : WatchView). view.entries) c.self.view_is;
+        plugged = ap (λ (view : WatchView). view.plugged) c.self.view_is;
+        kept = λ number. c.stage_changes.ensures.kept number ∙ ap (λ (view : WatchView). kept_of view.kept number) c.self.view_is;
+        changes = c.stage_changes.ensures.changes ∙ ap (λ (view : WatchView). view.changes) c.self.view_is;
+      },
+      c.stage_changes.ensures.sensors,
+    )
 
 -- ---- what is told
 
@@ -309,11 +318,14 @@ returns-clause-ok g c =
     let follows = settles old new c.in_ok-items.items.gone c.in_ok-items.items.new c.args.sensors.now c.stage_changes.new.sensors c.settle_sensors.new.sensors
     next.goes next.comes c.stage_changes.ensures.sensors c.settle_sensors.ensures in
     subst (λ (view : WatchView). AddsFru c.args.boxed.value.place c.args.boxed.value.fru view new
-    × Settles view new c.args.sensors.now c.settle_sensors.new.sensors) c.self.view_is (record {
-      configs = refl;
-      entries = now ∙ ap (λ (entry : Entry). with_entry entry c.self.inside.rows.entries)
-          (c.requires.known ∙ ap (λ (view : WatchView). entry_of view.configs c.args.boxed.value.place c.args.boxed.value.fru) (sym c.self.view_is));
-      plugged = refl;
-      fits = no_refusal new.configs new.entries new.kept c.in-Ok.totals (items_behind c.in_ok-items.items.inventory c.self.inside.inventory) next.stocked;
-      moves = next.moves;
-    }, follows)
+    × Settles view new c.args.sensors.now c.settle_sensors.new.sensors) c.self.view_is (
+      record {
+        configs = refl;
+        entries = now ∙ ap (λ (entry : Entry). with_entry entry c.self.inside.rows.entries)
+            (c.requires.known ∙ ap (λ (view : WatchView). entry_of view.configs c.args.boxed.value.place c.args.boxed.value.fru) (sym c.self.view_is));
+        plugged = refl;
+        fits = no_refusal new.configs new.entries new.kept c.in-Ok.totals (items_behind c.in_ok-items.items.inventory c.self.inside.inventory) next.stocked;
+        moves = next.moves;
+      },
+      follows,
+    )

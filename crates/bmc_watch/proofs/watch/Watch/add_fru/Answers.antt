@@ -55,14 +55,17 @@ returns-clause-ok g c =
     c.self.inside.inventory works
     (λ number. idle_boards c.self.inside.shelf c.in_ok-boxed.boxed.value c.self.inside.rows.entries c.plug.new.self.entries among idle number)
     c.self.invariant.stock in
-    subst (λ (view : WatchView). AddsFru c.args.place c.args.fru view new × Settles view new c.args.sensors.now c.args.sensors.now) c.self.view_is (record {
-      configs = refl;
-      entries = now ∙ ap (λ (entry : Entry). with_entry entry c.self.inside.rows.entries)
-          (c.in_ok-boxed.ensures.ok ∙ c.in_ok-made.ensures.ok);
-      plugged = refl;
-      fits = no_refusal c.self.inside.shelf c.plug.new.self.entries c.self.inside.keep.kept c.self.inside.totals c.self.inside.inventory stocked;
-      moves =
-          idle_moves old new refl works (λ number. idle_boards c.self.inside.shelf c.in_ok-boxed.boxed.value c.self.inside.rows.entries
-          c.plug.new.self.entries among idle number) refl c.clear.ensures.items;
-    }, idle_settles old new c.args.sensors.now refl works (λ number. idle_boards c.self.inside.shelf c.in_ok-boxed.boxed.value c.self.inside.rows.entries
-    c.plug.new.self.entries among idle number) refl)
+    subst (λ (view : WatchView). AddsFru c.args.place c.args.fru view new × Settles view new c.args.sensors.now c.args.sensors.now) c.self.view_is (
+      record {
+        configs = refl;
+        entries = now ∙ ap (λ (entry : Entry). with_entry entry c.self.inside.rows.entries)
+            (c.in_ok-boxed.ensures.ok ∙ c.in_ok-made.ensures.ok);
+        plugged = refl;
+        fits = no_refusal c.self.inside.shelf c.plug.new.self.entries c.self.inside.keep.kept c.self.inside.totals c.self.inside.inventory stocked;
+        moves =
+            idle_moves old new refl works (λ number. idle_boards c.self.inside.shelf c.in_ok-boxed.boxed.value c.self.inside.rows.entries
+            c.plug.new.self.entries among idle number) refl c.clear.ensures.items;
+      },
+      idle_settles old new c.args.sensors.now refl works (λ number. idle_boards c.self.inside.shelf c.in_ok-boxed.boxed.value c.self.inside.rows.entries
+          c.plug.new.self.entries among idle number) refl,
+    )

@@ -74,26 +74,31 @@ returns-in-Err-clause-tried g c =
     ∙ ap Some (sym c.limit_refused.ensures) in
     subst (λ (refusal : Option Refusal). Tries c.args.self.now (Configure c.args.config) refusal c.refuse-in-Err.new.self
     × SettlesUnless refusal c.args.self.now c.refuse-in-Err.new.self c.args.sensors.now c.args.sensors.now)
-    (sym c.refuse-in-Err.ensures.reason)
-    (subst (λ (view : WatchView). Tries view (Configure c.args.config) (Some c.limit_refused.result) c.refuse-in-Err.new.self) c.self.view_is
-    (config_over_limit old c.refuse-in-Err.new.self c.args.config c.limit_refused.result c.if-self.false
-    (no_entries c.self.inside.plugged c.self.inside.rows.entries c.if-self.false c.self.invariant.none)
-    (no_number c.self.inside.shelf c.name.result c.args.config c.position.result c.position.ensures c.name.ensures (sym c.is_some.ensures ∙
-    c.if-is_some.false))
-    (lt-leb most_configs (length c.self.inside.shelf) (omega (arith, c.len.ensures.value, c.if-len-ge-MOST_CONFIGS.false)))
-    limit c.refuse-in-Err.ensures.left), refl)
+    (sym c.refuse-in-Err.ensures.reason) (
+      subst (λ (view : WatchView). Tries view (Configure c.args.config) (Some c.limit_refused.result) c.refuse-in-Err.new.self) c.self.view_is
+          (config_over_limit old c.refuse-in-Err.new.self c.args.config c.limit_refused.result c.if-self.false
+          (no_entries c.self.inside.plugged c.self.inside.rows.entries c.if-self.false c.self.invariant.none)
+          (no_number c.self.inside.shelf c.name.result c.args.config c.position.result c.position.ensures c.name.ensures (sym c.is_some.ensures ∙
+          c.if-is_some.false))
+          (lt-leb most_configs (length c.self.inside.shelf) (omega (arith, c.len.ensures.value, c.if-len-ge-MOST_CONFIGS.false)))
+          limit c.refuse-in-Err.ensures.left),
+      refl,
+    )
 
 -- ---- want of memory
 
 pub returns-in_err-listed-clause-same : goal.returns-in_err-listed-clause-same
 returns-in_err-listed-clause-same g c =
-    on_err c.from_residual-in_err-listed.result (record {
-      configs = ap (λ (view : WatchView). view.configs) c.self.view_is;
-      entries = ap (λ (view : WatchView). view.entries) c.self.view_is;
-      plugged = ap (λ (view : WatchView). view.plugged) c.self.view_is;
-      kept = λ number. ap (λ (view : WatchView). kept_of view.kept number) c.self.view_is;
-      changes = ap (λ (view : WatchView). view.changes) c.self.view_is;
-    }, λ name. refl)
+    on_err c.from_residual-in_err-listed.result (
+      record {
+        configs = ap (λ (view : WatchView). view.configs) c.self.view_is;
+        entries = ap (λ (view : WatchView). view.entries) c.self.view_is;
+        plugged = ap (λ (view : WatchView). view.plugged) c.self.view_is;
+        kept = λ number. ap (λ (view : WatchView). kept_of view.kept number) c.self.view_is;
+        changes = ap (λ (view : WatchView). view.changes) c.self.view_is;
+      },
+      λ name. refl,
+    )
 
 pub returns-in_err-items-clause-tried : goal.returns-in_err-items-clause-tried
 returns-in_err-items-clause-tried g c = not_ok _ _ c.from_residual-in_err-items.result c.from_residual-in_err-items.ensures.1
@@ -106,13 +111,16 @@ returns-in_err-add-clause-tried g c = not_ok _ _ c.from_residual-in_err-add.resu
 
 pub returns-in_err-items-clause-same : goal.returns-in_err-items-clause-same
 returns-in_err-items-clause-same g c =
-    on_err c.from_residual-in_err-items.result (record {
-      configs = ap (λ (view : WatchView). view.configs) c.self.view_is;
-      entries = ap (λ (view : WatchView). view.entries) c.self.view_is;
-      plugged = ap (λ (view : WatchView). view.plugged) c.self.view_is;
-      kept = λ number. ap (λ (view : WatchView). kept_of view.kept number) c.self.view_is;
-      changes = ap (λ (view : WatchView). view.changes) c.self.view_is;
-    }, λ name. refl)
+    on_err c.from_residual-in_err-items.result (
+      record {
+        configs = ap (λ (view : WatchView). view.configs) c.self.view_is;
+        entries = ap (λ (view : WatchView). view.entries) c.self.view_is;
+        plugged = ap (λ (view : WatchView). view.plugged) c.self.view_is;
+        kept = λ number. ap (λ (view : WatchView). kept_of view.kept number) c.self.view_is;
+        changes = ap (λ (view : WatchView). view.changes) c.self.view_is;
+      },
+      λ name. refl,
+    )
 
 pub invariant_of-self-in_err-gone : goal.invariant_of-self-in_err-gone
 invariant_of-self-in_err-gone g c = record {
@@ -126,13 +134,16 @@ invariant_of-self-in_err-gone g c = record {
 
 pub returns-in_err-gone-clause-same : goal.returns-in_err-gone-clause-same
 returns-in_err-gone-clause-same g c =
-    on_err c.from_residual-in_err-gone.result (record {
-      configs = ap (λ (view : WatchView). view.configs) c.self.view_is;
-      entries = ap (λ (view : WatchView). view.entries) c.self.view_is;
-      plugged = ap (λ (view : WatchView). view.plugged) c.self.view_is;
-      kept = λ number. c.stage_changes.ensures.kept number ∙ ap (λ (view : WatchView). kept_of view.kept number) c.self.view_is;
-      changes = c.stage_changes.ensures.changes ∙ ap (λ (view : WatchView). view.changes) c.self.view_is;
-    }, c.stage_changes.ensures.sensors)
+    on_err c.from_residual-in_err-gone.result (
+      record {
+        configs = ap (λ (view : WatchView). view.configs) c.self.view_is;
+        entries = ap (λ (view : WatchView). view.entries) c.self.view_is;
+        plugged = ap (λ (view : WatchView). view.plugged) c.self.view_is;
+        kept = λ number. c.stage_changes.ensures.kept number ∙ ap (λ (view : WatchView). kept_of view.kept number) c.self.view_is;
+        changes = c.stage_changes.ensures.changes ∙ ap (λ (view : WatchView). view.changes) c.self.view_is;
+      },
+      c.stage_changes.ensures.sensors,
+    )
 
 pub invariant_of-self-in_err-add : goal.invariant_of-self-in_err-add
 invariant_of-self-in_err-add g c = record {
@@ -149,13 +160,16 @@ invariant_of-self-in_err-add g c = record {
 
 pub returns-in_err-add-clause-same : goal.returns-in_err-add-clause-same
 returns-in_err-add-clause-same g c =
-    on_err c.from_residual-in_err-add.result (record {
-      configs = c.in_err-add.ensures.err ∙ ap (λ (view : WatchView). view.configs) c.self.view_is;
-      entries = ap (λ (view : WatchView). view.entries) c.self.view_is;
-      plugged = ap (λ (view : WatchView). view.plugged) c.self.view_is;
-      kept = λ number. c.stage_changes.ensures.kept number ∙ ap (λ (view : WatchView). kept_of view.kept number) c.self.view_is;
-      changes = c.stage_changes.ensures.changes ∙ ap (λ (view : WatchView). view.changes) c.self.view_is;
-    }, c.stage_changes.ensures.sensors)
+    on_err c.from_residual-in_err-add.result (
+      record {
+        configs = c.in_err-add.ensures.err ∙ ap (λ (view : WatchView). view.configs) c.self.view_is;
+        entries = ap (λ (view : WatchView). view.entries) c.self.view_is;
+        plugged = ap (λ (view : WatchView). view.plugged) c.self.view_is;
+        kept = λ number. c.stage_changes.ensures.kept number ∙ ap (λ (view : WatchView). kept_of view.kept number) c.self.view_is;
+        changes = c.stage_changes.ensures.changes ∙ ap (λ (view : WatchView). view.changes) c.self.view_is;
+      },
+      c.stage_changes.ensures.sensors,
+    )
 
 -- ---- what is told
 
@@ -317,11 +331,13 @@ returns-clause-tried g c =
     c.in_ok-items.ensures.tells c.tell_items.ensures.items in
     let follows = settles old new c.in_ok-items.items.gone c.in_ok-items.items.new c.args.sensors.now c.stage_changes.new.sensors c.settle_sensors.new.sensors
     next.goes next.comes c.stage_changes.ensures.sensors c.settle_sensors.ensures in
-    subst (λ (view : WatchView). Tries view (Configure c.args.config) None new × Settles view new c.args.sensors.now c.settle_sensors.new.sensors) c.self.view_is
-    (configured old new c.args.config c.if-self.false (no_entries c.self.inside.plugged c.self.inside.rows.entries c.if-self.false c.self.invariant.none)
-    (no_number c.self.inside.shelf c.name.result c.args.config c.position.result c.position.ensures c.name.ensures (sym c.is_some.ensures ∙
-    c.if-is_some.false))
-    (lt-leb most_configs (length c.self.inside.shelf) (omega (arith, c.len.ensures.value, c.if-len-ge-MOST_CONFIGS.false)))
-    c.in_ok-add.ensures.ok refl refl
-    (no_refusal new.configs new.entries new.kept c.in-Ok.totals (items_behind c.in_ok-items.items.inventory c.self.inside.inventory) next.stocked)
-    next.moves, follows)
+    subst (λ (view : WatchView). Tries view (Configure c.args.config) None new × Settles view new c.args.sensors.now c.settle_sensors.new.sensors) c.self.view_is (
+      configured old new c.args.config c.if-self.false (no_entries c.self.inside.plugged c.self.inside.rows.entries c.if-self.false c.self.invariant.none)
+          (no_number c.self.inside.shelf c.name.result c.args.config c.position.result c.position.ensures c.name.ensures (sym c.is_some.ensures ∙
+          c.if-is_some.false))
+          (lt-leb most_configs (length c.self.inside.shelf) (omega (arith, c.len.ensures.value, c.if-len-ge-MOST_CONFIGS.false)))
+          c.in_ok-add.ensures.ok refl refl
+          (no_refusal new.configs new.entries new.kept c.in-Ok.totals (items_behind c.in_ok-items.items.inventory c.self.inside.inventory) next.stocked)
+          next.moves,
+      follows,
+    )

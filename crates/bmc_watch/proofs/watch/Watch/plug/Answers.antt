@@ -15,22 +15,26 @@ use Rattle.bmc_watch.proofs.watch.Watch.plug.Goals as goal
 pub returns-then-is_some-clause-tried : goal.returns-then-is_some-clause-tried
 returns-then-is_some-clause-tried g c =
     subst (λ (refusal : Option Refusal). Tries c.args.self.now (Plug c.args.place c.args.bytes.now) refusal c.refuse.new.self
-    × SettlesUnless refusal c.args.self.now c.refuse.new.self c.args.sensors.now c.args.sensors.now) (sym c.refuse.ensures.reason)
-    (occupied c.args.self.now c.refuse.new.self c.args.place c.args.bytes.now
-    (ap (λ (view : WatchView). holds_place view.entries c.args.place) (sym c.self.view_is) ∙ sym c.entry.ensures.held ∙ sym c.is_some.ensures ∙ c.if-is_some.true)
-    c.refuse.ensures.left, refl)
+    × SettlesUnless refusal c.args.self.now c.refuse.new.self c.args.sensors.now c.args.sensors.now) (sym c.refuse.ensures.reason) (
+      occupied c.args.self.now c.refuse.new.self c.args.place c.args.bytes.now
+          (ap (λ (view : WatchView). holds_place view.entries c.args.place) (sym c.self.view_is) ∙ sym c.entry.ensures.held ∙ sym c.is_some.ensures ∙ c.if-is_some.true)
+          c.refuse.ensures.left,
+      refl,
+    )
 
 pub returns-then-len-ge-MOST_FRUS-clause-tried : goal.returns-then-len-ge-MOST_FRUS-clause-tried
 returns-then-len-ge-MOST_FRUS-clause-tried g c =
     subst (λ (refusal : Option Refusal). Tries c.args.self.now (Plug c.args.place c.args.bytes.now) refusal c.refuse-then-len-ge-MOST_FRUS.new.self
     × SettlesUnless refusal c.args.self.now c.refuse-then-len-ge-MOST_FRUS.new.self c.args.sensors.now c.args.sensors.now)
-    (sym c.refuse-then-len-ge-MOST_FRUS.ensures.reason)
-    (frus_full c.args.self.now c.refuse-then-len-ge-MOST_FRUS.new.self c.args.place c.args.bytes.now c.in-Ok.fru
-    (ap (λ (view : WatchView). holds_place view.entries c.args.place) (sym c.self.view_is) ∙ sym c.entry.ensures.held ∙ sym c.is_some.ensures ∙ c.if-is_some.false)
-    c.in-Ok.ensures
-    (ap (λ (view : WatchView). nat_le most_frus (length view.entries)) (sym c.self.view_is)
-    ∙ le-leb most_frus (length c.self.inside.rows.entries) (omega (arith, c.len.ensures, c.if-len-ge-MOST_FRUS.true)))
-    c.refuse-then-len-ge-MOST_FRUS.ensures.left, refl)
+    (sym c.refuse-then-len-ge-MOST_FRUS.ensures.reason) (
+      frus_full c.args.self.now c.refuse-then-len-ge-MOST_FRUS.new.self c.args.place c.args.bytes.now c.in-Ok.fru
+          (ap (λ (view : WatchView). holds_place view.entries c.args.place) (sym c.self.view_is) ∙ sym c.entry.ensures.held ∙ sym c.is_some.ensures ∙ c.if-is_some.false)
+          c.in-Ok.ensures
+          (ap (λ (view : WatchView). nat_le most_frus (length view.entries)) (sym c.self.view_is)
+          ∙ le-leb most_frus (length c.self.inside.rows.entries) (omega (arith, c.len.ensures, c.if-len-ge-MOST_FRUS.true)))
+          c.refuse-then-len-ge-MOST_FRUS.ensures.left,
+      refl,
+    )
 
 pub returns-else-len-ge-MOST_FRUS-clause-tried : goal.returns-else-len-ge-MOST_FRUS-clause-tried
 returns-else-len-ge-MOST_FRUS-clause-tried g c =
@@ -38,18 +42,23 @@ returns-else-len-ge-MOST_FRUS-clause-tried g c =
     × SettlesUnless refusal c.args.self.now c.add_fru.new.self c.args.sensors.now c.add_fru.new.sensors)
     (λ (refusal : Option Refusal). Tries c.args.self.now (Plug c.args.place c.args.bytes.now) refusal c.add_fru.new.self
     × SettlesUnless refusal c.args.self.now c.add_fru.new.self c.args.sensors.now c.add_fru.new.sensors) c.add_fru.result
-    (λ refusal adds. (plugged_unless refusal c.args.self.now c.add_fru.new.self c.args.place c.args.bytes.now c.in-Ok.fru
-    (ap (λ (view : WatchView). holds_place view.entries c.args.place) (sym c.self.view_is) ∙ sym c.entry.ensures.held ∙ sym c.is_some.ensures ∙ c.if-is_some.false)
-    c.in-Ok.ensures
-    (ap (λ (view : WatchView). nat_le most_frus (length view.entries)) (sym c.self.view_is)
-    ∙ lt-leb most_frus (length c.self.inside.rows.entries) (omega (arith, c.len.ensures, c.if-len-ge-MOST_FRUS.false))) adds.0, adds.1))
+    (λ refusal adds. (
+      plugged_unless refusal c.args.self.now c.add_fru.new.self c.args.place c.args.bytes.now c.in-Ok.fru
+          (ap (λ (view : WatchView). holds_place view.entries c.args.place) (sym c.self.view_is) ∙ sym c.entry.ensures.held ∙ sym c.is_some.ensures ∙ c.if-is_some.false)
+          c.in-Ok.ensures
+          (ap (λ (view : WatchView). nat_le most_frus (length view.entries)) (sym c.self.view_is)
+          ∙ lt-leb most_frus (length c.self.inside.rows.entries) (omega (arith, c.len.ensures, c.if-len-ge-MOST_FRUS.false))) adds.0,
+      adds.1,
+    ))
     c.add_fru.ensures.ok
 
 pub returns-in_ok-refusal-in-Err-clause-tried : goal.returns-in_ok-refusal-in-Err-clause-tried
 returns-in_ok-refusal-in-Err-clause-tried g c =
     subst (λ (refusal : Option Refusal). Tries c.args.self.now (Plug c.args.place c.args.bytes.now) refusal c.refuse-in-Err.new.self
     × SettlesUnless refusal c.args.self.now c.refuse-in-Err.new.self c.args.sensors.now c.args.sensors.now)
-    (sym c.refuse-in-Err.ensures.reason)
-    (broken c.args.self.now c.refuse-in-Err.new.self c.args.place c.args.bytes.now c.in-Err.rule c.in_ok-refusal-in-Err.refusal
-    (ap (λ (view : WatchView). holds_place view.entries c.args.place) (sym c.self.view_is) ∙ sym c.entry.ensures.held ∙ sym c.is_some.ensures ∙ c.if-is_some.false)
-    c.in-Err.ensures c.in_ok-refusal-in-Err.ensures.refusal c.refuse-in-Err.ensures.left, refl)
+    (sym c.refuse-in-Err.ensures.reason) (
+      broken c.args.self.now c.refuse-in-Err.new.self c.args.place c.args.bytes.now c.in-Err.rule c.in_ok-refusal-in-Err.refusal
+          (ap (λ (view : WatchView). holds_place view.entries c.args.place) (sym c.self.view_is) ∙ sym c.entry.ensures.held ∙ sym c.is_some.ensures ∙ c.if-is_some.false)
+          c.in-Err.ensures c.in_ok-refusal-in-Err.ensures.refusal c.refuse-in-Err.ensures.left,
+      refl,
+    )

@@ -55,23 +55,29 @@ invariant_of-self-in_err-gone g c = record {
 
 pub returns-in_err-items-clause-same : goal.returns-in_err-items-clause-same
 returns-in_err-items-clause-same g c =
-    on_err c.from_residual-in_err-items.result (record {
-      configs = ap (λ (view : WatchView). view.configs) c.self.view_is;
-      entries = ap (λ (view : WatchView). view.entries) c.self.view_is;
-      plugged = ap (λ (view : WatchView). view.plugged) c.self.view_is;
-      kept = λ number. ap (λ (view : WatchView). kept_of view.kept number) c.self.view_is;
-      changes = ap (λ (view : WatchView). view.changes) c.self.view_is;
-    }, λ name. refl)
+    on_err c.from_residual-in_err-items.result (
+      record {
+        configs = ap (λ (view : WatchView). view.configs) c.self.view_is;
+        entries = ap (λ (view : WatchView). view.entries) c.self.view_is;
+        plugged = ap (λ (view : WatchView). view.plugged) c.self.view_is;
+        kept = λ number. ap (λ (view : WatchView). kept_of view.kept number) c.self.view_is;
+        changes = ap (λ (view : WatchView). view.changes) c.self.view_is;
+      },
+      λ name. refl,
+    )
 
 pub returns-in_err-gone-clause-same : goal.returns-in_err-gone-clause-same
 returns-in_err-gone-clause-same g c =
-    on_err c.from_residual-in_err-gone.result (record {
-      configs = ap (λ (view : WatchView). view.configs) c.self.view_is;
-      entries = ap (λ (view : WatchView). view.entries) c.self.view_is;
-      plugged = ap (λ (view : WatchView). view.plugged) c.self.view_is;
-      kept = λ number. c.stage_changes.ensures.kept number ∙ ap (λ (view : WatchView). kept_of view.kept number) c.self.view_is;
-      changes = c.stage_changes.ensures.changes ∙ ap (λ (view : WatchView). view.changes) c.self.view_is;
-    }, c.stage_changes.ensures.sensors)
+    on_err c.from_residual-in_err-gone.result (
+      record {
+        configs = ap (λ (view : WatchView). view.configs) c.self.view_is;
+        entries = ap (λ (view : WatchView). view.entries) c.self.view_is;
+        plugged = ap (λ (view : WatchView). view.plugged) c.self.view_is;
+        kept = λ number. c.stage_changes.ensures.kept number ∙ ap (λ (view : WatchView). kept_of view.kept number) c.self.view_is;
+        changes = c.stage_changes.ensures.changes ∙ ap (λ (view : WatchView). view.changes) c.self.view_is;
+      },
+      c.stage_changes.ensures.sensors,
+    )
 
 -- ---- what is told
 
@@ -233,12 +239,15 @@ returns-clause-ok g c =
     c.in_ok-items.ensures.tells c.tell_items.ensures.items in
     let follows = settles old new c.in_ok-items.items.gone c.in_ok-items.items.new c.args.sensors.now c.stage_changes.new.sensors c.settle_sensors.new.sensors
     next.goes next.comes c.stage_changes.ensures.sensors c.settle_sensors.ensures in
-    subst (λ (view : WatchView). RemovesFru c.args.place view new × Settles view new c.args.sensors.now c.settle_sensors.new.sensors) c.self.view_is (record {
-      configs = refl;
-      entries = c.unplug.ensures.entries;
-      plugged = refl;
-      moves = next.moves;
-    }, follows)
+    subst (λ (view : WatchView). RemovesFru c.args.place view new × Settles view new c.args.sensors.now c.settle_sensors.new.sensors) c.self.view_is (
+      record {
+        configs = refl;
+        entries = c.unplug.ensures.entries;
+        plugged = refl;
+        moves = next.moves;
+      },
+      follows,
+    )
 
 pub unreachable-requires : goal.unreachable-requires
 unreachable-requires g c =

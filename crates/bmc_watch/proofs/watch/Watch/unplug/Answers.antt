@@ -17,15 +17,18 @@ use Rattle.bmc_watch.proofs.watch.Watch.unplug.Goals as goal
 pub returns-in_default-clause-tried : goal.returns-in_default-clause-tried
 returns-in_default-clause-tried g c =
     subst (λ (refusal : Option Refusal). Tries c.args.self.now (Unplug c.args.place) refusal c.refuse.new.self
-    × SettlesUnless refusal c.args.self.now c.refuse.new.self c.args.sensors.now c.args.sensors.now) (sym c.refuse.ensures.reason)
-    (not_present c.args.self.now c.refuse.new.self c.args.place
-    (ap (λ (view : WatchView). holds_place view.entries c.args.place) (sym c.self.view_is) ∙ sym c.in_default.ensures.held) c.refuse.ensures.left, refl)
+    × SettlesUnless refusal c.args.self.now c.refuse.new.self c.args.sensors.now c.args.sensors.now) (sym c.refuse.ensures.reason) (
+      not_present c.args.self.now c.refuse.new.self c.args.place
+          (ap (λ (view : WatchView). holds_place view.entries c.args.place) (sym c.self.view_is) ∙ sym c.in_default.ensures.held) c.refuse.ensures.left,
+      refl,
+    )
 
 pub returns-in_ok-remove_busy-clause-tried : goal.returns-in_ok-remove_busy-clause-tried
-returns-in_ok-remove_busy-clause-tried g c =
-    (unplugged c.args.self.now c.remove_busy.new.self c.args.place
-    (ap (λ (view : WatchView). holds_place view.entries c.args.place) (sym c.self.view_is) ∙ sym c.in-Some.ensures.held) c.in_ok-remove_busy.ensures.ok.0,
-    c.in_ok-remove_busy.ensures.ok.1)
+returns-in_ok-remove_busy-clause-tried g c = (
+  unplugged c.args.self.now c.remove_busy.new.self c.args.place
+      (ap (λ (view : WatchView). holds_place view.entries c.args.place) (sym c.self.view_is) ∙ sym c.in-Some.ensures.held) c.in_ok-remove_busy.ensures.ok.0,
+  c.in_ok-remove_busy.ensures.ok.1,
+)
 
 -- ---- a FRU without hits
 
@@ -68,10 +71,12 @@ returns-then-is_idle-clause-tried g c =
     let works = busy_among c.in-Some.entry.now c.unplug.new.self.entries c.self.inside.rows.entries among idle in
     let same = λ (number : ℕ).
     sym (idle_boards c.self.inside.shelf c.in-Some.entry.now c.unplug.new.self.entries c.self.inside.rows.entries among idle number) in
-    subst (λ (view : WatchView). Tries view (Unplug c.args.place) None new × Settles view new c.args.sensors.now c.args.sensors.now) c.self.view_is
-    (unplugged old new c.args.place (sym c.in-Some.ensures.held) (record {
-      configs = refl;
-      entries = c.unplug.ensures.entries;
-      plugged = refl;
-      moves = idle_moves old new refl (sym works) same refl c.clear.ensures.items;
-    }), idle_settles old new c.args.sensors.now refl (sym works) same refl)
+    subst (λ (view : WatchView). Tries view (Unplug c.args.place) None new × Settles view new c.args.sensors.now c.args.sensors.now) c.self.view_is (
+      unplugged old new c.args.place (sym c.in-Some.ensures.held) (record {
+        configs = refl;
+        entries = c.unplug.ensures.entries;
+        plugged = refl;
+        moves = idle_moves old new refl (sym works) same refl c.clear.ensures.items;
+      }),
+      idle_settles old new c.args.sensors.now refl (sym works) same refl,
+    )
