@@ -63,8 +63,11 @@ indexes_are watch past stood =
 each_holds : (items : List Item) → AreNamedOnce families.Sensor items
     → AllByRecursion (λ (item : Item). is_of families.Sensor item ≡ true → holder items families.Sensor item.name ≡ Some item) items
 each_holds [] once = tt
-each_holds (first ∷ items) once =
-    (here, all_weaker (Holds items) (Holds (first ∷ items)) (λ item. later item (has_name families.Sensor item.name first) refl) items (each_holds items once.1))
+each_holds (first ∷ items) once = (
+  here,
+  all_weaker (Holds items) (Holds (first ∷ items)) (λ item. later item (has_name families.Sensor item.name first) refl) items
+      (each_holds items once.1),
+)
   where
     Holds : List Item → Item → Type 0
     Holds items item = is_of families.Sensor item ≡ true → holder items families.Sensor item.name ≡ Some item

@@ -60,7 +60,8 @@ module _ (test : Item → Bool) (at : ItemId → Option Item) where
   IsKnown item = at item.id ≡ Some item
 
   -- the id of an item that fails is not among those that pass
-  absent : (item : Item) → IsKnown item → test item ≡ false → (those : List Item) → AllByRecursion IsKnown those → has_id (filter test those) item.id ≡ false
+  absent : (item : Item) → IsKnown item → test item ≡ false → (those : List Item) → AllByRecursion IsKnown those
+      → has_id (filter test those) item.id ≡ false
   absent item is fails [] known = refl
   absent item is fails (first ∷ those) known = by (test first) refl (absent item is fails those known.1)
     where
@@ -137,7 +138,8 @@ module _ (test : Item → Bool) (at : ItemId → Option Item) where
             ap (λ (b : Bool). cond b (drop 1 (filter test those)) (filter test those)) (not_next (filter test those) item (absent item is fails those known))
 
   module _ (exposes : List Expose) (line : Item → List ℕ) where
-    walked_are : (some those : List Item) → AllByRecursion IsKnown (some ++ those) → AllByRecursion (λ (item : Item). item_line exposes (test item) item ≡ line item) some
+    walked_are : (some those : List Item) → AllByRecursion IsKnown (some ++ those)
+        → AllByRecursion (λ (item : Item). item_line exposes (test item) item ≡ line item) some
         → (walked_items exposes (filter test (some ++ those)) some ≡ flat_map line some) × (live_after (filter test (some ++ those)) some ≡ filter test those)
     walked_are [] those known lines = (refl, refl)
     walked_are (item ∷ some) those known lines =
@@ -183,7 +185,8 @@ module _ (watch : WatchView) where
 
   lines_are : (board : Board) (some those : List Item) → AllByRecursion (IsOf watch.configs (entry_fields (busy watch.entries)) board) some
       → AllByRecursion IsTold (some ++ those)
-      → AllByRecursion (λ (item : Item). item_line (exposes_of watch.configs board.key.config) (is_live all item) item ≡ item_text watch.configs (live all) item) some
+      → AllByRecursion (λ (item : Item). item_line (exposes_of watch.configs board.key.config) (is_live all item) item
+      ≡ item_text watch.configs (live all) item) some
   lines_are board [] those of told = tt
   lines_are board (item ∷ some) those of told = (line_is board item of.0 told.0, lines_are board some those of.1 told.1)
 
