@@ -7,7 +7,6 @@ use Rattle.std.specs.Option.{is_some}
 use Rattle.std.proofs.lemmas.Bool.Decides.{nat_tests}
 use Rattle.bmc_base.specs.Places.{Place}
 use Rattle.bmc_base.specs.declared.out_of_memory.OutOfMemory.{OutOfMemory as NoMemory}
-use Rattle.cfg_json.specs.Configs.{Config}
 use Rattle.cfg_json.specs.declared.item.Item.{Item}
 use Rattle.inventory.specs.Boards.{boards_in, board_places}
 use Rattle.inventory.specs.Items.{items_less, items, live, holder}
@@ -43,7 +42,7 @@ use Rattle.bmc_watch.proofs.WatchesLemmas.{live_is, stands_none}
 use Rattle.bmc_core.specs.Cores.{CoreView, SensorsStand, AreLast, Stands, quiet, IsUnchanged}
 use Rattle.bmc_core.specs.Acts.{answer_of, TakesMemory, Applies}
 use Rattle.bmc_core.specs.declared.fault.CoreFault.{CoreFault}
-use Rattle.bmc_core.specs.declared.fault.CoreFault.TheVariants.{Refused, OutOfMemory}
+use Rattle.bmc_core.specs.declared.fault.CoreFault.TheVariants.{Refused}
 
 -- the changes of a step are the last ones
 last_told : (told : List Change) (past : List Step) (step : Step) → told ≡ changes past step → AreLast told (step ∷ past)

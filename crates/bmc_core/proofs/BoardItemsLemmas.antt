@@ -1,5 +1,5 @@
 -- The items of boards: each is the one that its id names, so two with one id are one.
-use Rattle.std.proofs.Common.{◌≡◌, ◌∙◌, ℕ, zero, suc, ◌+◌, ◌<◌, ◌≤◌, List, [], ◌∷◌, ◌++◌, length, map, Option, Some, None, option_map, slice_get}
+use Rattle.std.proofs.Common.{◌≡◌, ◌∙◌, ℕ, zero, suc, ◌+◌, ◌<◌, ◌≤◌, List, [], ◌∷◌, length, map, Option, Some, None, option_map, slice_get}
 use Rattle.std.proofs.Common.{refl, sym, ap, subst, subst₂, arith}
 use Rattle.std.specs.Prelude.{filter_map, option_and_then, All}
 use Rattle.std.specs.List.{AllByRecursion, enumerate_from, cons_option, range_with_len}

@@ -4,8 +4,7 @@ use Rattle.std.specs.Prelude.{option_and_then}
 use Rattle.std.specs.List.{AllByRecursion, flat_map, range_with_len}
 use Rattle.std.specs.Cmp.Lexicographic.{nat_list_eq_equiv}
 use Rattle.std.specs.Option.{is_some}
-use Rattle.bmc_base.specs.Places.{Place}
-use Rattle.sensor_core.specs.Sensors.{Sensor, sensor_of}
+use Rattle.sensor_core.specs.Sensors.{sensor_of}
 use Rattle.sensor_core.specs.declared.setting.SensorSetting.{SensorSetting}
 use Rattle.cfg_json.specs.Configs.{Config}
 use Rattle.cfg_json.specs.declared.item.Item.{Item}
@@ -25,7 +24,7 @@ use Rattle.live_sensors.specs.Items.{setting_in}
 use Rattle.live_sensors.specs.Sensors.{LiveSensors, sensor_in}
 use Rattle.bmc_machine.specs.Boards.{board_keys, boards, fields_at, name_of}
 use Rattle.bmc_machine.specs.Histories.{Step, standing, tick_of}
-use Rattle.bmc_machine.specs.Indexes.{boards_now, kept, live_now}
+use Rattle.bmc_machine.specs.Indexes.{boards_now, live_now}
 use Rattle.bmc_machine.specs.Lives.{item_sensor, outcomes, sensor_now}
 use Rattle.bmc_machine.specs.Names.{is_of}
 use Rattle.bmc_machine.specs.Refusals.{IsLegal}
@@ -33,7 +32,7 @@ use Rattle.bmc_machine.specs.Shows.{board_lists, board_text, fru_list, index_lis
 use Rattle.bmc_machine.specs.Standings.{Fru, fields_of}
 use Rattle.bmc_machine.proofs.LivesLemmas.{sensor_is}
 use Rattle.bmc_machine.proofs.SettledLemmas.{AreNamedOnce, live_once, none_behind, of_sensors}
-use Rattle.bmc_watch.specs.Watches.{WatchView, WatchStands, fru_entry, view_boards, view_items, view_list}
+use Rattle.bmc_watch.specs.Watches.{WatchView, WatchStands, fru_entry, view_boards, view_list}
 use Rattle.bmc_watch.proofs.ItemsLemmas.{IsAlike, busy_alike}
 use Rattle.bmc_watch.proofs.WatchesLemmas.{boards_are, fields_are, known_by_place, live_is}
 use Rattle.bmc_core.specs.Cores.{CoreView, Stands}

@@ -1,10 +1,17 @@
 -- Rows that are appended one after another.
-use Rattle.std.proofs.Common.{◌≡◌, ◌∙◌, ℕ, zero, suc, ◌+◌, List, [], ◌∷◌, ◌++◌, drop, Some, None, slice_get, refl, sym, ap, append_assoc, append-nil}
+use Rattle.std.proofs.Common.{◌≡◌, ◌∙◌, ℕ, zero, suc, ◌+◌, List, [], ◌∷◌, ◌++◌, drop, Option, Some, None, option_map, slice_get, refl, sym, ap, append_assoc, append-nil}
 use Rattle.std.proofs.Common.{zero-add}
 use Rattle.std.specs.List.{flat_map, range_with_len}
+use Rattle.std.specs.Option.{unwrap_or}
 use Rattle.std.proofs.lemmas.List.{flat_map_more}
+use Rattle.bmc_base.specs.Places.{Place}
+use Rattle.cfg_json.specs.Configs.{Config}
+use Rattle.inventory.specs.Indexes.{index_in}
 use Rattle.inventory.proofs.DifferencesLemmas.{range_push}
 use Rattle.inventory.proofs.LessLemmas.{drop_at}
+use Rattle.bmc_report.specs.BoardRows.{index_row}
+use Rattle.bmc_machine.specs.Boards.{name_of}
+use Rattle.bmc_machine.specs.Shows.{index_rows}
 
 drop_past : {X : Type 0} (xs : List X) (i : ℕ) → slice_get xs i ≡ None → drop i xs ≡ []
 drop_past [] zero past = refl
@@ -33,9 +40,21 @@ module _ {X : Type 0} (row : X → List ℕ) (text whole : List ℕ) where
   rows_past xs i before past = rows_all (drop i xs) before (drop_past xs i past)
 
 -- the rows of the next number
-pub rows_numbered : (row : ℕ → List ℕ) (start text grown : List ℕ) (number : ℕ) → text ≡ start ++ flat_map row (range_with_len 0 number)
+rows_numbered : (row : ℕ → List ℕ) (start text grown : List ℕ) (number : ℕ) → text ≡ start ++ flat_map row (range_with_len 0 number)
     → grown ≡ text ++ row number → grown ≡ start ++ flat_map row (range_with_len 0 (number + 1))
 rows_numbered row start text grown number before grows =
     grows ∙ ap (λ (front : List ℕ). front ++ row number) before ∙ flat_map_more row start (range_with_len 0 number) number
     ∙ ap (λ (n : ℕ). start ++ flat_map row (range_with_len 0 number ++ n ∷ [])) (sym (zero-add number))
     ∙ ap (λ (numbers : List ℕ). start ++ flat_map row numbers) (sym (range_push 0 number))
+
+-- the rows of the boards that are kept of the next configuration
+pub kept_more : (configs : List Config) (kept : ℕ → List (Option Place)) (number : ℕ) (config : Config) (name start text grown : List ℕ)
+    → text ≡ start ++ flat_map (index_rows configs kept) (range_with_len 0 number) → Some config ≡ slice_get configs number → name ≡ config.name
+    → grown ≡ text ++ flat_map (λ place. index_row name (index_in (kept number) place) place) (kept number)
+    → grown ≡ start ++ flat_map (index_rows configs kept) (range_with_len 0 (number + 1))
+kept_more configs kept number config name start text grown before at is grows =
+    rows_numbered (index_rows configs kept) start text grown number before
+    (grows ∙ ap (λ (name : List ℕ). text ++ flat_map (λ place. index_row name (index_in (kept number) place) place) (kept number)) named)
+  where
+    named : name ≡ name_of configs number
+    named = is ∙ ap (λ (config : Option Config). unwrap_or (option_map (λ (config : Config). config.name) config) []) at

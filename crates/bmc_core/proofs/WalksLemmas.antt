@@ -3,15 +3,12 @@ use Rattle.std.proofs.Common.{◌≡◌, ◌∙◌, ℕ, zero, suc, ◌+◌, Boo
 use Rattle.std.proofs.Common.{ap, ap₂, arith, length}
 use Rattle.std.specs.List.{flat_map, AllByRecursion}
 use Rattle.std.proofs.lemmas.Bool.{or_left, or_right}
-use Rattle.bmc_base.specs.Places.{Place}
-use Rattle.fru_area.specs.declared.field.Field.{Field}
 use Rattle.fru_rows.specs.Idle.{busy}
-use Rattle.cfg_json.specs.Configs.{Config}
 use Rattle.cfg_json.specs.declared.expose.Expose.{Expose}
 use Rattle.cfg_json.specs.declared.item.Item.{Item}
 use Rattle.cfg_json.specs.declared.item.ItemId.{ItemId}
 use Rattle.inventory.specs.Indexes.{kept_of}
-use Rattle.inventory.specs.Items.{board_items, entry_fields, exposes_of, id_eq, is_item, is_live, items, live}
+use Rattle.inventory.specs.Items.{entry_fields, exposes_of, id_eq, is_item, is_live, items, live}
 use Rattle.inventory.specs.declared.board.Board.{Board}
 use Rattle.inventory.specs.declared.board.BoardKey.{BoardKey}
 use Rattle.inventory.proofs.IdsLemmas.{id_itself, id_same}

@@ -1,9 +1,9 @@
-use Rattle.std.proofs.Common.{◌≡◌, ◌∙◌, ◌++◌, ◌<◌, List, All, OnOk, length, ap, ap₂, subst, sym, string_bytes}
+use Rattle.std.proofs.Common.{◌∙◌, ◌++◌, ◌<◌, List, All, length, ap, ap₂, subst, sym, string_bytes}
 use Rattle.std.proofs.lemmas.Result.{on_ok_weaker}
 use Rattle.cfg_json.specs.declared.item.Item.{Item}
 use Rattle.inventory.specs.Indexes.{kept_of}
 use Rattle.inventory.specs.declared.board.Board.{Board}
-use Rattle.bmc_watch.specs.Watches.{view_boards, view_list}
+use Rattle.bmc_watch.specs.Watches.{view_boards}
 use Rattle.bmc_core.specs.Walks.{walked_boards}
 use Rattle.bmc_core.proofs.BoardItemsLemmas.{boards_within}
 use Rattle.bmc_core.proofs.WalksLemmas.{all_walked}

@@ -1,4 +1,4 @@
-use Rattle.std.proofs.Common.{◌≡◌, ◌∙◌, ◌++◌, ℕ, List, Option, sym, ap, string_bytes}
+use Rattle.std.proofs.Common.{◌∙◌, ◌++◌, ℕ, List, Option, sym, ap, string_bytes}
 use Rattle.bmc_base.specs.Places.{Place}
 use Rattle.inventory.specs.Indexes.{kept_of, index_in}
 use Rattle.bmc_report.specs.BoardRows.{index_row}

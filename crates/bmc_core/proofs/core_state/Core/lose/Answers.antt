@@ -1,5 +1,5 @@
 -- A name without a sensor is refused; else its sensor takes the loss.
-use Rattle.std.proofs.Common.{◌≡◌, ◌∙◌, refl, sym, ap, subst}
+use Rattle.std.proofs.Common.{◌∙◌, refl, sym, ap, subst}
 use Rattle.bmc_machine.specs.Histories.{Lose}
 use Rattle.bmc_core.specs.Acts.{Applies}
 use Rattle.bmc_core.specs.Cores.{CoreView, quiet}

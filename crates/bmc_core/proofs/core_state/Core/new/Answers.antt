@@ -1,4 +1,3 @@
-use Rattle.std.proofs.Common.{◌≡◌, ◌∙◌, refl, sym, subst, ap}
 use Rattle.bmc_core.proofs.AppliesLemmas.{stands_new}
 use Rattle.bmc_core.proofs.core_state.Core.new.Goals as goal
 

@@ -1,5 +1,5 @@
 -- The watch tries the step, and the sensors follow it.
-use Rattle.std.proofs.Common.{◌≡◌, refl, sym, subst}
+use Rattle.std.proofs.Common.{refl, sym, subst}
 use Rattle.std.specs.Prelude.{Result, ⊤}
 use Rattle.bmc_machine.specs.Histories.{Plug}
 use Rattle.bmc_core.specs.Acts.{Applies}

@@ -1,4 +1,4 @@
-use Rattle.std.proofs.Common.{◌≡◌, ◌∙◌, Bool, List, sym, ap, subst}
+use Rattle.std.proofs.Common.{◌∙◌, List, sym, ap}
 use Rattle.cfg_json.specs.declared.item.Item.{Item}
 use Rattle.bmc_core.specs.Walks.{is_next, live_behind}
 use Rattle.bmc_core.proofs.WalksLemmas.{next_is, passed_more, passed_same}
