@@ -18,20 +18,19 @@ use Rattle.bmc_text.specs.declared.lines.LineFault.TheVariants as faults
 use Rattle.bmc_text.specs.declared.items.NextItem.{NextItem}
 use Rattle.std.proofs.lemmas.Grind.{flat_map-append}
 use Rattle.bmc_report.specs.Refusals.{refused_line}
-use Rattle.bmc_report.specs.Rows.{fru_row}
-use Rattle.cfg_json.specs.Configs.{Config}
+use Rattle.bmc_report.specs.declared.topic.Topic.TheVariants.{Frus}
 use Rattle.pat_gate.specs.Makers.{Maker}
 use Rattle.cfg_json.specs.Verdicts.{Verdict, large_in}
-use Rattle.bmc_machine.specs.Standings.{Fru, fields_of}
-use Rattle.bmc_machine.specs.Histories.{standing}
+use Rattle.bmc_machine.specs.Shows.{shown}
 use Rattle.bmc_machine.specs.Ties.{AreTied, large_texts}
-use Rattle.bmc_machine.specs.Answers.{Answer, silent, answer, answers, and_then, answer_of, out, with_list, final_list}
+use Rattle.bmc_machine.specs.Answers.{Answer, silent, answer, answers, and_then, answer_of, out, with_list}
 use Rattle.bmc_replay.specs.declared.run.Run.{Run}
 use Rattle.bmc_replay.specs.declared.stop.Stop.{Stop}
 use Rattle.bmc_replay.specs.declared.stop.Stop.TheVariants as stops
 use Rattle.bmc_core.specs.Cores.{CoreView, Stands}
 use Rattle.bmc_replay.specs.Runs.{TakesNext, LeavesNext, IsNew}
-use Rattle.bmc_replay.specs.Gathering.{Gathers, entry_rows}
+use Rattle.bmc_core.specs.Lists.{entry_rows}
+use Rattle.bmc_replay.specs.Gathering.{Gathers}
 use Rattle.bmc_replay.specs.Outside.{Outside, outside}
 use Rattle.bmc_replay.specs.Stops.{GetsNothing, StopsShort, StopsAt}
 use Rattle.bmc_replay.specs.Statuses.{Replays, WhereTold, Writes, WritesAll, WritesFront, Reaches, Takes, WritesWhole, WriteCause, stop_of, status_of}
@@ -162,8 +161,8 @@ Begins script verdicts total =
     WhereTold script (λ script. (later : List Verdict) → (rest : List ℕ) × (out (verdicts ++ later) script ≡ total ++ rest))
 
 -- all that is printed after an answer
-printed_after : (so_far later : Answer) → with_list (and_then so_far later) ≡ so_far.text ++ (later.text ++ final_list (standing later.past).frus)
-printed_after so_far later = append_assoc so_far.text later.text (final_list (standing later.past).frus)
+printed_after : (so_far later : Answer) → with_list (and_then so_far later) ≡ so_far.text ++ (later.text ++ shown Frus later.past)
+printed_after so_far later = append_assoc so_far.text later.text (shown Frus later.past)
 
 so_far_begins : (left left_now : Option (List ℕ)) (taken waiting : List ℕ) (verdicts : List Verdict) (number : ℕ) (so_far : Answer)
     → Consumes left left_now taken → SoFar taken waiting verdicts number so_far → Begins left verdicts so_far.text
@@ -171,7 +170,7 @@ so_far_begins None left_now taken waiting verdicts number so_far consumed machin
 so_far_begins (Some script) None taken waiting verdicts number so_far consumed machine = absurd consumed
 so_far_begins (Some script) (Some rest) taken waiting verdicts number so_far consumed machine = λ later_verdicts.
     let later : Answer = answers number so_far.past later_verdicts (items_of (waiting ++ rest)) in (
-      later.text ++ final_list (standing later.past).frus,
+      later.text ++ shown Frus later.past,
       ap (out (verdicts ++ later_verdicts)) consumed ∙ ap with_list (machine.all rest later_verdicts) ∙ printed_after so_far later,
     )
 
@@ -257,12 +256,6 @@ large_more maker now new verdicts more before later =
     later ∙ ap (λ (texts : List (List ℕ)). texts ++ large_texts more) before ∙ append_assoc maker (large_texts verdicts) (large_texts more)
     ∙ ap (λ (texts : List (List ℕ)). maker ++ texts) (sym (flat_map-append large_in verdicts more))
 
--- the rows of the entries are those of the FRUs
-rows_are : (configs : List Config) (frus : List Fru) → entry_rows (map (fru_entry configs) frus) ≡ final_list frus
-unfolding final_list
-rows_are configs [] = refl
-rows_are configs (fru ∷ frus) = ap (λ (rows : List ℕ). fru_row fru.place (fields_of fru) ++ rows) (rows_are configs frus)
-
 -- a write in the final list stops for want of memory or by a fault of the sink
 stops_after : (stop : Stop) (verdicts : List Verdict) (before now : Outside) (calls calls_now : Calls)
     → Takes before now (λ count. count ≤ longest_script) → WriteCause stop calls calls_now → Reaches (status_of (Err stop)) verdicts before now
@@ -327,7 +320,7 @@ module _ {L : Type 0} where
   along_begins false before now maker maker_now feed run along at_end =
       so_far_begins before.input.left now.input.left along.taken feed.waiting along.verdicts run.number along.so_far along.consumed along.machine
   along_begins true before now maker maker_now feed run along at_end =
-      drop_more before.input.left along.verdicts along.so_far.text (final_list (standing along.so_far.past).frus)
+      drop_more before.input.left along.verdicts along.so_far.text (shown Frus along.so_far.past)
       (ended_begins before.input.left now.input.left along.taken along.verdicts along.so_far along.consumed (at_end refl) along.machine)
 
   along_tied : (ended : Bool) (before now : Outside) (maker maker_now : Maker) (feed : ItemFeed) (run : Run L)

@@ -5,7 +5,8 @@ use Rattle.bmc_io.specs.Sinks.{AppendsFront}
 use Rattle.bmc_io.proofs.ToldLemmas.{added_none, added_more}
 use Rattle.bmc_io.proofs.Fronts.{front_so_far, front_after}
 use Rattle.probe_lang.specs.declared.rows.Entry.{Entry}
-use Rattle.bmc_replay.specs.Gathering.{Gathers, entry_row, entry_rows}
+use Rattle.bmc_core.specs.Lists.{entry_row, entry_rows}
+use Rattle.bmc_replay.specs.Gathering.{Gathers}
 
 -- nothing was added and nothing written
 pub gathers_nothing : (told : Told) (text : List ℕ) → Gathers told told text text []

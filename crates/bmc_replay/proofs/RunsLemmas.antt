@@ -1,6 +1,6 @@
 -- What a run does with an item is what the machine answers.
 use Rattle.std.proofs.Common.{◌≡◌, ℕ, List, [], ◌∷◌, ◌++◌, Bool, Option, Some, None, Ok, Err, refl, ap, ap₂, sym, subst, ◌∙◌, append-nil, string_bytes}
-use Rattle.std.specs.Prelude.{◌+◌, ◌||◌, ◌≢◌, Result}
+use Rattle.std.specs.Prelude.{⊤, ◌+◌, ◌||◌, ◌≢◌, Result}
 use Rattle.std.specs.List.{flat_map}
 use Rattle.bmc_text.specs.Items.{Item, Line, Block}
 use Rattle.pat_gate.specs.Makers.{Maker}

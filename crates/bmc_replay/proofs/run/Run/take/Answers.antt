@@ -1,4 +1,4 @@
-use Rattle.bmc_replay.proofs.EventsLemmas.{on_err}
+use Rattle.bmc_watch.proofs.EventsLemmas.{on_err}
 use Rattle.bmc_replay.proofs.RunsLemmas.{left_answered}
 use Rattle.bmc_replay.proofs.run.Run.take.Goals as goal
 
