@@ -562,19 +562,19 @@ module _ {L : Type 0} where
 
   -- what is left to print at the end of the script
   list_of : (before now : Outside) (maker maker_now : Maker) (feed : ItemFeed) (run : Run L) (along : Along true before now maker maker_now feed run)
-      → along.so_far.text ++ entry_rows run.core.entries ≡ with_list along.so_far
+      → along.so_far.text ++ entry_rows run.core.watch.entries ≡ with_list along.so_far
   list_of before now maker maker_now feed run along =
       ap (λ (rows : List ℕ). along.so_far.text ++ rows) (lists_are Frus run.core along.so_far.past along.stands)
 
   -- it stops in the final list
   pub ended_cut : (stop : Stop) (before now new : Outside) (maker maker_now : Maker) (feed : ItemFeed) (run : Run L) (calls calls_now : Calls)
       → IsAtEnd now.input.left → feed.read ≤ longest_script → now.input ≡ new.input → Along true before now maker maker_now feed run
-      → AppendsFront now.output.taken new.output.taken (string_bytes run.text ++ entry_rows run.core.entries) → WriteCause stop calls calls_now
+      → AppendsFront now.output.taken new.output.taken (string_bytes run.text ++ entry_rows run.core.watch.entries) → WriteCause stop calls calls_now
       → Replays (status_of (Err stop)) before new maker maker_now
   ended_cut stop before now new maker maker_now feed run calls calls_now at_end limit same along front cause =
       along_replays stop true before now new maker maker_now feed run along (λ yes. at_end)
       (begins_stopped before.input.left along.verdicts before.output.taken now.output.taken new.output.taken (string_bytes run.text)
-      (entry_rows run.core.entries) along.so_far.text
+      (entry_rows run.core.watch.entries) along.so_far.text
       (subst (Begins before.input.left along.verdicts) (sym (list_of before now maker maker_now feed run along))
       (ended_begins before.input.left now.input.left along.taken along.verdicts along.so_far along.consumed at_end along.machine))
       along.printed front)
@@ -584,7 +584,7 @@ module _ {L : Type 0} where
   -- all is written and was taken
   pub ended_all : (before now new : Outside) (maker maker_now : Maker) (feed : ItemFeed) (run : Run L) → IsAtEnd now.input.left
       → feed.read < longest_script → now.input ≡ new.input → Along true before now maker maker_now feed run
-      → new.output.taken ≡ added now.output.taken (string_bytes run.text ++ entry_rows run.core.entries)
+      → new.output.taken ≡ added now.output.taken (string_bytes run.text ++ entry_rows run.core.watch.entries)
       → Replays (status_of (Ok run.refused)) before new maker maker_now
   ended_all before now new maker maker_now feed run at_end few same along text = record {
     verdicts = along.verdicts;
@@ -593,10 +593,10 @@ module _ {L : Type 0} where
     text =
         all_written run.refused before.input.left now.input.left along.taken along.verdicts along.so_far before.output.taken new.output.taken along.consumed
         at_end along.machine along.refused
-        (text ∙ ap (λ (told : Told). added told (string_bytes run.text ++ entry_rows run.core.entries)) along.printed.told
-        ∙ added_more before.output.taken along.printed.written (string_bytes run.text ++ entry_rows run.core.entries)
-        ∙ ap (added before.output.taken) (sym (append_assoc along.printed.written (string_bytes run.text) (entry_rows run.core.entries))
-        ∙ ap (λ (text : List ℕ). text ++ entry_rows run.core.entries) along.printed.parts ∙ list_of before now maker maker_now feed run along));
+        (text ∙ ap (λ (told : Told). added told (string_bytes run.text ++ entry_rows run.core.watch.entries)) along.printed.told
+        ∙ added_more before.output.taken along.printed.written (string_bytes run.text ++ entry_rows run.core.watch.entries)
+        ∙ ap (added before.output.taken) (sym (append_assoc along.printed.written (string_bytes run.text) (entry_rows run.core.watch.entries))
+        ∙ ap (λ (text : List ℕ). text ++ entry_rows run.core.watch.entries) along.printed.parts ∙ list_of before now maker maker_now feed run along));
     reached = of run.refused (along_count true before now new maker maker_now feed run (λ count. count < longest_script) along same few);
   }
     where

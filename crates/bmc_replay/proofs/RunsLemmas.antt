@@ -51,6 +51,9 @@ pub act_answers : (old : CoreView) (step : Step) (done : Result ⊤ CoreFault) (
     → effect_of done ≡ Some effect → Answers (λ line past. answer_step line past step) effect old new
 act_answers old step done effect new applies is line past stood = of done (applies.stands past stood) is
   where
+    some_same : (one other : Effect) → Option.Some one ≡ Some other → one ≡ other
+    some_same one other same = cc
+
     of : (done : Result ⊤ CoreFault) → StandsAfter done new past step → effect_of done ≡ Some effect
         → IsAnswer (answer_step line past step) line effect new
     of (Ok ok) accepts is =
@@ -62,9 +65,6 @@ act_answers old step done effect new applies is line past stood = of done (appli
         (subst (λ (reason : Option Refusal). IsAnswer (answer_by reason line past step) line (Refused refusal) new) (sym refuses.0)
         (record { stands = refuses.1; text = refl; refused = refl }))
     of (Err faults_of.OutOfMemory) none is = absurd (cc)
-
-    some_same : (one other : Effect) → Option.Some one ≡ Some other → one ≡ other
-    some_same one other same = cc
 
 -- the same under another name of the answer
 pub renamed : (what other : (Refusal → List ℕ) → List Step → Answer) (effect : Effect) (old new : CoreView)

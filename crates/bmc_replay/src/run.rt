@@ -3,7 +3,8 @@ ghost use Rattle.std.specs.List.{flat_map};
 ghost use Rattle.bmc_text.specs.Items as items;
 ghost use Rattle.bmc_text.specs.NextItems.{item_next};
 ghost use Rattle.bmc_report.specs.Changes.{change_line};
-ghost use Rattle.bmc_machine.specs.Answers.{answer, answer_command};
+ghost use Rattle.bmc_machine.specs.Answers.{answer, answer_command, answer_step};
+ghost use Rattle.bmc_core.specs.Acts.{step_of};
 ghost use Rattle.cfg_json.specs.Verdicts.{Accepted};
 ghost use Rattle.bmc_replay.specs.Runs.{Answers, AnswersItem, LeavesItem, AnswersNext, CountsItem, IsNew, TakesNext, LeavesNext, effect_of};
 
@@ -56,8 +57,22 @@ fn effect_of(done: Result<(), CoreFault>) -> Result<Effect, OutOfMemory>
     }
 }
 
+// Does an act, and says what came of it.
+#[tactic(auto, using(crate::proofs::RunsLemmas::act_answers))]
+fn apply<L: Ledger>(
+    alloc: Global,
+    core: &mut Core<L>,
+    act: Act<'_, L>,
+    steps: &mut Steps<L>,
+) -> Result<Effect, OutOfMemory>
+    ensures { IfOk result (λ effect. Answers (λ line past. answer_step line past (step_of act.entry)) effect core.old core.new) }
+{
+    let done = core.apply(alloc, act, steps);
+    effect_of(done)
+}
+
 // Does what a command asks for.
-#[tactic(auto, using(crate::proofs::RunsLemmas::silent_answers, crate::proofs::RunsLemmas::refused_answers, crate::proofs::RunsLemmas::shown_answers, crate::proofs::RunsLemmas::act_answers))]
+#[tactic(auto, using(crate::proofs::RunsLemmas::silent_answers, crate::proofs::RunsLemmas::refused_answers, crate::proofs::RunsLemmas::shown_answers))]
 fn run_command<L: Ledger>(
     alloc: Global,
     core: &mut Core<L>,
@@ -66,19 +81,18 @@ fn run_command<L: Ledger>(
 ) -> Result<Effect, OutOfMemory>
     ensures { IfOk result (λ effect. Answers (λ line past. answer_command line past (Ok command)) effect core.old core.new) }
 {
-    let done = match command {
-        Command::Nothing => return Ok(Effect::Nothing),
+    match command {
+        Command::Nothing => Ok(Effect::Nothing),
         // an item with a block is never a line
-        Command::Config(_) => return Ok(Effect::Refused(Refusal::ConfigShort)),
+        Command::Config(_) => Ok(Effect::Refused(Refusal::ConfigShort)),
         Command::Plug(place, bytes) => {
-            core.apply(alloc, Act::Plug(place, bytes.as_slice()), steps)
+            apply(alloc, core, Act::Plug(place, bytes.as_slice()), steps)
         }
-        Command::Unplug(place) => core.apply(alloc, Act::Unplug(place), steps),
-        Command::Good(name, raw) => core.apply(alloc, Act::Good(name, raw), steps),
-        Command::Lost(name) => core.apply(alloc, Act::Lost(name), steps),
-        Command::Show(topic) => return Ok(Effect::Shown(topic)),
-    };
-    effect_of(done)
+        Command::Unplug(place) => apply(alloc, core, Act::Unplug(place), steps),
+        Command::Good(name, raw) => apply(alloc, core, Act::Good(name, raw), steps),
+        Command::Lost(name) => apply(alloc, core, Act::Lost(name), steps),
+        Command::Show(topic) => Ok(Effect::Shown(topic)),
+    }
 }
 
 // Takes a line that asks for no block.

@@ -1,0 +1,6 @@
+use Rattle.std.proofs.Common.{rules}
+use Rattle.bmc_replay.proofs.RunsLemmas.{shown_answers}
+use Rattle.bmc_replay.proofs.run.run_command.Goals as goal
+
+pub returns-in-Show : goal.returns-in-Show
+returns-in-Show g c = rw c.in-Show.is (shown_answers c.args.core.now c.in-Show.topic)
