@@ -4,6 +4,7 @@ use Rattle.std.proofs.Common.{refl, ap, ap₂, sym, subst, option_map}
 use Rattle.std.specs.Prelude.{⊤, ℤ, ◌≤◌, nat_lt, unsigned_abs, Result, IfOk, OnErr, IfSome, is_none, bytes_eq}
 use Rattle.std.specs.Map.{lookup}
 use Rattle.std.specs.Option.{is_some}
+use Rattle.std.specs.Result.{is_err}
 use Rattle.std.proofs.lemmas.Bool.Decides.{nat_tests}
 use Rattle.bmc_base.specs.Places.{Place}
 use Rattle.bmc_base.specs.declared.out_of_memory.OutOfMemory.{OutOfMemory as NoMemory}
@@ -40,7 +41,7 @@ use Rattle.bmc_watch.specs.Settling.{AreKept, Settles, SettlesUnless}
 use Rattle.bmc_watch.specs.Steps.{Tries}
 use Rattle.bmc_watch.proofs.WatchesLemmas.{live_is, stands_none}
 use Rattle.bmc_core.specs.Cores.{CoreView, SensorsStand, AreLast, Stands, quiet, IsUnchanged}
-use Rattle.bmc_core.specs.Acts.{answer_of, TakesMemory, Applies}
+use Rattle.bmc_core.specs.Acts.{answer_of, is_short, TakesMemory, Applies}
 use Rattle.bmc_core.specs.declared.fault.CoreFault.{CoreFault}
 use Rattle.bmc_core.specs.declared.fault.CoreFault.TheVariants.{Refused}
 
@@ -149,7 +150,8 @@ answered old new step (Err fault) watched takes tries kept = record {
 -- ---- readings and losses
 
 -- an act that is refused leaves all but the last changes
-pub refused : (old new : CoreView) (step : Step) (refusal : Refusal) (result : Result ⊤ CoreFault) → ((past : List Step) → past_refused past step refusal ≡ past)
+pub refused : (old new : CoreView) (step : Step) (refusal : Refusal) (result : Result ⊤ CoreFault)
+    → ((past : List Step) → past_refused past step refusal ≡ past)
     → ((past : List Step) → Stands old past → refusal_after past step ≡ Some refusal) → result ≡ Err (Refused refusal) → new ≡ quiet old
     → Applies old step result new
 refused old new step refusal result leaves reason is left =
@@ -181,7 +183,8 @@ unknown_is past name = by (holder (live_now past) families.Sensor name) refl
     by : (held : Option Item) → holder (live_now past) families.Sensor name ≡ held → is_none held ≡ is_none (sensor_now past name)
     by None is = sym (ap is_none (sensor_is past name None is))
     by (Some item) is =
-        let of_family : is_of families.Sensor item ≡ true = (holder_is families.Sensor name (λ item. ⊤) (live_now past) item (all_any _ (λ item. tt) (live_now past)) is).1 in
+        let of_family : is_of families.Sensor item ≡ true =
+        (holder_is families.Sensor name (λ item. ⊤) (live_now past) item (all_any _ (λ item. tt) (live_now past)) is).1 in
         sym (ap is_none (sensor_is past name (Some item) is) ∙ none_of (setting_in item.part) (outcomes item past) (sym (of_sensors item.part) ∙ of_family))
 
 -- the sensor of a name takes an outcome, and the changes are told
@@ -366,3 +369,12 @@ stands_new core nothing none = record {
   sensors = λ name. none name ∙ sym (none_now name);
   last = subst (λ (watch : WatchView). AreLast watch.changes []) (sym nothing) tt;
 }
+
+-- memory was wanting where the step that was tried failed
+pub short_is : (tried : Result (Option Refusal) NoMemory) (result : Result ⊤ CoreFault) → result ≡ answer_of tried → is_err tried ≡ is_short result
+short_is tried result is = by tried ∙ sym (ap is_short is)
+  where
+    by : (tried : Result (Option Refusal) NoMemory) → is_err tried ≡ is_short (answer_of tried)
+    by (Ok None) = refl
+    by (Ok (Some refusal)) = refl
+    by (Err fault) = refl

@@ -1,5 +1,5 @@
 pub mod AppliesLemmas
 pub mod RowsLemmas
 pub mod BoardItemsLemmas
-pub mod WalksLemmas
+pub mod LiveLemmas
 pub mod ListsLemmas

@@ -37,6 +37,7 @@ use Rattle.bmc_watch.proofs.ItemsLemmas.{IsAlike, busy_alike}
 use Rattle.bmc_watch.proofs.WatchesLemmas.{boards_are, fields_are, known_by_place, live_is}
 use Rattle.bmc_core.specs.Cores.{CoreView, Stands}
 use Rattle.bmc_core.specs.Lists.{board_rows, core_list, entry_rows, inventory_rows, item_sensor_row, kept_rows, sensor_of_item, sensor_rows}
+use Rattle.bmc_core.proofs.LiveLemmas.{all_told_rows, told_rows}
 
 -- the rows of elements that have the same rows
 rows_alike : {X : Type 0} (row other : X → List ℕ) (xs : List X) → AllByRecursion (λ x. row x ≡ other x) xs → flat_map row xs ≡ flat_map other xs
@@ -110,7 +111,7 @@ module _ (past : List Step) (sensors : LiveSensors) (stood : (name : List ℕ) �
 module _ (watch : WatchView) (past : List Step) (stood : WatchStands watch past) where
   -- a board that has the same fields among the busy FRUs as among all has the same rows
   board_same : (board : Board) → IsAlike (entry_fields (busy watch.entries)) (entry_fields watch.entries) board
-      → board_rows watch board ≡ board_text (standing past).configs (standing past).frus (live_now past) board
+      → told_rows watch board ≡ board_text (standing past).configs (standing past).frus (live_now past) board
   board_same board alike = λ i.
       board_row (name_of (stood.configs i) board.key.config) board.index board.key.place
       ++ flat_map (item_text (stood.configs i) (live_is watch past stood i))
@@ -130,7 +131,8 @@ module _ (watch : WatchView) (past : List Step) (stood : WatchStands watch past)
   boards_same : inventory_rows watch ≡ board_lists past
   unfolding board_lists
   boards_same =
-      rows_alike (board_rows watch) (board_text (standing past).configs (standing past).frus (live_now past)) (view_list watch)
+      rows_alike (board_rows watch) (told_rows watch) (view_list watch) (all_told_rows watch)
+      ∙ rows_alike (told_rows watch) (board_text (standing past).configs (standing past).frus (live_now past)) (view_list watch)
       (all_weaker _ _ board_same (view_list watch) (busy_alike watch.configs (kept_of watch.kept) (length watch.configs) watch.entries
       (known_by_place watch past stood.legal stood.entries)))
       ∙ ap (flat_map (board_text (standing past).configs (standing past).frus (live_now past))) list_same

@@ -1,11 +1,13 @@
 -- What an act leaves.
-use Rattle.std.specs.Prelude.{◌≡◌, ⊤, List, ◌∷◌, Option, Some, None, Result, Ok, Err}
+use Rattle.std.specs.Prelude.{◌≡◌, ⊤, Bool, true, false, List, [], ◌∷◌, ◌++◌, Option, Some, None, Result, Ok, Err}
+use Rattle.bmc_base.specs.Steps.{Counts, IsWithin}
 use Rattle.bmc_base.specs.declared.out_of_memory.OutOfMemory.{OutOfMemory as NoMemory}
 use Rattle.bmc_report.specs.declared.refusal.Refusal.{Refusal}
 use Rattle.bmc_machine.specs.Histories.{Step, Configure, Plug, RefusedPlug, Unplug, Read, Lose}
 use Rattle.bmc_machine.specs.Refusals.{refusal_after}
 use Rattle.bmc_machine.specs.Changes.{changes}
 use Rattle.bmc_machine.specs.Answers.{past_refused}
+use Rattle.bmc_watch.specs.Counting.{most_evals, TestsPlug}
 use Rattle.bmc_core.specs.declared.act.Act.{Act}
 use Rattle.bmc_core.specs.declared.act.Act.TheVariants as acts
 use Rattle.bmc_core.specs.declared.fault.CoreFault.{CoreFault}
@@ -17,8 +19,8 @@ abbrev pub step_of : {L : Type 0} → Act L → Step
 step_of (acts.Config config) = Configure config
 step_of (acts.Plug place bytes) = Plug place bytes.now
 step_of (acts.Unplug place) = Unplug place
-step_of (acts.Good name raw) = Read name raw
-step_of (acts.Lost name) = Lose name
+step_of (acts.Good name raw) = Read name.now raw
+step_of (acts.Lost name) = Lose name.now
 
 -- what came of a step that was tried: it was accepted, or refused for a reason
 abbrev pub answer_of : Result (Option Refusal) NoMemory → Result ⊤ CoreFault
@@ -51,3 +53,19 @@ IsLeft (Err OutOfMemory) old step new = TakesMemory step × IsUnchanged old new
 pub record Applies (old : CoreView) (step : Step) (result : Result ⊤ CoreFault) (new : CoreView) : Type 0 where
   pub stands : (past : List Step) → Stands old past → StandsAfter result new past step
   pub left : IsLeft result old step new
+
+-- whether memory was wanting
+abbrev pub is_short : Result ⊤ CoreFault → Bool
+is_short (Ok done) = false
+is_short (Err (Refused refusal)) = false
+is_short (Err OutOfMemory) = true
+
+-- The work of a step: a plug that is tested counts a match for each pattern, and nothing else counts any. Where a FRU comes or goes, or a
+-- configuration comes, at most twice as many evaluations are counted as there are configurations.
+abbrev pub IsCounted : Result ⊤ CoreFault → CoreView → Step → Counts → Counts → Type 0
+IsCounted result old (Configure config) before after = IsWithin before after (most_evals (old.watch.configs ++ config ∷ []))
+IsCounted result old (Plug place bytes) before after = TestsPlug (is_short result) old.watch place bytes before after
+IsCounted result old (RefusedPlug place bytes refusal) before after = after ≡ before
+IsCounted result old (Unplug place) before after = IsWithin before after (most_evals old.watch.configs)
+IsCounted result old (Read name raw) before after = after ≡ before
+IsCounted result old (Lose name) before after = after ≡ before

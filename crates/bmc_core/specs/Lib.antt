@@ -1,4 +1,3 @@
 pub mod Cores
 pub mod Acts
 pub mod Lists
-pub mod Walks

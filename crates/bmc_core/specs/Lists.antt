@@ -1,15 +1,17 @@
 -- The lists that a core shows.
-use Rattle.std.specs.Prelude.{ℕ, List, ◌++◌, length, Option, option_and_then}
+use Rattle.std.specs.Prelude.{ℕ, Bool, if◌then◌else◌, List, [], ◌++◌, length, Option, option_and_then, option_map, slice_get}
 use Rattle.std.specs.List.{flat_map, range_with_len}
+use Rattle.std.specs.Option.{unwrap_or}
 use Rattle.bmc_base.specs.Places.{Place}
 use Rattle.probe_lang.specs.declared.rows.Entry.{Entry}
 use Rattle.cfg_json.specs.Configs.{Config}
+use Rattle.cfg_json.specs.declared.expose.Expose.{Expose}
 use Rattle.cfg_json.specs.declared.item.Item.{Item}
 use Rattle.fru_rows.specs.Idle.{busy}
 use Rattle.inventory.specs.Indexes.{kept_of}
-use Rattle.inventory.specs.Items.{entry_fields, board_items, live}
+use Rattle.inventory.specs.Items.{entry_fields, board_items, exposes_of, is_live, live}
 use Rattle.inventory.specs.declared.board.Board.{Board}
-use Rattle.bmc_report.specs.BoardRows.{board_row}
+use Rattle.bmc_report.specs.BoardRows.{board_row, item_row}
 use Rattle.bmc_report.specs.Rows.{fru_row}
 use Rattle.bmc_report.specs.declared.topic.Topic.{Topic}
 use Rattle.bmc_report.specs.declared.topic.Topic.TheVariants.{Frus, Inventory, Sensors, Indexes}
@@ -17,7 +19,7 @@ use Rattle.sensor_core.specs.Sensors.{Sensor}
 use Rattle.live_sensors.specs.Items.{setting_in}
 use Rattle.live_sensors.specs.Sensors.{LiveSensors, sensor_in}
 use Rattle.bmc_machine.specs.Boards.{name_of}
-use Rattle.bmc_machine.specs.Shows.{sensor_text, index_rows, item_text}
+use Rattle.bmc_machine.specs.Shows.{sensor_text, index_rows, bus_in, address_in}
 use Rattle.bmc_watch.specs.Watches.{WatchView, view_items, view_list}
 use Rattle.bmc_core.specs.Cores.{CoreView}
 
@@ -36,6 +38,10 @@ sensor_of_item sensors item = option_and_then (λ setting. sensor_in sensors ite
 abbrev pub item_sensor_row : LiveSensors → ℕ → Item → List ℕ
 item_sensor_row sensors tick item = sensor_text item.name tick (sensor_of_item sensors item)
 
+-- the row of an item, if it is live
+abbrev pub row_if_live : WatchView → LiveSensors → ℕ → Item → List ℕ
+row_if_live watch sensors tick item = if is_live (view_items watch) item then item_sensor_row sensors tick item else []
+
 -- the rows of the sensors among live items
 abbrev pub sensor_rows : LiveSensors → ℕ → List Item → List ℕ
 sensor_rows sensors tick items = flat_map (item_sensor_row sensors tick) items
@@ -48,11 +54,23 @@ kept_rows configs kept = flat_map (index_rows configs (kept_of kept)) (range_wit
 abbrev pub items_of : WatchView → Board → List Item
 items_of watch board = board_items watch.configs (entry_fields (busy watch.entries)) board
 
+-- the type of the expose at a position, as its configuration spells it
+abbrev pub kind_at : List Expose → ℕ → List ℕ
+kind_at exposes position = unwrap_or (option_map (λ (expose : Expose). expose.kind) (slice_get exposes position)) []
+
+-- the row of an item of a board whose configuration has these exposes
+abbrev pub item_line : List Expose → Bool → Item → List ℕ
+item_line exposes is_live item = item_row (kind_at exposes item.id.expose) item.name (bus_in item.part) (address_in item.part) is_live
+
+-- the rows of its items, each by whether it is live
+abbrev pub item_rows : WatchView → List Expose → List Item → List ℕ
+item_rows watch exposes items = flat_map (λ (item : Item). item_line exposes (is_live (view_items watch) item) item) items
+
 -- the row of a board, and those of its items
 abbrev pub board_rows : WatchView → Board → List ℕ
 board_rows watch board =
     board_row (name_of watch.configs board.key.config) board.index board.key.place
-    ++ flat_map (item_text watch.configs (live (view_items watch))) (items_of watch board)
+    ++ item_rows watch (exposes_of watch.configs board.key.config) (items_of watch board)
 
 -- the rows of all boards
 abbrev pub inventory_rows : WatchView → List ℕ

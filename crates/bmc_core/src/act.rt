@@ -11,7 +11,7 @@ pub enum Act<'a, L: Ledger> {
     /// The FRU at a place goes away.
     Unplug(Place),
     /// The sensor of this name was read, and this is the raw number.
-    Good(Name, i64),
+    Good(&'a Name, i64),
     /// A reading of the sensor of this name was lost.
-    Lost(Name),
+    Lost(&'a Name),
 }

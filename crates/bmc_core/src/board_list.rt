@@ -1,11 +1,10 @@
-ghost use Rattle.std.specs.Prelude.{◌≡◌, ◌<◌, ◌++◌, length, All, OnOk, string_bytes};
+ghost use Rattle.std.specs.Prelude.{◌≡◌, ◌<◌, ◌++◌, length, All, IfOk, OnOk, string_bytes};
 ghost use Rattle.cfg_json.specs.declared.item.Item.{Item as ItemView};
 ghost use Rattle.inventory.specs.declared.board.Board.{Board as BoardView};
 ghost use Rattle.bmc_machine.specs.Shows.{bus_in, address_in};
-ghost use Rattle.bmc_core.specs.Lists.{items_of, inventory_rows};
-ghost use Rattle.bmc_core.specs.Walks.{item_line, walked_items, walked_board, walked_boards, live_after};
+ghost use Rattle.bmc_watch.specs.Watches.{view_list};
+ghost use Rattle.bmc_core.specs.Lists.{item_line, item_rows, board_rows};
 
-use crate::live_walk::LiveWalk;
 use bmc_base::{Ledger, OutOfMemory};
 use bmc_report::{ItemRow, push_board_row, push_item_row};
 use bmc_watch::Watch;
@@ -55,71 +54,47 @@ fn push_item(
     )
 }
 
-// Appends the rows of a board's items, where these live items are next.
-fn push_items(
+// Appends the rows of items of a board whose configuration has these exposes.
+fn push_items<L: Ledger>(
+    watch: &Watch<L>,
     exposes: &[Expose],
     items: &[Item],
-    live: &mut LiveWalk<'_>,
     text: &mut String,
 ) -> Result<(), OutOfMemory>
     requires { All (λ (item : ItemView). item.id.expose < length exposes.now) items.now }
-    ensures rows { OnOk result (string_bytes text.new ≡ string_bytes text.old ++ walked_items exposes.now live.old items.now) }
-    ensures rest { OnOk result (live.new ≡ live_after live.old items.now) }
+    ensures { OnOk result (string_bytes text.new ≡ string_bytes text.old ++ item_rows watch.now exposes.now items.now) }
 {
     for item in items {
-        let is_live = live.pass(item);
-        push_item(exposes, item, is_live, text)?;
+        push_item(exposes, item, watch.is_live(item), text)?;
     }
     Ok(())
 }
 
-// Appends the row of a board, and those of its items, where these live items are next.
-fn push_board<L: Ledger>(
+/// Appends the row of a board, and behind it those of its items.
+pub(crate) fn push_board<L: Ledger>(
     alloc: Global,
     watch: &Watch<L>,
     board: &Board,
-    live: &mut LiveWalk<'_>,
     text: &mut String,
 ) -> Result<(), OutOfMemory>
     requires { board.now.key.config < length watch.now.configs }
-    ensures rows { OnOk result (string_bytes text.new ≡ string_bytes text.old ++ walked_board watch.now live.old board.now) }
-    ensures rest { OnOk result (live.new ≡ live_after live.old (items_of watch.now board.now)) }
+    ensures { OnOk result (string_bytes text.new ≡ string_bytes text.old ++ board_rows watch.now board.now) }
 {
     let Some(config) = watch.configs().at(board.key.config as usize) else {
         unreachable!()
     };
     push_board_row(text, &config.name(), board.index, board.key.place)?;
     let items = watch.board_items(alloc, board)?;
-    push_items(config.exposes(), &items, live, text)
+    push_items(watch, config.exposes(), &items, text)
 }
 
-// Appends the rows of boards with those of their items, where these live items are next.
-fn push_boards<L: Ledger>(
+/// Lists the boards, by configuration and place.
+pub(crate) fn list_boards<L: Ledger>(
     alloc: Global,
     watch: &Watch<L>,
-    boards: &[Board],
-    live: &mut LiveWalk<'_>,
-    text: &mut String,
-) -> Result<(), OutOfMemory>
-    requires { All (λ (board : BoardView). board.key.config < length watch.now.configs) boards.now }
-    ensures { OnOk result (string_bytes text.new ≡ string_bytes text.old ++ walked_boards watch.now live.old boards.now) }
+) -> Result<Vec<Board>, OutOfMemory>
+    ensures all { IfOk result (λ boards. boards.items ≡ view_list watch.now) }
+    ensures within { IfOk result (λ boards. All (λ (board : BoardView). board.key.config < length watch.now.configs) boards.items) }
 {
-    for board in boards {
-        push_board(alloc, watch, board, live, text)?;
-    }
-    Ok(())
-}
-
-/// Appends the row of each board, and behind it those of its items. Boards and live items come in one order, so each live
-/// item is looked at once.
-pub(crate) fn push_inventory<L: Ledger>(
-    alloc: Global,
-    watch: &Watch<L>,
-    text: &mut String,
-) -> Result<(), OutOfMemory>
-    ensures { OnOk result (string_bytes text.new ≡ string_bytes text.old ++ inventory_rows watch.now) }
-{
-    let boards = watch.boards(alloc)?;
-    let mut live = LiveWalk::of(watch.live());
-    push_boards(alloc, watch, &boards, &mut live, text)
+    watch.boards(alloc)
 }

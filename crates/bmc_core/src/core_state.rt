@@ -1,18 +1,22 @@
-ghost use Rattle.std.specs.Prelude.{◌≡◌, ◌++◌, [], List, Ok, Err, Some, None, is_none, IfOk, OnOk, option_and_then, string_bytes};
+ghost use Rattle.std.specs.Prelude.{◌≡◌, ◌<◌, ◌++◌, [], List, Ok, Err, Some, None, is_none, IfOk, OnOk, All, length, option_and_then, string_bytes};
 ghost use Rattle.bmc_machine.specs.Histories.{Step, Configure, Plug, Unplug, Read, Lose, tick_of};
 ghost use Rattle.bmc_core.specs.declared.fault.CoreFault.{CoreFault as Fault};
-ghost use Rattle.bmc_core.specs.Acts.{step_of, answer_of, Applies};
+ghost use Rattle.bmc_core.specs.Acts.{step_of, answer_of, Applies, IsCounted};
 ghost use Rattle.bmc_core.specs.Cores.{Stands, quiet};
-ghost use Rattle.bmc_core.specs.Lists.{core_list};
+ghost use Rattle.bmc_core.specs.Lists.{board_rows, core_list};
+ghost use Rattle.bmc_report.specs.declared.topic.Topic.TheVariants.{Sensors, Indexes};
+ghost use Rattle.bmc_watch.specs.Watches.{view_list};
+ghost use Rattle.inventory.specs.declared.board.Board.{Board as BoardView};
 
-use crate::board_list::push_inventory;
-use crate::lists::{push_frus, push_indexes, push_sensors};
+use crate::board_list::{list_boards, push_board};
+use crate::lists::{push_indexes, push_sensors};
 use crate::{Act, CoreFault};
 use bmc_base::{Ledger, Name, OutOfMemory, Place, Steps};
-use bmc_report::{Change, Refusal, Topic};
+use bmc_report::{Change, Refusal};
 use bmc_watch::{Glimpse, Watch};
 use cfg_json::Config;
 use fru_rows::Entries;
+use inventory::Board;
 use live_sensors::LiveSensors;
 use sensor_core::ReadingRange;
 use std::alloc::Global;
@@ -77,24 +81,39 @@ impl<L: Ledger> Core<L> {
         self.watch.entries()
     }
 
-    /// Appends the rows of a topic.
-    pub fn push_list(
+    /// Lists the boards, by configuration and place.
+    pub fn boards(&self, alloc: Global) -> Result<Vec<Board>, OutOfMemory>
+        ensures all { IfOk result (λ boards. boards.items ≡ view_list self.now.watch) }
+        ensures within { IfOk result (λ boards. All (λ (board : BoardView). board.key.config < length self.now.watch.configs) boards.items) }
+    {
+        list_boards(alloc, &self.watch)
+    }
+
+    /// Appends the row of a board, and behind it those of its items.
+    pub fn push_board(
         &self,
         alloc: Global,
-        topic: Topic,
+        board: &Board,
         text: &mut String,
     ) -> Result<(), OutOfMemory>
-        ensures { OnOk result (string_bytes text.new ≡ string_bytes text.old ++ core_list topic self.now) }
+        requires { board.now.key.config < length self.now.watch.configs }
+        ensures { OnOk result (string_bytes text.new ≡ string_bytes text.old ++ board_rows self.now.watch board.now) }
     {
-        match topic {
-            Topic::Frus => push_frus(self.entries(), text),
-            Topic::Inventory => push_inventory(alloc, &self.watch, text),
-            Topic::Sensors => {
-                let tick = self.tick_count();
-                push_sensors(&self.watch.live(), &self.sensors, tick, text)
-            }
-            Topic::Indexes => push_indexes(self.watch.configs(), self.watch.keep(), text),
-        }
+        push_board(alloc, &self.watch, board, text)
+    }
+
+    /// Appends the rows of the live sensors.
+    pub fn push_sensors(&self, text: &mut String) -> Result<(), OutOfMemory>
+        ensures { OnOk result (string_bytes text.new ≡ string_bytes text.old ++ core_list Sensors self.now) }
+    {
+        push_sensors(&self.watch, &self.sensors, self.tick_count(), text)
+    }
+
+    /// Appends the rows of all boards that each configuration ever had.
+    pub fn push_indexes(&self, text: &mut String) -> Result<(), OutOfMemory>
+        ensures { OnOk result (string_bytes text.new ≡ string_bytes text.old ++ core_list Indexes self.now) }
+    {
+        push_indexes(self.watch.configs(), self.watch.keep(), text)
     }
 
     // Refuses an act, and forgets the last changes.
@@ -113,7 +132,8 @@ impl<L: Ledger> Core<L> {
         config: Config<L>,
         steps: &mut Steps<L>,
     ) -> Result<(), CoreFault>
-        ensures { Applies self.old (Configure config) result self.new }
+        ensures applies { Applies self.old (Configure config) result self.new }
+        ensures counted { IsCounted result self.old (Configure config) steps.old steps.new }
     {
         answer(
             self.watch
@@ -129,7 +149,8 @@ impl<L: Ledger> Core<L> {
         bytes: &[u8],
         steps: &mut Steps<L>,
     ) -> Result<(), CoreFault>
-        ensures { Applies self.old (Plug place bytes.now) result self.new }
+        ensures applies { Applies self.old (Plug place bytes.now) result self.new }
+        ensures counted { IsCounted result self.old (Plug place bytes.now) steps.old steps.new }
     {
         answer(
             self.watch
@@ -139,7 +160,8 @@ impl<L: Ledger> Core<L> {
 
     // Takes away the FRU at a place.
     fn unplug(&mut self, alloc: Global, place: Place, steps: &mut Steps<L>) -> Result<(), CoreFault>
-        ensures { Applies self.old (Unplug place) result self.new }
+        ensures applies { Applies self.old (Unplug place) result self.new }
+        ensures counted { IsCounted result self.old (Unplug place) steps.old steps.new }
     {
         answer(self.watch.unplug(alloc, place, &mut self.sensors, steps))
     }
@@ -179,20 +201,22 @@ impl<L: Ledger> Core<L> {
 
     /// Does an act, or returns why it is not done. Readings and losses take no memory; all else takes its memory first, and then
     /// changes.
+    #[inline(always)]
     pub fn apply(
         &mut self,
         alloc: Global,
         act: Act<'_, L>,
         steps: &mut Steps<L>,
     ) -> Result<(), CoreFault>
-        ensures { Applies self.old (step_of act.entry) result self.new }
+        ensures applies { Applies self.old (step_of act.entry) result self.new }
+        ensures counted { IsCounted result self.old (step_of act.entry) steps.old steps.new }
     {
         match act {
             Act::Config(config) => self.configure(alloc, config, steps),
             Act::Plug(place, bytes) => self.plug(alloc, place, bytes, steps),
             Act::Unplug(place) => self.unplug(alloc, place, steps),
-            Act::Good(name, raw) => self.read(&name, raw),
-            Act::Lost(name) => self.lose(&name),
+            Act::Good(name, raw) => self.read(name, raw),
+            Act::Lost(name) => self.lose(name),
         }
     }
 }

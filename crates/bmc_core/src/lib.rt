@@ -6,7 +6,6 @@ mod board_list;
 mod core_state;
 mod fault;
 mod lists;
-mod live_walk;
 
 pub use act::Act;
 pub use core_state::Core;

@@ -1,27 +1,19 @@
 ghost use Rattle.std.specs.Prelude.{◌≡◌, ◌++◌, OnOk, string_bytes};
 ghost use Rattle.std.specs.List.{flat_map};
 ghost use Rattle.inventory.specs.Indexes.{kept_of, index_in};
+ghost use Rattle.inventory.specs.Items.{live};
 ghost use Rattle.bmc_report.specs.BoardRows.{index_row};
-ghost use Rattle.bmc_core.specs.Lists.{entry_rows, item_sensor_row, sensor_rows, kept_rows};
+ghost use Rattle.bmc_watch.specs.Watches.{view_items};
+ghost use Rattle.bmc_core.specs.Lists.{item_sensor_row, row_if_live, sensor_rows, kept_rows};
 
 use bmc_base::{Ledger, Name, OutOfMemory};
-use bmc_report::{SensorRow, push_fru_row, push_index_row, push_sensor_row};
+use bmc_report::{SensorRow, push_index_row, push_sensor_row};
+use bmc_watch::Watch;
 use cfg_json::{Item, ItemPart, Shelf};
-use fru_rows::Entries;
-use inventory::{BoardKey, IndexKeep, Live};
+use inventory::{BoardKey, IndexKeep};
 use live_sensors::LiveSensors;
 
-/// Appends the row of each FRU that is present.
-pub(crate) fn push_frus(mut entries: Entries<'_>, text: &mut String) -> Result<(), OutOfMemory>
-    ensures { OnOk result (string_bytes text.new ≡ string_bytes text.old ++ entry_rows entries.entry) }
-{
-    while let Some(entry) = entries.next() {
-        push_fru_row(text, entry.place, entry.fru.fields())?;
-    }
-    Ok(())
-}
-
-// Appends the row of a live item, if it is a sensor.
+// Appends the row of an item, if it is a sensor.
 fn push_sensor(
     item: &Item,
     sensors: &LiveSensors,
@@ -49,17 +41,50 @@ fn push_sensor(
     )
 }
 
-/// Appends the rows of the sensors among live items.
-pub(crate) fn push_sensors(
-    live: &Live<'_>,
+// Appends the row of an item, if it is a live sensor.
+fn push_if_live<L: Ledger>(
+    watch: &Watch<L>,
+    item: &Item,
     sensors: &LiveSensors,
     tick: u64,
     text: &mut String,
 ) -> Result<(), OutOfMemory>
-    ensures { OnOk result (string_bytes text.new ≡ string_bytes text.old ++ sensor_rows sensors.now tick live.now) }
+    ensures { OnOk result (string_bytes text.new ≡ string_bytes text.old ++ row_if_live watch.now sensors.now tick item.now) }
 {
-    for number in 0..live.len() {
-        push_sensor(live.at(number), sensors, tick, text)?;
+    if !watch.is_live(item) {
+        return Ok(());
+    }
+    push_sensor(item, sensors, tick, text)
+}
+
+// Appends the rows of the live sensors among items.
+fn push_live<L: Ledger>(
+    watch: &Watch<L>,
+    items: &[Item],
+    sensors: &LiveSensors,
+    tick: u64,
+    text: &mut String,
+) -> Result<(), OutOfMemory>
+    ensures { OnOk result (string_bytes text.new ≡ string_bytes text.old ++ flat_map (row_if_live watch.now sensors.now tick) items.now) }
+{
+    for item in items {
+        push_if_live(watch, item, sensors, tick, text)?;
+    }
+    Ok(())
+}
+
+/// Appends the rows of the live sensors.
+pub(crate) fn push_sensors<L: Ledger>(
+    watch: &Watch<L>,
+    sensors: &LiveSensors,
+    tick: u64,
+    text: &mut String,
+) -> Result<(), OutOfMemory>
+    ensures { OnOk result (string_bytes text.new ≡ string_bytes text.old ++ sensor_rows sensors.now tick (live (view_items watch.now))) }
+{
+    let boards = watch.shown();
+    for board in boards {
+        push_live(watch, &board.items, sensors, tick, text)?;
     }
     Ok(())
 }

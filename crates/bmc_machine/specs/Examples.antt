@@ -57,7 +57,8 @@ opens_20 = codes "{\"Name\":\"M\",\"Probe\":\"TRUE\",\"Exposes\":[{\"Name\":\"X\
 
 -- one that opens the bus 60 below the address of a FRU that it finds
 abbrev pub opens_below : List ℕ
-opens_below = codes "{\"Name\":\"W\",\"Probe\":\"xyz.openbmc_project.FruDevice({})\",\"Exposes\":[{\"Name\":\"X\",\"Type\":\"Mux\",\"Channels\":[\"$address - 60\"]}]}"
+opens_below =
+    codes "{\"Name\":\"W\",\"Probe\":\"xyz.openbmc_project.FruDevice({})\",\"Exposes\":[{\"Name\":\"X\",\"Type\":\"Mux\",\"Channels\":[\"$address - 60\"]}]}"
 
 -- one with a fan at each FRU, with the address of the FRU in its name
 abbrev pub names_fans : List ℕ

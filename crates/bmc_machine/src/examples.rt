@@ -77,7 +77,8 @@ pub fn scripts_with_sensors()
         ≡ codes "0 new board \"A\" 1\n0 new sensor \"T\"\n0 alarm on \"T\" 0 high critical\nsensor \"T\" 1.000 ok 0 0\n"
         ++ codes "0 alarm off \"T\" 0 high critical\nsensor \"T\" 0.999 ok 0\n" }
     ensures failure { out [] (config (codes "68") has_sensor ++ lose (codes "T") ++ lose (codes "T") ++ lose (codes "T") ++ lose (codes "T")
-        ++ show (codes "sensors") ++ lose (codes "T") ++ show (codes "sensors") ++ read (codes "T -5") ++ show (codes "sensors") ++ lose (codes "U") ++ read (codes "T 1000000001"))
+        ++ show (codes "sensors") ++ lose (codes "T") ++ show (codes "sensors") ++ read (codes "T -5") ++ show (codes "sensors")
+        ++ lose (codes "U") ++ read (codes "T 1000000001"))
         ≡ codes "0 new board \"A\" 1\n0 new sensor \"T\"\nsensor \"T\" none ok -\n0 failed sensor \"T\"\nsensor \"T\" none failed -\n"
         ++ codes "0 working sensor \"T\"\nsensor \"T\" -0.005 ok 0\n" ++ refused (codes "11") (codes "UnknownSensor")
         ++ refused (codes "12") (codes "ReadingRange") }

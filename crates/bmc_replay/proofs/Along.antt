@@ -1,5 +1,5 @@
 -- A run of the machine over the outside, so far.
-use Rattle.std.proofs.Common.{◌≡◌, ◌<◌, ◌≤◌, ◌+◌, ℕ, List, [], ◌∷◌, ◌++◌, length, map, Bool, true, false, ◌||◌, Option, Some, None, Ok, Err, refl, ap, sym, ◌∙◌}
+use Rattle.std.proofs.Common.{◌≡◌, ◌<◌, ◌≤◌, ◌+◌, ℕ, List, [], ◌∷◌, ◌++◌, length, Bool, true, false, ◌||◌, Option, Some, None, Ok, Err, refl, ap, sym, ◌∙◌}
 use Rattle.std.proofs.Common.{subst, subst₂, arith, append_assoc, append-nil, length-append, string_bytes}
 use Rattle.std.specs.Io.KnownBytes.{Consumes, IsAtEnd}
 use Rattle.std.proofs.KnownBytes.{Consumes-nil, Consumes-trans}
@@ -18,6 +18,7 @@ use Rattle.bmc_text.specs.declared.lines.LineFault.TheVariants as faults
 use Rattle.bmc_text.specs.declared.items.NextItem.{NextItem}
 use Rattle.std.proofs.lemmas.Grind.{flat_map-append}
 use Rattle.bmc_report.specs.Refusals.{refused_line}
+use Rattle.bmc_report.specs.declared.topic.Topic.{Topic}
 use Rattle.bmc_report.specs.declared.topic.Topic.TheVariants.{Frus}
 use Rattle.pat_gate.specs.Makers.{Maker}
 use Rattle.cfg_json.specs.Verdicts.{Verdict, large_in}
@@ -28,7 +29,7 @@ use Rattle.bmc_replay.specs.declared.run.Run.{Run}
 use Rattle.bmc_replay.specs.declared.stop.Stop.{Stop}
 use Rattle.bmc_replay.specs.declared.stop.Stop.TheVariants as stops
 use Rattle.bmc_core.specs.Cores.{CoreView, Stands}
-use Rattle.bmc_replay.specs.Runs.{TakesNext, LeavesNext, IsNew}
+use Rattle.bmc_replay.specs.Runs.{TakesNext, LeavesNext, IsNew, asked, gathered}
 use Rattle.bmc_core.specs.Lists.{entry_rows}
 use Rattle.bmc_replay.specs.Gathering.{Gathers}
 use Rattle.bmc_replay.specs.Outside.{Outside, outside}
@@ -285,6 +286,10 @@ all_written refused (Some script) (Some rest) taken verdicts so_far old new cons
     })
 
 module _ {L : Type 0} where
+  -- of a run that asks for no list only text is gathered
+  text_is : (run : Run L) → run.shown ≡ None → string_bytes run.text ≡ gathered run
+  text_is run none = sym (append-nil (string_bytes run.text)) ∙ ap (λ (shown : Option Topic). string_bytes run.text ++ asked shown run.core) (sym none)
+
   -- The bytes of the source that were read have taken the machine this far under these verdicts, and what it printed is written or gathered.
   pub record Along (ended : Bool) (before now : Outside) (maker maker_now : Maker) (feed : ItemFeed) (run : Run L) : Type 0 where
     pub taken : List ℕ
@@ -293,7 +298,7 @@ module _ {L : Type 0} where
     pub consumed : Consumes before.input.left now.input.left taken
     pub read : length taken ≡ feed.read
     pub large : maker_now.refused ≡ maker.refused ++ large_texts verdicts
-    pub printed : Printed before.output.taken now.output.taken (string_bytes run.text) so_far.text
+    pub printed : Printed before.output.taken now.output.taken (gathered run) so_far.text
     pub stands : Stands run.core so_far.past
     pub refused : run.refused ≡ so_far.refused
     pub machine : HasCome ended taken feed.waiting verdicts run.number so_far
@@ -308,7 +313,7 @@ module _ {L : Type 0} where
     consumed = Consumes-nil before.input.left;
     read = sym (ap (λ (feed : ItemFeed). feed.read) none);
     large = sym (append-nil maker.refused);
-    printed = printed_none before.output.taken (string_bytes run.text) new.text;
+    printed = printed_none before.output.taken (gathered run) (sym (text_is run new.shown) ∙ new.text);
     stands = new.core;
     refused = new.refused;
     machine = rw (ap (λ (feed : ItemFeed). feed.waiting) none, new.number) so_far_none;
@@ -345,21 +350,22 @@ module _ {L : Type 0} where
   -- a write of what was gathered stops
   along_cut : (ended : Bool) (before now new : Outside) (maker maker_now : Maker) (feed : ItemFeed) (run : Run L)
       (along : Along ended before now maker maker_now feed run) → (ended ≡ true → IsAtEnd now.input.left)
-      → AppendsFront now.output.taken new.output.taken (string_bytes run.text)
+      → AppendsFront now.output.taken new.output.taken (gathered run)
       → IsFront before.input.left along.verdicts before.output.taken new.output.taken
   along_cut ended before now new maker maker_now feed run along at_end front =
-      begins_cut before.input.left along.verdicts before.output.taken now.output.taken new.output.taken (string_bytes run.text) along.so_far.text
+      begins_cut before.input.left along.verdicts before.output.taken now.output.taken new.output.taken (gathered run) along.so_far.text
       (along_begins ended before now maker maker_now feed run along at_end) along.printed front
 
   -- an item was got and not taken
   along_front : (before now new : Outside) (maker maker_now : Maker) (feed : ItemFeed) (run : Run L) (text : List ℕ)
-      (along : Along false before now maker maker_now feed run)
+      (along : Along false before now maker maker_now feed run) → run.shown ≡ None
       → Gathers now.output.taken new.output.taken (string_bytes run.text) text []
       → IsFront before.input.left along.verdicts before.output.taken new.output.taken
-  along_front before now new maker maker_now feed run text along gathers =
+  along_front before now new maker maker_now feed run text along none gathers =
       begins_front before.input.left along.verdicts before.output.taken new.output.taken text along.so_far.text
       (along_begins false before now maker maker_now feed run along (λ no. absurd (cc)))
-      (printed_moved before.output.taken now.output.taken new.output.taken (string_bytes run.text) text along.so_far.text along.printed gathers)
+      (printed_moved before.output.taken now.output.taken new.output.taken (gathered run) text along.so_far.text along.printed
+      (subst (λ (front : List ℕ). Gathers now.output.taken new.output.taken front text []) (text_is run none) gathers))
 
   -- so many bytes were taken by then, whatever is written after it
   along_count : (ended : Bool) (before now new : Outside) (maker maker_now : Maker) (feed : ItemFeed) (run : Run L) (IsCount : ℕ → Type 0)
@@ -382,7 +388,7 @@ module _ {L : Type 0} where
 
   -- all that was printed is written, and it is what is printed of the items that are whole in the bytes taken
   along_whole : (before now new : Outside) (maker maker_now : Maker) (feed feed_now : ItemFeed) (run : Run L) (IsCount : ℕ → Type 0)
-      (along : Along false before now maker maker_now feed run) → GetsNothing feed feed_now now new (string_bytes run.text) IsCount
+      (along : Along false before now maker maker_now feed run) → GetsNothing feed feed_now now new (gathered run) IsCount
       → WritesWhole along.verdicts before new IsCount
   unfolding along_piece
   along_whole before now new maker maker_now feed feed_now run IsCount along gets =
@@ -393,54 +399,60 @@ module _ {L : Type 0} where
         consumed = counted.consumed;
         count = counted.count;
         text =
-            gets.writing ∙ ap (λ (told : Told). added told (string_bytes run.text)) along.printed.told
-            ∙ added_more before.output.taken along.printed.written (string_bytes run.text)
+            gets.writing ∙ ap (λ (told : Told). added told (gathered run)) along.printed.told
+            ∙ added_more before.output.taken along.printed.written (gathered run)
             ∙ ap (added before.output.taken) (along.printed.parts
             ∙ sym (ap (λ (answer : Answer). answer.text)
             (so_far_whole along.taken feed.waiting gets.reading.piece along.verdicts run.number along.so_far along.machine gets.reading.bytes)));
       }
 
   -- the run stops where an item is wanted
-  pub along_stops : (stop : Stop) (before now new : Outside) (maker maker_now : Maker) (feed feed_now : ItemFeed) (run : Run L)
-      → feed_now.read ≤ longest_script → Along false before now maker maker_now feed run → StopsAt stop feed feed_now now new (string_bytes run.text)
+  stops_along : (stop : Stop) (before now new : Outside) (maker maker_now : Maker) (feed feed_now : ItemFeed) (run : Run L)
+      → feed_now.read ≤ longest_script → Along false before now maker maker_now feed run → StopsAt stop feed feed_now now new (gathered run)
       → Replays (status_of (Err stop)) before new maker maker_now
-  along_stops stops.OutOfMemory before now new maker maker_now feed feed_now run limit along how =
+  stops_along stops.OutOfMemory before now new maker maker_now feed feed_now run limit along how =
       along_replays stops.OutOfMemory false before now new maker maker_now feed run along going
       (along_cut false before now new maker maker_now feed run along going how.writing)
       (along_piece before now new maker maker_now feed feed_now run how.reading.piece (λ count. count ≤ longest_script) along how.reading.consumed
       how.reading.count limit)
-  along_stops stops.WriteFault before now new maker maker_now feed feed_now run limit along how =
+  stops_along stops.WriteFault before now new maker maker_now feed feed_now run limit along how =
       along_replays stops.WriteFault false before now new maker maker_now feed run along going
       (along_cut false before now new maker maker_now feed run along going how.writing)
       (along_piece before now new maker maker_now feed feed_now run how.reading.piece (λ count. count ≤ longest_script) along how.reading.consumed
       how.reading.count limit)
-  along_stops stops.ReadFault before now new maker maker_now feed feed_now run limit along how =
+  stops_along stops.ReadFault before now new maker maker_now feed feed_now run limit along how =
       along_replays stops.ReadFault false before now new maker maker_now feed run along going
       (along_cut false before now new maker maker_now feed run along going
-      (front_all now.output.taken new.output.taken (string_bytes run.text) how.writing))
+      (front_all now.output.taken new.output.taken (gathered run) how.writing))
       (along_whole before now new maker maker_now feed feed_now run (λ count. count < longest_script) along how)
-  along_stops stops.TooLong before now new maker maker_now feed feed_now run limit along how =
+  stops_along stops.TooLong before now new maker maker_now feed feed_now run limit along how =
       along_replays stops.TooLong false before now new maker maker_now feed run along going
       (along_cut false before now new maker maker_now feed run along going
-      (front_all now.output.taken new.output.taken (string_bytes run.text) how.writing))
+      (front_all now.output.taken new.output.taken (gathered run) how.writing))
       (along_whole before now new maker maker_now feed feed_now run (λ count. count ≡ longest_script) along how)
+
+  pub along_stops : (stop : Stop) (before now new : Outside) (maker maker_now : Maker) (feed feed_now : ItemFeed) (run : Run L)
+      → feed_now.read ≤ longest_script → Along false before now maker maker_now feed run → run.shown ≡ None
+      → StopsAt stop feed feed_now now new (string_bytes run.text) → Replays (status_of (Err stop)) before new maker maker_now
+  along_stops stop before now new maker maker_now feed feed_now run limit along none how =
+      stops_along stop before now new maker maker_now feed feed_now run limit along (subst (StopsAt stop feed feed_now now new) (text_is run none) how)
 
   -- the run stops where what came is not taken for want of memory
   pub along_leaves : (item : Option Item) (ended : Bool) (before now new : Outside) (maker maker_now maker_new : Maker) (feed feed_now : ItemFeed)
       (run : Run L) (text : List ℕ) → feed_now.read ≤ longest_script → (ended ≡ true → IsAtEnd new.input.left)
-      → Along false before now maker maker_now feed run
+      → Along false before now maker maker_now feed run → run.shown ≡ None
       → Reads feed.waiting feed.read feed_now.read now.input new.input (λ bytes. IsTaken item ended bytes feed_now.waiting)
       → Gathers now.output.taken new.output.taken (string_bytes run.text) text [] → LeavesNext item maker_now maker_new
       → Replays (status_of (Err stops.OutOfMemory)) before new maker maker_new
-  along_leaves None ended before now new maker maker_now maker_new feed feed_now run text limit at_end along came gathers leaves = record {
+  along_leaves None ended before now new maker maker_now maker_new feed feed_now run text limit at_end along none came gathers leaves = record {
     verdicts = along.verdicts;
     tied = along_tied false before now maker maker_now feed run along going;
     large = ap (λ (maker : Maker). maker.refused) leaves ∙ along.large;
     text = stopped stops.OutOfMemory before.input.left along.verdicts before.output.taken new.output.taken
-        (along_front before now new maker maker_now feed run text along gathers);
+        (along_front before now new maker maker_now feed run text along none gathers);
     reached = along_piece before now new maker maker_now feed feed_now run came.piece (λ count. count ≤ longest_script) along came.consumed came.count limit;
   }
-  along_leaves (Some item) ended before now new maker maker_now maker_new feed feed_now run text limit at_end along came gathers leaves = record {
+  along_leaves (Some item) ended before now new maker maker_now maker_new feed feed_now run text limit at_end along none came gathers leaves = record {
     verdicts = along.verdicts ++ leaves.verdicts;
     tied =
         left_tied ended before.input.left new.input.left along.taken feed.waiting came.piece feed_now.waiting along.verdicts leaves.verdicts run.number
@@ -450,29 +462,30 @@ module _ {L : Type 0} where
     large = large_more maker.refused maker_now.refused maker_new.refused along.verdicts leaves.verdicts along.large leaves.large;
     text = stopped stops.OutOfMemory before.input.left (along.verdicts ++ leaves.verdicts) before.output.taken new.output.taken
         (front_under before.input.left along.verdicts leaves.verdicts before.output.taken new.output.taken
-        (along_front before now new maker maker_now feed run text along gathers));
+        (along_front before now new maker maker_now feed run text along none gathers));
     reached = along_piece before now new maker maker_now feed feed_now run came.piece (λ count. count ≤ longest_script) along came.consumed came.count limit;
   }
 
-  -- a write of what was gathered stops, after an item was taken
-  pub along_unwritten : (ended : Bool) (before now new : Outside) (maker maker_now : Maker) (feed : ItemFeed) (run : Run L)
-      → feed.read ≤ longest_script → (ended ≡ true → IsAtEnd now.input.left) → now.input ≡ new.input
-      → Along ended before now maker maker_now feed run → AppendsFront now.output.taken new.output.taken (string_bytes run.text)
-      → Replays (status_of (Err stops.WriteFault)) before new maker maker_now
-  along_unwritten ended before now new maker maker_now feed run limit at_end same along front =
-      along_replays stops.WriteFault ended before now new maker maker_now feed run along at_end
+  -- what was gathered, or the list that is asked for, stops on its way out, after an item was taken
+  pub along_unwritten : (stop : Stop) (ended : Bool) (before now new : Outside) (maker maker_now : Maker) (feed : ItemFeed) (run : Run L)
+      (calls calls_now : Calls) → feed.read ≤ longest_script → (ended ≡ true → IsAtEnd now.input.left) → now.input ≡ new.input
+      → Along ended before now maker maker_now feed run → AppendsFront now.output.taken new.output.taken (gathered run)
+      → WriteCause stop calls calls_now → Replays (status_of (Err stop)) before new maker maker_now
+  along_unwritten stop ended before now new maker maker_now feed run calls calls_now limit at_end same along front cause =
+      along_replays stop ended before now new maker maker_now feed run along at_end
       (along_cut ended before now new maker maker_now feed run along at_end front)
-      (along_count ended before now new maker maker_now feed run (λ count. count ≤ longest_script) along same limit)
+      (stops_after stop along.verdicts before new calls calls_now
+      (along_count ended before now new maker maker_now feed run (λ count. count ≤ longest_script) along same limit) cause)
 
   -- what came is taken, after what was gathered moved
   pub along_next : (next : NextItem) (before now new : Outside) (maker maker_now maker_new : Maker) (feed feed_now : ItemFeed) (run moved run_now : Run L)
-      → moved ≡ record run { text = moved.text } → Along false before now maker maker_now feed run
+      → moved ≡ record run { text = moved.text } → Along false before now maker maker_now feed run → run.shown ≡ None
       → TakesNextItem next feed feed_now now.input new.input
       → Gathers now.output.taken new.output.taken (string_bytes run.text) (string_bytes moved.text) []
       → TakesNext (item_next next feed_now) moved run_now maker_now maker_new
       → Along feed_now.ended before new maker maker_new feed_now run_now
   unfolding along_piece
-  along_next next before now new maker maker_now maker_new feed feed_now run moved run_now same along came gathers takes =
+  along_next next before now new maker maker_now maker_new feed feed_now run moved run_now same along none came gathers takes =
       of (item_next next feed_now) feed_now.ended came.bytes takes
     where
       stood : Stands moved.core along.so_far.past
@@ -486,16 +499,20 @@ module _ {L : Type 0} where
           along.machine
 
       printed : Printed before.output.taken new.output.taken (string_bytes moved.text) along.so_far.text
-      printed = printed_moved before.output.taken now.output.taken new.output.taken (string_bytes run.text) (string_bytes moved.text) along.so_far.text
-          along.printed gathers
+      printed = printed_moved before.output.taken now.output.taken new.output.taken (gathered run) (string_bytes moved.text) along.so_far.text
+          along.printed
+          (subst (λ (front : List ℕ). Gathers now.output.taken new.output.taken front (string_bytes moved.text) []) (text_is run none) gathers)
+
+      moved_text : string_bytes moved.text ≡ gathered moved
+      moved_text = text_is moved (ap (λ (run : Run L). run.shown) same ∙ none)
 
       counted : Takes before new (λ n. n ≡ feed_now.read)
       counted = along_piece before now new maker maker_now feed feed_now run came.piece (λ n. n ≡ feed_now.read) along came.consumed came.count refl
 
       of : (item : Option Item) (ended : Bool) → IsTaken item ended (feed.waiting ++ came.piece) feed_now.waiting
           → TakesNext item moved run_now maker_now maker_new → Along ended before new maker maker_new feed_now run_now
-      of None false none takes = absurd (let no = none.at_end in cc)
-      of None true none takes = record {
+      of None false last takes = absurd (let no = last.at_end in cc)
+      of None true last takes = record {
         taken = along.taken ++ came.piece;
         verdicts = along.verdicts;
         so_far = along.so_far;
@@ -503,10 +520,10 @@ module _ {L : Type 0} where
         read = counted.count;
         large = ap (λ (maker : Maker). maker.refused) takes.1 ∙ along.large;
         printed = subst (λ (text : List ℕ). Printed before.output.taken new.output.taken text along.so_far.text)
-            (sym (ap (λ (run : Run L). string_bytes run.text) takes.0)) printed;
+            (moved_text ∙ sym (ap (λ (run : Run L). gathered run) takes.0)) printed;
         stands = subst (λ (view : CoreView). Stands view along.so_far.past) (sym (ap (λ (run : Run L). run.core) takes.0)) stood;
         refused = ap (λ (run : Run L). run.refused) takes.0 ∙ refused;
-        machine = so_far_end along.taken feed.waiting came.piece feed_now.waiting along.verdicts moved.number along.so_far true machine none;
+        machine = so_far_end along.taken feed.waiting came.piece feed_now.waiting along.verdicts moved.number along.so_far true machine last;
       }
       of (Some item) ended bytes takes =
           let follows = takes.follows along.so_far.past stood in
@@ -520,7 +537,7 @@ module _ {L : Type 0} where
                 large_more maker.refused maker_now.refused maker_new.refused along.verdicts (takes.verdict ∷ []) along.large
                 (takes.is_verdict.large ∙ ap (λ (texts : List (List ℕ)). maker_now.refused ++ texts) (sym (append-nil (large_in takes.verdict))));
             printed =
-                printed_more before.output.taken new.output.taken (string_bytes moved.text) (string_bytes run_now.text) along.so_far.text
+                printed_more before.output.taken new.output.taken (string_bytes moved.text) (gathered run_now) along.so_far.text
                 (answer (refused_line moved.number) along.so_far.past takes.verdict item).text printed follows.text;
             stands = follows.stands;
             refused = follows.refused ∙ ap (λ (test : Bool). test || (answer (refused_line moved.number) along.so_far.past takes.verdict item).refused) refused;
@@ -538,10 +555,18 @@ module _ {L : Type 0} where
               (so_far_more along.taken feed.waiting came.piece feed_now.waiting along.verdicts moved.number along.so_far takes.verdict item machine begins
               takes.is_verdict.tied)
 
+  -- where what is asked for was gathered, no list is asked for any more, and the number is the same
+  pub told_none : (run moved : Run L) → moved ≡ record run { text = moved.text; shown = None } → moved.shown ≡ None
+  told_none run moved same = ap (λ (run : Run L). run.shown) same
+
+  pub told_number : (run moved : Run L) → moved ≡ record run { text = moved.text; shown = None } → moved.number ≡ run.number
+  told_number run moved same = ap (λ (run : Run L). run.number) same
+
   -- what is gathered moves, and it is known whether the source was read to its end
   pub along_told : (ended told : Bool) (before : Outside) (input : Input) (output output_now : Output) (maker maker_now : Maker) (feed : ItemFeed)
-      (run moved : Run L) → ended ≡ told → moved ≡ record run { text = moved.text } → Along ended before (outside input output) maker maker_now feed run
-      → Gathers output.taken output_now.taken (string_bytes run.text) (string_bytes moved.text) []
+      (run moved : Run L) → ended ≡ told → moved ≡ record run { text = moved.text; shown = None }
+      → Along ended before (outside input output) maker maker_now feed run
+      → Gathers output.taken output_now.taken (gathered run) (string_bytes moved.text) []
       → Along told before (outside input output_now) maker maker_now feed moved
   along_told ended told before input output output_now maker maker_now feed run moved known same along gathers =
       subst (λ (is_ended : Bool). Along is_ended before (outside input output_now) maker maker_now feed moved) known (record {
@@ -551,8 +576,9 @@ module _ {L : Type 0} where
         consumed = along.consumed;
         read = along.read;
         large = along.large;
-        printed = printed_moved before.output.taken output.taken output_now.taken (string_bytes run.text)
-            (string_bytes moved.text) along.so_far.text along.printed gathers;
+        printed = printed_moved before.output.taken output.taken output_now.taken (gathered run) (gathered moved) along.so_far.text along.printed
+            (subst (λ (rest : List ℕ). Gathers output.taken output_now.taken (gathered run) rest [])
+            (text_is moved (told_none run moved same)) gathers);
         stands = subst (λ (view : CoreView). Stands view along.so_far.past) (sym (ap (λ (run : Run L). run.core) same)) along.stands;
         refused = ap (λ (run : Run L). run.refused) same ∙ along.refused;
         machine = subst (λ (number : ℕ). HasCome ended along.taken feed.waiting along.verdicts number along.so_far)
@@ -568,34 +594,36 @@ module _ {L : Type 0} where
 
   -- it stops in the final list
   pub ended_cut : (stop : Stop) (before now new : Outside) (maker maker_now : Maker) (feed : ItemFeed) (run : Run L) (calls calls_now : Calls)
-      → IsAtEnd now.input.left → feed.read ≤ longest_script → now.input ≡ new.input → Along true before now maker maker_now feed run
+      → IsAtEnd now.input.left → feed.read ≤ longest_script → now.input ≡ new.input → Along true before now maker maker_now feed run → run.shown ≡ None
       → AppendsFront now.output.taken new.output.taken (string_bytes run.text ++ entry_rows run.core.watch.entries) → WriteCause stop calls calls_now
       → Replays (status_of (Err stop)) before new maker maker_now
-  ended_cut stop before now new maker maker_now feed run calls calls_now at_end limit same along front cause =
+  ended_cut stop before now new maker maker_now feed run calls calls_now at_end limit same along none front cause =
       along_replays stop true before now new maker maker_now feed run along (λ yes. at_end)
-      (begins_stopped before.input.left along.verdicts before.output.taken now.output.taken new.output.taken (string_bytes run.text)
+      (begins_stopped before.input.left along.verdicts before.output.taken now.output.taken new.output.taken (gathered run)
       (entry_rows run.core.watch.entries) along.so_far.text
       (subst (Begins before.input.left along.verdicts) (sym (list_of before now maker maker_now feed run along))
       (ended_begins before.input.left now.input.left along.taken along.verdicts along.so_far along.consumed at_end along.machine))
-      along.printed front)
+      along.printed
+      (subst (λ (text : List ℕ). AppendsFront now.output.taken new.output.taken (text ++ entry_rows run.core.watch.entries)) (text_is run none) front))
       (stops_after stop along.verdicts before new calls calls_now
       (along_count true before now new maker maker_now feed run (λ count. count ≤ longest_script) along same limit) cause)
 
   -- all is written and was taken
   pub ended_all : (before now new : Outside) (maker maker_now : Maker) (feed : ItemFeed) (run : Run L) → IsAtEnd now.input.left
-      → feed.read < longest_script → now.input ≡ new.input → Along true before now maker maker_now feed run
+      → feed.read < longest_script → now.input ≡ new.input → Along true before now maker maker_now feed run → run.shown ≡ None
       → new.output.taken ≡ added now.output.taken (string_bytes run.text ++ entry_rows run.core.watch.entries)
       → Replays (status_of (Ok run.refused)) before new maker maker_now
-  ended_all before now new maker maker_now feed run at_end few same along text = record {
+  ended_all before now new maker maker_now feed run at_end few same along none text = record {
     verdicts = along.verdicts;
     tied = along_tied true before now maker maker_now feed run along (λ yes. at_end);
     large = along.large;
     text =
         all_written run.refused before.input.left now.input.left along.taken along.verdicts along.so_far before.output.taken new.output.taken along.consumed
         at_end along.machine along.refused
-        (text ∙ ap (λ (told : Told). added told (string_bytes run.text ++ entry_rows run.core.watch.entries)) along.printed.told
-        ∙ added_more before.output.taken along.printed.written (string_bytes run.text ++ entry_rows run.core.watch.entries)
-        ∙ ap (added before.output.taken) (sym (append_assoc along.printed.written (string_bytes run.text) (entry_rows run.core.watch.entries))
+        (text ∙ ap (λ (text : List ℕ). added now.output.taken (text ++ entry_rows run.core.watch.entries)) (text_is run none)
+        ∙ ap (λ (told : Told). added told (gathered run ++ entry_rows run.core.watch.entries)) along.printed.told
+        ∙ added_more before.output.taken along.printed.written (gathered run ++ entry_rows run.core.watch.entries)
+        ∙ ap (added before.output.taken) (sym (append_assoc along.printed.written (gathered run) (entry_rows run.core.watch.entries))
         ∙ ap (λ (text : List ℕ). text ++ entry_rows run.core.watch.entries) along.printed.parts ∙ list_of before now maker maker_now feed run along));
     reached = of run.refused (along_count true before now new maker maker_now feed run (λ count. count < longest_script) along same few);
   }

@@ -1,5 +1,6 @@
 -- What a run does with an item is what the machine answers.
-use Rattle.std.proofs.Common.{◌≡◌, ℕ, List, [], ◌∷◌, ◌++◌, Bool, Option, Some, None, Ok, Err, refl, ap, ap₂, sym, subst, ◌∙◌, append-nil, string_bytes}
+use Rattle.std.proofs.Common.{◌≡◌, ℕ, List, [], ◌∷◌, ◌++◌, Bool, Option, Some, None, Ok, Err, refl, ap, ap₂, sym, subst, ◌∙◌, string_bytes}
+use Rattle.std.proofs.Common.{append-nil, append_assoc}
 use Rattle.std.specs.Prelude.{⊤, ◌+◌, ◌||◌, ◌≢◌, Result}
 use Rattle.std.specs.List.{flat_map}
 use Rattle.bmc_text.specs.Items.{Item, Line, Block}
@@ -32,7 +33,8 @@ use Rattle.bmc_replay.specs.declared.run.Run.{Run}
 use Rattle.bmc_replay.specs.declared.run.Effect.{Effect}
 use Rattle.bmc_replay.specs.declared.run.Effect.TheVariants.{Nothing, Changed, Shown, Refused}
 use Rattle.bmc_replay.specs.Runs.{effect_text, effect_of, IsAnswer, Answers, IsVerdict, AnswersItem, AnswersNext, LeavesItem, LeavesNext}
-use Rattle.bmc_replay.specs.Runs.{CountsItem, TakesItem}
+use Rattle.bmc_replay.specs.Runs.{line_text, asks, asked, gathered}
+use Rattle.bmc_replay.specs.Runs.{CountsItem, TakesItem, TakesNext}
 
 -- nothing comes of it
 pub silent_answers : (view : CoreView) → Answers (λ line past. silent past) Nothing view view
@@ -213,6 +215,26 @@ unread bytes (faults.PatternTooLarge text) maker maker_now gives none = absurd (
 
 -- ---- counting
 
+-- a run that asks for no list
+pub asks_none : {L : Type 0} (run : Run L) → run.shown ≡ None → run ≡ record run { text = run.text; shown = None }
+asks_none run none = λ i. record run { shown = none i }
+
+-- what is gathered of an item at once, and behind it the list that it asks for, are all that is printed of it
+all_printed : (line : Refusal → List ℕ) (effect : Effect) (core : CoreView)
+    → line_text line effect core ++ asked (asks effect) core ≡ effect_text line effect core
+all_printed line Nothing core = refl
+all_printed line Changed core = append-nil (flat_map (change_line 0) core.watch.changes)
+all_printed line (Shown topic) core = refl
+all_printed line (Refused refusal) core = append-nil (line refusal)
+
+counts_gathered : {L : Type 0} (effect : Effect) (old new : Run L) → CountsItem effect old new
+    → gathered new ≡ string_bytes old.text ++ effect_text (refused_line old.number) effect old.core
+counts_gathered effect old new counts =
+    ap₂ (λ (shown : Option Topic) (core : CoreView). string_bytes new.text ++ asked shown core) counts.shown counts.core
+    ∙ ap (λ (text : List ℕ). text ++ asked (asks effect) old.core) counts.text
+    ∙ append_assoc (string_bytes old.text) (line_text (refused_line old.number) effect old.core) (asked (asks effect) old.core)
+    ∙ ap (λ (text : List ℕ). string_bytes old.text ++ text) (all_printed (refused_line old.number) effect old.core)
+
 -- what was answered is counted
 pub answered_item : {L : Type 0} (item : Item) (effect : Effect) (old answered new : Run L) (maker maker_now : Maker)
     → answered ≡ record old { core = answered.core }
@@ -226,7 +248,7 @@ answered_item {L} item effect old answered new maker maker_now same answers coun
       record {
         stands = subst (λ (view : CoreView). Stands view (answer (refused_line old.number) past answers.verdict item).past) (sym counts.core) is.stands;
         text =
-            counts.text
+            counts_gathered effect answered new counts
             ∙ ap₂ (λ (text : List ℕ) (n : ℕ). text ++ effect_text (refused_line n) effect answered.core)
             (ap (λ (run : Run L). string_bytes run.text) same) (ap (λ (run : Run L). run.number) same)
             ∙ ap (λ (text : List ℕ). string_bytes old.text ++ text) is.text;
@@ -235,3 +257,13 @@ answered_item {L} item effect old answered new maker maker_now same answers coun
             ∙ ap₂ (λ (before now : Bool). before || now) (ap (λ (run : Run L). run.refused) same) is.refused;
       };
 }
+
+-- and so what came is taken
+pub taken_next : {L : Type 0} (item : Option Item) (found : Option Effect) (effect : Effect) (old answered new : Run L) (maker maker_now : Maker)
+    → AnswersNext item found old answered maker maker_now → found ≡ Some effect → CountsItem effect answered new → TakesNext item old new maker maker_now
+taken_next item found effect old answered new maker maker_now answers is counts =
+    of item (subst (λ (found : Option Effect). AnswersNext item found old answered maker maker_now) is answers)
+  where
+    of : (item : Option Item) → AnswersNext item (Some effect) old answered maker maker_now → TakesNext item old new maker maker_now
+    of None answers = absurd answers
+    of (Some item) answers = answered_item item effect old answered new maker maker_now answers.1 answers.0 counts

@@ -7,6 +7,7 @@ use Rattle.cfg_json.specs.Verdicts.{Verdict, large_in}
 use Rattle.bmc_report.specs.Refusals.{refused_line}
 use Rattle.bmc_report.specs.declared.refusal.Refusal.{Refusal}
 use Rattle.bmc_report.specs.Changes.{change_line}
+use Rattle.bmc_report.specs.declared.topic.Topic.{Topic}
 use Rattle.bmc_machine.specs.Histories.{Step}
 use Rattle.bmc_machine.specs.Answers.{Answer, answer}
 use Rattle.bmc_machine.specs.Ties.{IsTied, AreTied, large_texts}
@@ -24,6 +25,29 @@ effect_text line Nothing core = []
 effect_text line Changed core = flat_map (change_line 0) core.watch.changes
 effect_text line (Shown topic) core = core_list topic core
 effect_text line (Refused refusal) core = line refusal
+
+-- the list that it asks for
+abbrev pub asks : Effect → Option Topic
+asks Nothing = None
+asks Changed = None
+asks (Shown topic) = Some topic
+asks (Refused refusal) = None
+
+-- what is gathered of it at once: all but the list
+abbrev pub line_text : (Refusal → List ℕ) → Effect → CoreView → List ℕ
+line_text line Nothing core = []
+line_text line Changed core = flat_map (change_line 0) core.watch.changes
+line_text line (Shown topic) core = []
+line_text line (Refused refusal) core = line refusal
+
+-- the list that is asked for, if there is one
+abbrev pub asked : Option Topic → CoreView → List ℕ
+asked None core = []
+asked (Some topic) core = core_list topic core
+
+-- what a run has to print and has not written: the text that is gathered, and the list that is asked for
+abbrev pub gathered : {L : Type 0} → Run L → List ℕ
+gathered run = string_bytes run.text ++ asked run.shown run.core
 
 -- what came of an act
 abbrev pub effect_of : Result ⊤ CoreFault → Option Effect
@@ -72,17 +96,18 @@ pub record LeavesItem (item : Item) (maker maker_now : Maker) : Type 0 where
   pub tied : AreTied (item ∷ []) verdicts
   pub large : maker_now.refused ≡ maker.refused ++ large_texts verdicts
 
--- an item is counted, and what is printed of it is gathered
+-- an item is counted, and what is printed of it is gathered, or the list that it asks for is noted
 pub record CountsItem {L : Type 0} (effect : Effect) (old new : Run L) : Type 0 where
   pub core : new.core ≡ old.core
-  pub text : string_bytes new.text ≡ string_bytes old.text ++ effect_text (refused_line old.number) effect old.core
+  pub text : string_bytes new.text ≡ string_bytes old.text ++ line_text (refused_line old.number) effect old.core
+  pub shown : new.shown ≡ asks effect
   pub number : new.number ≡ old.number + 1
   pub refused : new.refused ≡ (old.refused || is_refused effect)
 
 -- what a run gathers and remembers of an answer
 pub record Follows {L : Type 0} (answer : Answer) (old new : Run L) : Type 0 where
   pub stands : Stands new.core answer.past
-  pub text : string_bytes new.text ≡ string_bytes old.text ++ answer.text
+  pub text : gathered new ≡ string_bytes old.text ++ answer.text
   pub refused : new.refused ≡ (old.refused || answer.refused)
 
 -- an item is taken under a verdict, and counted
@@ -106,5 +131,6 @@ LeavesNext (Some item) maker maker_now = LeavesItem item maker maker_now
 pub record IsNew {L : Type 0} (run : Run L) : Type 0 where
   pub core : Stands run.core []
   pub text : string_bytes run.text ≡ []
+  pub shown : run.shown ≡ None
   pub number : run.number ≡ 1
   pub refused : run.refused ≡ false

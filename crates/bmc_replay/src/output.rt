@@ -4,12 +4,15 @@ ghost use Rattle.bmc_io.specs.Told.{added};
 ghost use Rattle.bmc_io.specs.Sinks.{AppendsFront};
 ghost use Rattle.bmc_replay.specs.Statuses.{WriteCause};
 ghost use Rattle.bmc_replay.specs.Gathering.{Gathers, most_gathered};
-ghost use Rattle.bmc_core.specs.Lists.{entry_rows};
+ghost use Rattle.bmc_core.specs.Lists.{core_list, entry_rows, inventory_rows};
 
 use crate::stop::Stop;
+use bmc_base::Ledger;
+use bmc_core::Core;
 use bmc_io::{IoFault, Sink, put_all};
-use bmc_report::push_fru_row;
+use bmc_report::{Topic, push_fru_row};
 use fru_rows::Entries;
+use std::alloc::Global;
 
 /// How many bytes of text are gathered before they are written.
 pub const GATHERED: usize = 64 * 1024;
@@ -59,4 +62,48 @@ pub fn push_list<K: Sink>(
         flush_large(text, output)?;
     }
     Ok(())
+}
+
+// Gathers the rows of each board, and writes what grows large on the way.
+fn push_inventory<K: Sink, L: Ledger>(
+    alloc: Global,
+    core: &Core<L>,
+    text: &mut String,
+    output: &mut K,
+) -> Result<(), Stop>
+    ensures all { OnOk result (Gathers (K.seen output.old).taken (K.seen output.new).taken (string_bytes text.old) (string_bytes text.new)
+        (inventory_rows core.now.watch)) }
+    ensures front { OnErr result (AppendsFront (K.seen output.old).taken (K.seen output.new).taken
+        (string_bytes text.old ++ inventory_rows core.now.watch)) }
+    ensures cause { MatchResult result (λ _. (K.seen output.new).calls.faults ≡ (K.seen output.old).calls.faults)
+        (λ stop. WriteCause stop (K.seen output.old).calls (K.seen output.new).calls) }
+{
+    let boards = core.boards(alloc)?;
+    for board in &boards {
+        core.push_board(alloc, board, text)?;
+        flush_large(text, output)?;
+    }
+    Ok(())
+}
+
+/// Gathers a list. The rows of FRUs and of boards are written on the way as they grow large; the other lists are gathered whole.
+pub fn push_topic<K: Sink, L: Ledger>(
+    alloc: Global,
+    core: &Core<L>,
+    topic: Topic,
+    text: &mut String,
+    output: &mut K,
+) -> Result<(), Stop>
+    ensures all { OnOk result (Gathers (K.seen output.old).taken (K.seen output.new).taken (string_bytes text.old) (string_bytes text.new)
+        (core_list topic core.now)) }
+    ensures front { OnErr result (AppendsFront (K.seen output.old).taken (K.seen output.new).taken (string_bytes text.old ++ core_list topic core.now)) }
+    ensures cause { MatchResult result (λ _. (K.seen output.new).calls.faults ≡ (K.seen output.old).calls.faults)
+        (λ stop. WriteCause stop (K.seen output.old).calls (K.seen output.new).calls) }
+{
+    match topic {
+        Topic::Frus => push_list(core.entries(), text, output),
+        Topic::Inventory => push_inventory(alloc, core, text, output),
+        Topic::Sensors => Ok(core.push_sensors(text)?),
+        Topic::Indexes => Ok(core.push_indexes(text)?),
+    }
 }

@@ -1,16 +1,17 @@
-ghost use Rattle.std.specs.Prelude.{◌≡◌, ◌++◌, [], true, false, Ok, Err, OnOk, OnErr, IfOk, IfErr, MatchResult, string_bytes};
+ghost use Rattle.std.specs.Prelude.{◌≡◌, ◌<◌, ◌++◌, [], true, false, None, Ok, Err, OnOk, OnErr, IfOk, IfErr, MatchResult, length, string_bytes};
 ghost use Rattle.std.specs.Io.KnownBytes.{IsAtEnd};
 ghost use Rattle.bmc_io.specs.Told.{added};
 ghost use Rattle.bmc_io.specs.Sinks.{AppendsFront};
 ghost use Rattle.bmc_text.specs.Feeds.{IsWithin};
 ghost use Rattle.bmc_text.specs.NextItems.{TakesNextItem};
-ghost use Rattle.bmc_replay.specs.Gathering.{Gathers};
+ghost use Rattle.bmc_replay.specs.Gathering.{Gathers, most_gathered};
+ghost use Rattle.bmc_replay.specs.Runs.{asked, gathered};
 ghost use Rattle.bmc_core.specs.Lists.{entry_rows};
 ghost use Rattle.bmc_replay.specs.Outside.{outside};
 ghost use Rattle.bmc_replay.specs.Stops.{StopsAt};
 ghost use Rattle.bmc_replay.specs.Statuses.{Replays, HasReason, WriteCause, status_of};
 
-use crate::output::{flush, flush_large, push_list};
+use crate::output::{flush, flush_large, push_list, push_topic};
 use crate::run::Run;
 use crate::status::Status;
 use crate::stop::Stop;
@@ -48,6 +49,45 @@ fn advance<S: Source, K: Sink>(
     Ok(next)
 }
 
+// Gathers the list that is asked for, if there is one, and writes what grows large on the way.
+fn gather_list<K: Sink, L: Ledger>(
+    alloc: Global,
+    run: &mut Run<L>,
+    output: &mut K,
+) -> Result<(), Stop>
+    ensures all { OnOk result (Gathers (K.seen output.old).taken (K.seen output.new).taken (string_bytes run.old.text) (string_bytes run.new.text)
+        (asked run.old.shown run.old.core)) }
+    ensures left { OnOk result (run.new ≡ record run.old { text = run.new.text; shown = None }) }
+    ensures front { OnErr result (AppendsFront (K.seen output.old).taken (K.seen output.new).taken (gathered run.old)) }
+    ensures cause { MatchResult result (λ _. (K.seen output.new).calls.faults ≡ (K.seen output.old).calls.faults)
+        (λ stop. WriteCause stop (K.seen output.old).calls (K.seen output.new).calls) }
+{
+    let Some(topic) = run.shown else {
+        return Ok(());
+    };
+    push_topic(alloc, &run.core, topic, &mut run.text, output)?;
+    run.shown = None;
+    Ok(())
+}
+
+// Gathers the list that is asked for, if there is one, and writes what has grown large, on the way too.
+fn write_large<K: Sink, L: Ledger>(
+    alloc: Global,
+    run: &mut Run<L>,
+    output: &mut K,
+) -> Result<(), Stop>
+    ensures all { OnOk result (Gathers (K.seen output.old).taken (K.seen output.new).taken (gathered run.old) (string_bytes run.new.text) []) }
+    ensures left { OnOk result (run.new ≡ record run.old { text = run.new.text; shown = None }) }
+    ensures small { OnOk result (length (string_bytes run.new.text) < most_gathered) }
+    ensures front { OnErr result (AppendsFront (K.seen output.old).taken (K.seen output.new).taken (gathered run.old)) }
+    ensures cause { MatchResult result (λ _. (K.seen output.new).calls.faults ≡ (K.seen output.old).calls.faults)
+        (λ stop. WriteCause stop (K.seen output.old).calls (K.seen output.new).calls) }
+{
+    gather_list(alloc, run, output)?;
+    flush_large(&mut run.text, output)?;
+    Ok(())
+}
+
 // Writes what is gathered, and then the final list.
 fn finish<K: Sink, L: Ledger>(run: &mut Run<L>, output: &mut K) -> Result<(), Stop>
     ensures all { OnOk result ((K.seen output.new).taken ≡ added (K.seen output.old).taken (string_bytes run.old.text ++ entry_rows run.old.core.watch.entries)) }
@@ -78,7 +118,7 @@ fn replay_items<S: Source, K: Sink, M: PatternMaker, L: Ledger>(
     'items: loop {
         let next = advance(alloc, &mut items, &mut run.text, input, output)?;
         run.take(alloc, next, &items, maker, steps)?;
-        flush_large(&mut run.text, output)?;
+        write_large(alloc, &mut run, output)?;
         if items.is_ended() {
             break;
         }

@@ -39,6 +39,8 @@ pub struct Run<L: Ledger> {
     pub core: Core<L>,
     /// The text that is gathered and not yet written.
     pub text: String,
+    /// The list that is asked for and not yet gathered: it comes behind the text.
+    pub shown: Option<Topic>,
     /// The number of the next item, from 1.
     pub number: u64,
     /// Whether an item was refused.
@@ -58,6 +60,7 @@ fn effect_of(done: Result<(), CoreFault>) -> Result<Effect, OutOfMemory>
 }
 
 // Does an act, and says what came of it.
+#[inline(always)]
 #[tactic(auto, using(crate::proofs::RunsLemmas::act_answers))]
 fn apply<L: Ledger>(
     alloc: Global,
@@ -76,22 +79,22 @@ fn apply<L: Ledger>(
 fn run_command<L: Ledger>(
     alloc: Global,
     core: &mut Core<L>,
-    command: Command,
+    command: &Command,
     steps: &mut Steps<L>,
 ) -> Result<Effect, OutOfMemory>
-    ensures { IfOk result (λ effect. Answers (λ line past. answer_command line past (Ok command)) effect core.old core.new) }
+    ensures { IfOk result (λ effect. Answers (λ line past. answer_command line past (Ok command.now)) effect core.old core.new) }
 {
     match command {
         Command::Nothing => Ok(Effect::Nothing),
         // an item with a block is never a line
         Command::Config(_) => Ok(Effect::Refused(Refusal::ConfigShort)),
         Command::Plug(place, bytes) => {
-            apply(alloc, core, Act::Plug(place, bytes.as_slice()), steps)
+            apply(alloc, core, Act::Plug(*place, bytes.as_slice()), steps)
         }
-        Command::Unplug(place) => apply(alloc, core, Act::Unplug(place), steps),
-        Command::Good(name, raw) => apply(alloc, core, Act::Good(name, raw), steps),
+        Command::Unplug(place) => apply(alloc, core, Act::Unplug(*place), steps),
+        Command::Good(name, raw) => apply(alloc, core, Act::Good(name, *raw), steps),
         Command::Lost(name) => apply(alloc, core, Act::Lost(name), steps),
-        Command::Show(topic) => Ok(Effect::Shown(topic)),
+        Command::Show(topic) => Ok(Effect::Shown(*topic)),
     }
 }
 
@@ -104,10 +107,11 @@ fn take_line<L: Ledger>(
 ) -> Result<Effect, OutOfMemory>
     ensures { IfOk result (λ effect. Answers (λ label past. answer label past Accepted (items.Line line.now)) effect core.old core.new) }
 {
-    match Command::read(alloc, line) {
+    let read = Command::read(alloc, line);
+    match &read {
         Ok(command) => run_command(alloc, core, command, steps),
         Err(fault) => {
-            let refusal = command_refused(fault)?;
+            let refusal = command_refused(*fault)?;
             Ok(Effect::Refused(refusal))
         }
     }
@@ -153,20 +157,22 @@ impl<L: Ledger> Run<L> {
         Ok(Run {
             core,
             text: String::with_capacity(alloc, GATHERED + SPARE)?,
+            shown: None,
             number: 1,
             refused: false,
         })
     }
 
-    // Gathers what is printed of an item, and counts it.
-    fn count_item(&mut self, alloc: Global, effect: Effect) -> Result<(), OutOfMemory>
-        requires { self.old.number < 2 ^ 63 }
+    // Gathers what is printed of an item, or notes the list that it asks for, and counts it.
+    fn count_item(&mut self, effect: Effect) -> Result<(), OutOfMemory>
+        requires few { self.old.number < 2 ^ 63 }
+        requires none { self.old.shown ≡ None }
         ensures { OnOk result (CountsItem effect self.old self.new) }
     {
         match effect {
             Effect::Nothing => {}
             Effect::Changed => push_changes(&mut self.text, self.core.changes())?,
-            Effect::Shown(topic) => self.core.push_list(alloc, topic, &mut self.text)?,
+            Effect::Shown(topic) => self.shown = Some(topic),
             Effect::Refused(refusal) => {
                 push_refused_line(&mut self.text, self.number, refusal)?;
                 self.refused = true;
@@ -199,8 +205,8 @@ impl<L: Ledger> Run<L> {
         Ok(Some(effect))
     }
 
-    /// Takes what came of the script: gathers what is printed of it, and counts it. At the end nothing
-    /// changes.
+    /// Takes what came of the script: gathers what is printed of it, or notes the list that it asks for, and counts it. At the
+    /// end nothing changes.
     pub fn take<M: PatternMaker>(
         &mut self,
         alloc: Global,
@@ -209,12 +215,13 @@ impl<L: Ledger> Run<L> {
         maker: &mut M,
         steps: &mut Steps<L>,
     ) -> Result<(), OutOfMemory>
-        requires { self.old.number < 2 ^ 63 }
+        requires few { self.old.number < 2 ^ 63 }
+        requires none { self.old.shown ≡ None }
         ensures ok { OnOk result (TakesNext (item_next next items.now) self.old self.new (M.seen maker.old) (M.seen maker.new)) }
         ensures err { OnErr result (LeavesNext (item_next next items.now) (M.seen maker.old) (M.seen maker.new)) }
     {
         match self.answer(alloc, next, items, maker, steps)? {
-            Some(effect) => self.count_item(alloc, effect),
+            Some(effect) => self.count_item(effect),
             None => Ok(()),
         }
     }

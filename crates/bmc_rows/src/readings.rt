@@ -9,7 +9,8 @@ const READINGS: [Row; 8] = [
     (
         &[
             Config(
-                r#"{"Name":"Box","Probe":"TRUE","Exposes":[{"Name":"T","Type":"Sensor","Thresholds":[{"Direction":"greater than","Severity":1,"Value":100,"Hysteresis":5}]}]}"#,
+                r#"{"Name":"Box","Probe":"TRUE","Exposes":[{"Name":"T","Type":"Sensor",
+                    "Thresholds":[{"Direction":"greater than","Severity":1,"Value":100,"Hysteresis":5}]}]}"#,
             ),
             Text(
                 "read T 99999\nread T 100000\nread T 95000\nshow sensors\nread T 94999\nshow sensors\n",
@@ -29,7 +30,10 @@ sensor "T" 94.999 ok 0
     (
         &[
             Config(
-                r#"{"Name":"Box","Probe":"TRUE","Exposes":[{"Name":"T","Type":"Sensor","Thresholds":[{"Direction":"greater than","Severity":0,"Value":"2.5"},{"Direction":"less than","Severity":1,"Value":-1,"Hysteresis":"0.5"},{"Direction":"less than","Severity":0,"Value":"2.5"}]}]}"#,
+                r#"{"Name":"Box","Probe":"TRUE","Exposes":[{"Name":"T","Type":"Sensor",
+                    "Thresholds":[{"Direction":"greater than","Severity":0,"Value":"2.5"},
+                    {"Direction":"less than","Severity":1,"Value":-1,"Hysteresis":"0.5"},
+                    {"Direction":"less than","Severity":0,"Value":"2.5"}]}]}"#,
             ),
             Text(
                 "read T 2500\nread T 2499\nread T 2501\nread T -999\nread T -1000\nshow sensors\nread T -500\nshow sensors\nread T -499\n",
@@ -55,7 +59,15 @@ sensor "T" -0.500 ok 0 1 2
     (
         &[
             Config(
-                r#"{"Name":"Box","Probe":"TRUE","Exposes":[{"Name":"T","Type":"Sensor","Thresholds":[{"Direction":"greater than","Severity":0,"Value":1},{"Direction":"less than","Severity":1,"Value":1},{"Direction":"greater than","Severity":1,"Value":2,"Hysteresis":1},{"Direction":"less than","Severity":0,"Value":2},{"Direction":"greater than","Severity":0,"Value":3},{"Direction":"less than","Severity":1,"Value":-3,"Hysteresis":2},{"Direction":"greater than","Severity":1,"Value":-3},{"Direction":"less than","Severity":0,"Value":0,"Hysteresis":5}]}]}"#,
+                r#"{"Name":"Box","Probe":"TRUE","Exposes":[{"Name":"T","Type":"Sensor",
+                    "Thresholds":[{"Direction":"greater than","Severity":0,"Value":1},
+                    {"Direction":"less than","Severity":1,"Value":1},
+                    {"Direction":"greater than","Severity":1,"Value":2,"Hysteresis":1},
+                    {"Direction":"less than","Severity":0,"Value":2},
+                    {"Direction":"greater than","Severity":0,"Value":3},
+                    {"Direction":"less than","Severity":1,"Value":-3,"Hysteresis":2},
+                    {"Direction":"greater than","Severity":1,"Value":-3},
+                    {"Direction":"less than","Severity":0,"Value":0,"Hysteresis":5}]}]}"#,
             ),
             Text("read T 1500\nread T 3000\nshow sensors\nread T -3000\nshow sensors\n"),
         ],
@@ -84,7 +96,8 @@ sensor "T" -3.000 ok 0 1 3 5 6 7
     (
         &[
             Config(
-                r#"{"Name":"Box","Probe":"TRUE","Exposes":[{"Name":"T","Type":"Sensor","Thresholds":[{"Direction":"greater than","Severity":1,"Value":100,"Hysteresis":5}]}]}"#,
+                r#"{"Name":"Box","Probe":"TRUE","Exposes":[{"Name":"T","Type":"Sensor",
+                    "Thresholds":[{"Direction":"greater than","Severity":1,"Value":100,"Hysteresis":5}]}]}"#,
             ),
             Times(4, "lose T\n"),
             Text("read T 100000\n"),
@@ -109,7 +122,8 @@ sensor "T" 94.999 ok 0
     (
         &[
             Config(
-                r#"{"Name":"Box","Probe":"TRUE","Exposes":[{"Name":"T","Type":"Sensor","Thresholds":[{"Direction":"greater than","Severity":1,"Value":100,"Hysteresis":5}]}]}"#,
+                r#"{"Name":"Box","Probe":"TRUE","Exposes":[{"Name":"T","Type":"Sensor",
+                    "Thresholds":[{"Direction":"greater than","Severity":1,"Value":100,"Hysteresis":5}]}]}"#,
             ),
             Times(6, "lose T\n"),
             Text("show sensors\nread T 0\nshow sensors\n"),
@@ -128,7 +142,9 @@ sensor "T" 0.000 ok 0
     (
         &[
             Config(
-                r#"{"Name":"Box","Probe":"TRUE","Exposes":[{"Name":"T","Type":"Sensor","ScaleNum":1000000,"Offset":1000000},{"Name":"U","Type":"Sensor","ScaleNum":0}]}"#,
+                r#"{"Name":"Box","Probe":"TRUE",
+                    "Exposes":[{"Name":"T","Type":"Sensor","ScaleNum":1000000,"Offset":1000000},
+                    {"Name":"U","Type":"Sensor","ScaleNum":0}]}"#,
             ),
             Text(
                 "read T 1000000000\nread T 1000000001\nread U -1000000000\nread U -1000000001\nread V 1000000001\nread T -999999999999999999\n",
@@ -154,7 +170,9 @@ sensor "U" 0.000 ok 0
     (
         &[
             Config(
-                r#"{"Name":"Box","Probe":"TRUE","Exposes":[{"Name":"A","Type":"Sensor","ScaleDen":2},{"Name":"B","Type":"Sensor","ScaleNum":-1,"ScaleDen":3,"Offset":"0.05"},{"Name":"C","Type":"Sensor","ScaleNum":-7,"ScaleDen":1000000,"Offset":"-0.001"}]}"#,
+                r#"{"Name":"Box","Probe":"TRUE","Exposes":[{"Name":"A","Type":"Sensor","ScaleDen":2},
+                    {"Name":"B","Type":"Sensor","ScaleNum":-1,"ScaleDen":3,"Offset":"0.05"},
+                    {"Name":"C","Type":"Sensor","ScaleNum":-7,"ScaleDen":1000000,"Offset":"-0.001"}]}"#,
             ),
             Text(
                 "read A 5\nread B 1\nread C 1\nshow sensors\nread A -5\nread B 0\nread C -1\nshow sensors\n",
@@ -177,7 +195,9 @@ sensor "C" -0.001 ok 0
     (
         &[
             Config(
-                r#"{"Name":"Box","Probe":"TRUE","Exposes":[{"Name":"T","Type":"Sensor"},{"Name":" T","Type":"Sensor"},{"Name":"T 1","Type":"Sensor"},{"Name":"T ","Type":"Sensor"},{"Name":"2\" \\","Type":"Sensor"}]}"#,
+                r#"{"Name":"Box","Probe":"TRUE","Exposes":[{"Name":"T","Type":"Sensor"},{"Name":" T","Type":"Sensor"},
+                    {"Name":"T 1","Type":"Sensor"},{"Name":"T ","Type":"Sensor"},
+                    {"Name":"2\" \\","Type":"Sensor"}]}"#,
             ),
             Text(
                 r#"read T 1 2
@@ -224,7 +244,8 @@ const KEPT: [Row; 6] = [
     (
         &[
             Config(
-                r#"{"Name":"Card","Probe":["xyz.openbmc_project.FruDevice({'BOARD_PRODUCT_NAME': '^RSR'})","MATCH_ONE"],"Exposes":[{"Name":"Card $index Temp","Type":"Sensor"}]}"#,
+                r#"{"Name":"Card","Probe":["xyz.openbmc_project.FruDevice({'BOARD_PRODUCT_NAME': '^RSR'})","MATCH_ONE"],
+                    "Exposes":[{"Name":"Card $index Temp","Type":"Sensor"}]}"#,
             ),
             Text(
                 "plug 1 80 $\nplug 1 81 01000001000000FE010300000000C341434DC452535232C25331C0C0C10000F4\nread Card 1 Temp 41000\nunplug 1 80\nshow sensors\n",
@@ -272,7 +293,8 @@ fru 1 81$
     (
         &[
             Config(
-                r#"{"Name":"Box","Probe":"TRUE","Exposes":[{"Name":"T","Type":"Sensor","Thresholds":[{"Direction":"greater than","Severity":1,"Value":100,"Hysteresis":5}]}]}"#,
+                r#"{"Name":"Box","Probe":"TRUE","Exposes":[{"Name":"T","Type":"Sensor",
+                    "Thresholds":[{"Direction":"greater than","Severity":1,"Value":100,"Hysteresis":5}]}]}"#,
             ),
             Config(
                 r#"{"Name":"Riser","Probe":"xyz.openbmc_project.FruDevice({'BOARD_PRODUCT_NAME': '^RSR1$'})","Exposes":[{"Name":"X $index","Type":"Sensor"}]}"#,
@@ -311,7 +333,9 @@ fru 1 80$
     (
         &[
             Config(
-                r#"{"Name":"Box","Probe":"xyz.openbmc_project.FruDevice({'BUS': 1})","Exposes":[{"Name":"T","Type":"Sensor","Thresholds":[{"Direction":"greater than","Severity":1,"Value":5,"Hysteresis":9}]}]}"#,
+                r#"{"Name":"Box","Probe":"xyz.openbmc_project.FruDevice({'BUS': 1})",
+                    "Exposes":[{"Name":"T","Type":"Sensor",
+                    "Thresholds":[{"Direction":"greater than","Severity":1,"Value":5,"Hysteresis":9}]}]}"#,
             ),
             Text("plug 1 80 $\nread T 5000\n"),
             Times(4, "lose T\n"),
@@ -363,7 +387,10 @@ fru 1 80$
     (
         &[
             Config(
-                r#"{"Name":"Z","Probe":"TRUE","Exposes":[{"Name":"Z","Type":"Pid.Zone","MinThermalOutput":0,"FailSafePercent":0},{"Name":"F","Type":"Fan"},{"Name":"S","Type":"Fan"},{"Name":"S","Type":"Sensor"},{"Name":"S","Type":"Sensor","Offset":1},{"Name":"E","Type":"TMP75"}]}"#,
+                r#"{"Name":"Z","Probe":"TRUE",
+                    "Exposes":[{"Name":"Z","Type":"Pid.Zone","MinThermalOutput":0,"FailSafePercent":0},
+                    {"Name":"F","Type":"Fan"},{"Name":"S","Type":"Fan"},{"Name":"S","Type":"Sensor"},
+                    {"Name":"S","Type":"Sensor","Offset":1},{"Name":"E","Type":"TMP75"}]}"#,
             ),
             Text("read Z 1\nlose F\nread E 1\nread S 1\nlose s\nshow sensors\nshow inventory\n"),
         ],
@@ -429,7 +456,12 @@ fru 1 82
     (
         &[
             Config(
-                r#"{"Name":"Riser","Probe":["TRUE","OR","xyz.openbmc_project.FruDevice({'BOARD_PRODUCT_NAME': '^RSR1$'})"],"Exposes":[{"Name":"Slots","Type":"Mux","Channels":[20]},{"Name":"$BOARD_SERIAL_NUMBER EEPROM","Type":"EEPROM","Bus":5},{"Name":"T","Type":"Sensor","Bus":"$bus","Address":"0x4C"},{"Name":"T","Type":"Fan","Bus":5},{"Name":"T","Type":"Sensor","Bus":"$index","Address":"$address + 47"},{"Name":"Z $bus","Type":"Pid.Zone","MinThermalOutput":0,"FailSafePercent":0}]}"#,
+                r#"{"Name":"Riser","Probe":["TRUE","OR","xyz.openbmc_project.FruDevice({'BOARD_PRODUCT_NAME': '^RSR1$'})"],
+                    "Exposes":[{"Name":"Slots","Type":"Mux","Channels":[20]},
+                    {"Name":"$BOARD_SERIAL_NUMBER EEPROM","Type":"EEPROM","Bus":5},
+                    {"Name":"T","Type":"Sensor","Bus":"$bus","Address":"0x4C"},{"Name":"T","Type":"Fan","Bus":5},
+                    {"Name":"T","Type":"Sensor","Bus":"$index","Address":"$address + 47"},
+                    {"Name":"Z $bus","Type":"Pid.Zone","MinThermalOutput":0,"FailSafePercent":0}]}"#,
             ),
             Text("show inventory\nplug 1 81 $\nplug 1 80 $\nshow inventory\n"),
         ],
@@ -518,7 +550,8 @@ fru 16 0$
     (
         &[
             Config(
-                r#"{"Name":"First","Probe":"xyz.openbmc_project.FruDevice({'BUS': 9})","Exposes":[{"Name":"B\u0007","Type":"Sensor"},{"Name":"A","Type":"Sensor"}]}"#,
+                r#"{"Name":"First","Probe":"xyz.openbmc_project.FruDevice({'BUS': 9})",
+                    "Exposes":[{"Name":"B\u0007","Type":"Sensor"},{"Name":"A","Type":"Sensor"}]}"#,
             ),
             Config(
                 r#"{"Name":"Last","Probe":"TRUE","Exposes":[{"Name":"A","Type":"Sensor"},{"Name":"C\\é","Type":"Sensor"}]}"#,
@@ -559,7 +592,8 @@ sensor "C\\é" 0.002 ok 0
     (
         &[
             Config(
-                r#"{"Name":"Box","Probe":"TRUE","Exposes":[{"Name":"T","Type":"Sensor","Thresholds":[{"Direction":"greater than","Severity":1,"Value":100,"Hysteresis":5}]}]}"#,
+                r#"{"Name":"Box","Probe":"TRUE","Exposes":[{"Name":"T","Type":"Sensor",
+                    "Thresholds":[{"Direction":"greater than","Severity":1,"Value":100,"Hysteresis":5}]}]}"#,
             ),
             Text(
                 "show zones\nshow log\nshow sensors \nread T\nread T 5 \nread T +5\nread T 0000000000000000005\nread T -000000000000000005\nshow sensors\n",

@@ -27,9 +27,15 @@ const FOUND: &[&str] = &[
     r#","Thresholds":[{"Direction":"greater than","Severity":1,"Value":95}]"#,
     r#","Thresholds":[{"Direction":"less than","Severity":0,"Value":"5.5"}]"#,
     r#","Thresholds":[{"Direction":"greater than","Severity":1,"Value":95,"Hysteresis":0}]"#,
-    r#","Thresholds":[{"Direction":"less than","Severity":0,"Value":"5.5","Hysteresis":1000000},{"Direction":"greater than","Severity":1,"Value":95,"Hysteresis":"0.001"}]"#,
-    r#","Thresholds":[{"Direction":"less than","Severity":1,"Value":5},{"Direction":"less than","Severity":1,"Value":5},{"Direction":"less than","Severity":1,"Value":5},{"Direction":"less than","Severity":1,"Value":5},{"Direction":"less than","Severity":1,"Value":5},{"Direction":"less than","Severity":1,"Value":5},{"Direction":"less than","Severity":1,"Value":5},{"Direction":"less than","Severity":1,"Value":5}]"#,
-    r#","Thresholds":[{"Name":"upper critical","Value":"1000000","Severity":0,"Direction":"greater than","Index":-1},{"Value":-1000000,"Severity":1,"Direction":"less than"}]"#,
+    r#","Thresholds":[{"Direction":"less than","Severity":0,"Value":"5.5","Hysteresis":1000000},
+        {"Direction":"greater than","Severity":1,"Value":95,"Hysteresis":"0.001"}]"#,
+    r#","Thresholds":[{"Direction":"less than","Severity":1,"Value":5},
+        {"Direction":"less than","Severity":1,"Value":5},{"Direction":"less than","Severity":1,"Value":5},
+        {"Direction":"less than","Severity":1,"Value":5},{"Direction":"less than","Severity":1,"Value":5},
+        {"Direction":"less than","Severity":1,"Value":5},{"Direction":"less than","Severity":1,"Value":5},
+        {"Direction":"less than","Severity":1,"Value":5}]"#,
+    r#","Thresholds":[{"Name":"upper critical","Value":"1000000","Severity":0,"Direction":"greater than","Index":-1},
+        {"Value":-1000000,"Severity":1,"Direction":"less than"}]"#,
     r#","Timeout":5,"Offset":0,"ScaleDen":2,"Bus":1,"Address":76,"ScaleNum":-5,"PollRate":null,"Zones":[5]"#,
 ];
 
@@ -119,7 +125,11 @@ const OUT_OF_RANGE: &[&str] = &[
     r#","Timeout":1000001"#,
     r#","Timeout":18446744073709551615"#,
     r#","Thresholds":[5,5,5,5,5,5,5,5,5]"#,
-    r#","Thresholds":[{"Direction":"less than","Severity":1,"Value":5},{"Direction":"less than","Severity":1,"Value":5},{"Direction":"less than","Severity":1,"Value":5},{"Direction":"less than","Severity":1,"Value":5},{"Direction":"less than","Severity":1,"Value":5},{"Direction":"less than","Severity":1,"Value":5},{"Direction":"less than","Severity":1,"Value":5},{"Direction":"less than","Severity":1,"Value":5},{"Direction":"less than","Severity":1,"Value":5}]"#,
+    r#","Thresholds":[{"Direction":"less than","Severity":1,"Value":5},
+        {"Direction":"less than","Severity":1,"Value":5},{"Direction":"less than","Severity":1,"Value":5},
+        {"Direction":"less than","Severity":1,"Value":5},{"Direction":"less than","Severity":1,"Value":5},
+        {"Direction":"less than","Severity":1,"Value":5},{"Direction":"less than","Severity":1,"Value":5},
+        {"Direction":"less than","Severity":1,"Value":5},{"Direction":"less than","Severity":1,"Value":5}]"#,
     r#","Thresholds":[{"Direction":""}]"#,
     r#","Thresholds":[{"Direction":"Less than","Severity":1,"Value":95}]"#,
     r#","Thresholds":[{"Direction":"less than ","Severity":1,"Value":95}]"#,
@@ -132,7 +142,9 @@ const OUT_OF_RANGE: &[&str] = &[
     r#","Thresholds":[{"Direction":"greater than","Severity":1,"Value":95,"Hysteresis":"-0.001"}]"#,
     r#","Thresholds":[{"Direction":"greater than","Severity":1,"Value":95,"Hysteresis":1000001}]"#,
     r#","Thresholds":[{"Direction":"greater than","Severity":1,"Value":95,"Hysteresis":"1000000.001"}]"#,
-    r#","Thresholds":[{"Direction":"greater than","Severity":1,"Value":95},{"Direction":"less than","Severity":0,"Value":"5.5"},{"Direction":"greater than","Severity":1,"Value":95,"Hysteresis":-1}]"#,
+    r#","Thresholds":[{"Direction":"greater than","Severity":1,"Value":95},
+        {"Direction":"less than","Severity":0,"Value":"5.5"},
+        {"Direction":"greater than","Severity":1,"Value":95,"Hysteresis":-1}]"#,
 ];
 
 // Those with a bus or an address that is no number, and no template of one.
@@ -298,7 +310,9 @@ fru 9 80$
     // a machine with sensors, a fan and a zone
     (
         &[Config(
-            r#"{"Name":"Box","Probe":"TRUE","Exposes":[{"Name":"T","Type":"Sensor","Timeout":20},{"Name":"Tach","Type":"Sensor","ScaleNum":1000},{"Name":"Fan 1","Type":"Fan"},{"Name":"Z","Type":"Pid.Zone","MinThermalOutput":1000,"FailSafePercent":80}]}"#,
+            r#"{"Name":"Box","Probe":"TRUE","Exposes":[{"Name":"T","Type":"Sensor","Timeout":20},
+                {"Name":"Tach","Type":"Sensor","ScaleNum":1000},{"Name":"Fan 1","Type":"Fan"},
+                {"Name":"Z","Type":"Pid.Zone","MinThermalOutput":1000,"FailSafePercent":80}]}"#,
         )],
         Done,
         r#"0 new board "Box" 1

@@ -1,11 +1,12 @@
--- The totals where a configuration comes.
-use Rattle.std.proofs.Common.{◌≡◌, ◌∙◌, ℕ, zero, suc, ◌+◌, ◌<◌, ◌≤◌, List, [], ◌∷◌, ◌++◌, map, length, Option, Some, None, true, refl, sym, ap, ap₂, arith}
+-- The totals and the items where a configuration comes.
+use Rattle.std.proofs.Common.{◌≡◌, ◌∙◌, ℕ, zero, suc, ◌+◌, ◌<◌, List, [], ◌∷◌, ◌++◌, map, length, Option, true, refl, sym, ap, ap₂, arith}
 use Rattle.std.proofs.Common.{append-nil}
 use Rattle.std.specs.Prelude.{slice_get, option_map, sum_by}
 use Rattle.std.specs.Option.{unwrap_or}
-use Rattle.std.specs.List.{flat_map, range_with_len}
+use Rattle.std.specs.List.{AllByRecursion, flat_map, range_with_len}
 use Rattle.std.proofs.lemmas.Grind.{flat_map-append}
 use Rattle.std.proofs.lemmas.List.{length-append}
+use Rattle.std.proofs.lemmas.List.Elements.{recursion_from_All}
 use Rattle.std.proofs.lemmas.List.Sums.{sum_by-cons}
 use Rattle.bmc_base.specs.Places.{Place}
 use Rattle.probe_lang.specs.Presents.{are_by_place}
@@ -14,17 +15,26 @@ use Rattle.probe_lang.specs.declared.rows.Entry.{Entry}
 use Rattle.cfg_json.specs.Configs.{Config, counts_of}
 use Rattle.cfg_json.specs.declared.counts.Counts.{Counts}
 use Rattle.inventory.specs.Boards.{boards_in, has_board}
-use Rattle.inventory.specs.Differences.{key_of, keys_left}
-use Rattle.inventory.specs.Indexes.{except}
+use Rattle.cfg_json.specs.declared.item.Item.{Item}
+use Rattle.fru_rows.specs.Idle.{busy}
+use Rattle.inventory.specs.Differences.{Moment, key_of, keys_left}
+use Rattle.inventory.specs.Indexes.{except, kept_of}
+use Rattle.inventory.specs.Items.{entry_fields}
 use Rattle.inventory.specs.Limits.{board_counts, totals_of, totals_after, sensors_of, zones_of, fans_of}
 use Rattle.inventory.specs.Lists.{keys_of}
+use Rattle.inventory.specs.Naming.{naming_items}
 use Rattle.inventory.specs.declared.board.BoardKey.{BoardKey}
+use Rattle.inventory.specs.declared.changed.Difference.{Difference}
 use Rattle.inventory.specs.declared.limits.Totals.{Totals}
 use Rattle.inventory.proofs.DifferencesLemmas.{range_push}
+use Rattle.inventory.proofs.CallersLemmas.{configs_alike}
+use Rattle.inventory.proofs.ListLemmas.{all_weaker}
 use Rattle.inventory.proofs.TotalsLemmas.{totals_add_up}
 use Rattle.bmc_watch.specs.Changes.{IsDifference, AreWithin}
 use Rattle.bmc_watch.proofs.KeysLemmas.{keys_by, no_boards, within_by}
-use Rattle.bmc_watch.proofs.StockLemmas.{boards_ascend}
+use Rattle.bmc_watch.specs.Insides.{IsStocked}
+use Rattle.bmc_watch.specs.ItemSteps.{Continues}
+use Rattle.bmc_watch.proofs.StockLemmas.{boards_ascend, continues, items_with}
 
 -- ---- what is counted of the boards of the configurations before
 
@@ -84,48 +94,67 @@ no_more places number none =
     keys_at : ℕ → List BoardKey
     keys_at number = map (key_of number) (places number)
 
--- ---- the totals behind the step
+-- ---- behind the step
 
-pub config_counted : (configs : List Config) (config : Config) (entries : List Entry) (gone new : List BoardKey) (totals totals_now : Totals)
-    → are_by_place entries ≡ true
-    → IsDifference (length configs) (length (configs ++ config ∷ [])) (boards_in configs (map entry_sight entries))
-    (boards_in (configs ++ config ∷ []) (map entry_sight entries)) gone new
-    → totals ≡ totals_of configs (keys_of (length configs) (boards_in configs (map entry_sight entries)))
-    → totals_now ≡ totals_after (configs ++ config ∷ []) totals gone new
-    → totals_now ≡ totals_of (configs ++ config ∷ []) (keys_of (length (configs ++ config ∷ [])) (boards_in (configs ++ config ∷ []) (map entry_sight entries)))
-config_counted configs config entries gone new totals totals_now order differs was is =
-    is ∙ ap (λ (totals : Totals). totals_after all totals gone new) counted
-    ∙ ap₂ (totals_after all (totals_of all (keys_of count before))) (differs.those_gone ∙ sym gone_same) differs.those_new
-    ∙ totals_add_up all count before after (boards_ascend configs entries order) (boards_ascend all entries order)
-  where
-    all : List Config
-    all = configs ++ config ∷ []
+module _ (configs : List Config) (config : Config) (entries : List Entry) (order : are_by_place entries ≡ true) where
+  abbrev all : List Config
+  all = configs ++ config ∷ []
 
-    count : ℕ
-    count = length all
+  abbrev count : ℕ
+  count = length all
 
-    before : ℕ → List (Option Place)
-    before = boards_in configs (map entry_sight entries)
+  abbrev before : ℕ → List (Option Place)
+  before = boards_in configs (map entry_sight entries)
 
-    after : ℕ → List (Option Place)
-    after = boards_in all (map entry_sight entries)
+  abbrev after : ℕ → List (Option Place)
+  after = boards_in all (map entry_sight entries)
 
-    one_more : count ≡ length configs + 1
-    one_more = length-append configs (config ∷ [])
+  one_more : count ≡ length configs + 1
+  one_more = length-append configs (config ∷ [])
 
-    none : before (length configs) ≡ []
-    none = no_boards configs (map entry_sight entries) (length configs) (omega arith)
+  none : before (length configs) ≡ []
+  none = no_boards configs (map entry_sight entries) (length configs) (omega arith)
 
-    keys_same : keys_of count before ≡ keys_of (length configs) before
-    keys_same = ap (λ (count : ℕ). keys_of count before) one_more ∙ no_more before (length configs) none
+  keys_same : keys_of count before ≡ keys_of (length configs) before
+  keys_same = ap (λ (count : ℕ). keys_of count before) one_more ∙ no_more before (length configs) none
 
-    gone_same : keys_left count before after ≡ keys_left (length configs) before after
-    gone_same =
-        ap (λ (count : ℕ). keys_left count before after) one_more
-        ∙ no_more (λ number. except (has_board (after number)) (before number)) (length configs)
-        (ap (except (has_board (after (length configs)))) none)
+  gone_same : keys_left count before after ≡ keys_left (length configs) before after
+  gone_same =
+      ap (λ (count : ℕ). keys_left count before after) one_more
+      ∙ no_more (λ number. except (has_board (after number)) (before number)) (length configs)
+      (ap (except (has_board (after (length configs)))) none)
 
-    counted : totals ≡ totals_of all (keys_of count before)
-    counted =
-        was ∙ totals_front configs (config ∷ []) (keys_of (length configs) before) (within_by before 0 (length configs) (length configs) (omega arith))
-        ∙ ap (totals_of all) (sym keys_same)
+  -- the totals
+  pub config_counted : (gone new : List BoardKey) (totals totals_now : Totals) → IsDifference (length configs) count before after gone new
+      → totals ≡ totals_of configs (keys_of (length configs) before) → totals_now ≡ totals_after all totals gone new
+      → totals_now ≡ totals_of all (keys_of count after)
+  config_counted gone new totals totals_now differs was is =
+      is ∙ ap (λ (totals : Totals). totals_after all totals gone new) counted
+      ∙ ap₂ (totals_after all (totals_of all (keys_of count before))) (differs.those_gone ∙ sym gone_same) differs.those_new
+      ∙ totals_add_up all count before after (boards_ascend configs entries order) (boards_ascend all entries order)
+    where
+      counted : totals ≡ totals_of all (keys_of count before)
+      counted =
+          was ∙ totals_front configs (config ∷ []) (keys_of (length configs) before) (within_by before 0 (length configs) (length configs) (omega arith))
+          ∙ ap (totals_of all) (sym keys_same)
+
+  -- a board of a configuration that was there has it
+  configs_front : (keys : List BoardKey) → AreWithin keys (length configs)
+      → AllByRecursion (λ (key : BoardKey). slice_get configs key.config ≡ slice_get all key.config) keys
+  configs_front keys within =
+      all_weaker (λ (key : BoardKey). key.config < length configs) _ (λ key few. sym (slice_front configs (config ∷ []) key.config few)) keys
+      (recursion_from_All _ keys within)
+
+  -- the items
+  pub config_continues : (kept : List (List (Option Place))) (difference : Difference) (totals : Totals) (items : List Item) (moment : Moment)
+      → IsDifference (length configs) count before after difference.gone_boards difference.new_boards
+      → IsStocked configs entries kept totals items → moment.entries ≡ busy entries
+      → Continues all kept difference moment items (items_with all kept difference.new_boards entries)
+  config_continues kept difference totals items moment differs stocked works =
+      continues configs all kept entries entries difference order order (differs.those_gone ∙ sym gone_same) differs.those_new stocked.holds
+      (λ number place has now. refl) items
+      (stocked.items
+      ∙ configs_alike configs all (kept_of kept) (entry_fields (busy entries)) (keys_of (length configs) before)
+      (configs_front (keys_of (length configs) before) (within_by before 0 (length configs) (length configs) (omega arith)))
+      ∙ ap (naming_items all (kept_of kept) (entry_fields (busy entries))) (sym keys_same))
+      moment works

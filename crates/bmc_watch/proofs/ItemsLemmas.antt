@@ -1,16 +1,17 @@
 -- What boards expose, over all FRUs and over the busy ones alone.
 use Rattle.std.specs.Prelude.{⊤}
 use Rattle.std.proofs.Common.{◌≡◌, ◌∙◌, ℕ, List, [], ◌∷◌, ◌++◌, map, Bool, true, false, not, cond, ◌||◌, Option, Some, None, refl, sym, ap, ap₂}
-use Rattle.std.proofs.Common.{subst, find, filter}
+use Rattle.std.proofs.Common.{subst, find, inl, inr}
 use Rattle.std.specs.Prelude.{slice_get, option_map, option_and_then}
 use Rattle.std.proofs.lemmas.Cmp.{tied_itself}
-use Rattle.std.specs.Option.{unwrap_or}
+use Rattle.std.specs.Option.{option_eq, unwrap_or}
 use Rattle.std.specs.List.{AllByRecursion, range_with_len}
 use Rattle.std.specs.List.Sorted.{IsStrictlySortedBy}
 use Rattle.std.specs.Ordering.{is_eq, ordering_reverse}
 use Rattle.std.specs.declared.cmp.Ordering.{Ordering}
 use Rattle.std.specs.declared.cmp.Ordering.TheVariants.{Less, Equal, Greater}
-use Rattle.bmc_base.specs.Places.{Place, place_cmp}
+use Rattle.std.proofs.lemmas.Bool.{or_cases}
+use Rattle.bmc_base.specs.Places.{Place, place_cmp, place_eq}
 use Rattle.fru_area.specs.declared.field.Field.{Field}
 use Rattle.probe_lang.specs.Presents.{holds_place, is_entry_at, without_entry}
 use Rattle.probe_lang.specs.Sights.{Sight, entry_sight}
@@ -19,7 +20,7 @@ use Rattle.cfg_json.specs.Configs.{Config}
 use Rattle.match_rows.proofs.PlacesLemmas.{place_total}
 use Rattle.found_set.specs.Found.{is_found, is_reached, on_buses}
 use Rattle.fru_rows.specs.Idle.{is_idle, busy}
-use Rattle.inventory.specs.Boards.{hit_places, places_or_none, config_places, board_places, boards_in, rules_of}
+use Rattle.inventory.specs.Boards.{hit_places, places_or_none, config_places, board_places, boards_in, has_board, rules_of}
 use Rattle.inventory.specs.Differences.{key_of}
 use Rattle.inventory.specs.Items.{board_fields, entry_fields, exposes_of, rendered_items, items}
 use Rattle.inventory.specs.Lists.{board_of, board_list, keys_of}
@@ -27,7 +28,7 @@ use Rattle.inventory.specs.Moments.{IsAmong}
 use Rattle.inventory.specs.declared.board.Board.{Board}
 use Rattle.inventory.specs.declared.board.BoardKey.{BoardKey}
 use Rattle.inventory.proofs.AscendLemmas.{all_flat_map}
-use Rattle.inventory.proofs.BoardLemmas.{place_cmp_eq, place_same}
+use Rattle.inventory.proofs.BoardLemmas.{board_same, place_cmp_eq, place_same}
 use Rattle.inventory.proofs.ListLemmas.{all_any, all_filter, all_map, all_passes, all_weaker}
 use Rattle.bmc_watch.proofs.BusyLemmas.{busy_found}
 use Rattle.bmc_watch.proofs.IdleLemmas.{busy_boards}
@@ -162,7 +163,17 @@ busy_items configs kept count entries order =
 
 -- ---- where one FRU comes or goes
 
-module _ (configs : List Config) (kept : ℕ → List (Option Place)) (count : ℕ) (entry : Entry) (fewer more : List Entry)
+-- what holds of each board holds of one among them
+of_board : (Fact : Option Place → Type 0) (boards : List (Option Place)) (board : Option Place) → AllByRecursion Fact boards
+    → has_board boards board ≡ true → Fact board
+of_board Fact [] board facts has = absurd (cc)
+of_board Fact (first ∷ boards) board facts has =
+    elim (or_cases (option_eq place_eq board first) (has_board boards board) has) [
+      | inl same ↦ subst Fact (sym (board_same board first same)) facts.0
+      | inr later ↦ of_board Fact boards board facts.1 later
+    ]
+
+module _ (configs : List Config) (entry : Entry) (fewer more : List Entry)
     (among : IsAmong entry (busy fewer) (busy more)) (apart : AllByRecursion (λ (each : Entry). is_entry_at each.place entry ≡ false) (busy fewer)) where
   find_skip : (place : Place) (front back : List Entry) → is_entry_at place entry ≡ false
       → find (is_entry_at place) (front ++ entry ∷ back) ≡ find (is_entry_at place) (front ++ back)
@@ -182,16 +193,18 @@ module _ (configs : List Config) (kept : ℕ → List (Option Place)) (count : �
     all_alike some away.1,
   )
 
-  -- the boards that are there without it expose the same
-  pub items_apart : (test : Board → Bool)
-      → items configs (entry_fields (busy more)) (filter test (board_list kept (keys_of count (boards_in configs (map entry_sight fewer)))))
-      ≡ items configs (entry_fields (busy fewer)) (filter test (board_list kept (keys_of count (boards_in configs (map entry_sight fewer)))))
-  items_apart test =
-      items_alike configs (entry_fields (busy more)) (entry_fields (busy fewer)) _
-      (all_weaker _ _ (alike_at (entry_fields (busy more)) (entry_fields (busy fewer))) _
-      (all_filter _ test _ (list_on Same kept (boards_in configs (map entry_sight fewer)) count (λ number.
-      subst (AllByRecursion (OnPlace Same)) (busy_boards configs fewer number)
-      (boards_on Same configs (map entry_sight (busy fewer)) number (all_map _ entry_sight (busy fewer) (all_alike (busy fewer) apart)))))))
+  -- a board that is there without it has the same fields
+  pub fields_apart : (number : ℕ) (place : Option Place) → has_board (boards_in configs (map entry_sight fewer) number) place ≡ true
+      → option_and_then (entry_fields (busy more)) place ≡ option_and_then (entry_fields (busy fewer)) place
+  fields_apart number place has =
+      fields_at place (of_board (OnPlace Same) (boards_in configs (map entry_sight fewer) number) place
+      (subst (AllByRecursion (OnPlace Same)) (busy_boards configs fewer number)
+      (boards_on Same configs (map entry_sight (busy fewer)) number (all_map _ entry_sight (busy fewer) (all_alike (busy fewer) apart)))) has)
+    where
+      fields_at : (place : Option Place) → OnPlace Same place
+          → option_and_then (entry_fields (busy more)) place ≡ option_and_then (entry_fields (busy fewer)) place
+      fields_at None same = refl
+      fields_at (Some place) same = same
 
 eq_reverse : (order : Ordering) → is_eq (ordering_reverse order) ≡ is_eq order
 eq_reverse Less = refl
@@ -240,7 +253,8 @@ gone_apart place entry entries found = left entries
       where
         by : (here : Bool) → is_entry_at place each ≡ here
             → AllByRecursion (λ (each : Entry). is_entry_at each.place entry ≡ false) (without_entry place some)
-            → AllByRecursion (λ (each : Entry). is_entry_at each.place entry ≡ false) (cond (not here) (each ∷ without_entry place some) (without_entry place some))
+            → AllByRecursion (λ (each : Entry). is_entry_at each.place entry ≡ false) (cond (not here) (each ∷ without_entry place some)
+                (without_entry place some))
         by true is rest = rest
         by false is rest = (
           ap is_eq (place_total.antisymm each.place entry.place) ∙ eq_reverse (place_cmp entry.place each.place)

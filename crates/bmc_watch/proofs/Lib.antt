@@ -11,3 +11,4 @@ pub mod EventsLemmas
 pub mod StockLemmas
 pub mod ListedLemmas
 pub mod GrowthLemmas
+pub mod CountingLemmas

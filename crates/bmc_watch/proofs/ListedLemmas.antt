@@ -1,5 +1,5 @@
 -- The boards that are listed of a moment, and what one of them exposes.
-use Rattle.std.proofs.Common.{◌≡◌, ◌∙◌, ℕ, List, [], ◌∷◌, map, length, Bool, true, Option, refl, sym, ap, ap₂, append-nil}
+use Rattle.std.proofs.Common.{◌≡◌, ◌∙◌, ℕ, List, [], ◌∷◌, map, length, Bool, true, Option, sym, ap, ap₂, append-nil}
 use Rattle.bmc_base.specs.Places.{Place}
 use Rattle.fru_area.specs.declared.field.Field.{Field}
 use Rattle.probe_lang.specs.Sights.{entry_sight}

@@ -80,7 +80,7 @@ occupied old new place bytes held left =
     (λ past stood. ap (λ (there : Bool). cond there (Some Occupied) (refused_bytes past place bytes)) (is_known old past place true stood held)) left
 
 -- a fault that is a rule's is what reading gives
-breaks_by : {X : Type 0} (rule : FruFault) (refusal : Refusal) (read : Result X FruFault) → record_refusal rule ≡ Some refusal → GivesFault rule read
+pub breaks_by : {X : Type 0} (rule : FruFault) (refusal : Refusal) (read : Result X FruFault) → record_refusal rule ≡ Some refusal → GivesFault rule read
     → read ≡ Err rule
 breaks_by rules.OutOfMemory refusal read is gives = absurd (cc)
 breaks_by rules.FruShort refusal read is gives = gives
@@ -132,7 +132,8 @@ known_with old past place bytes fields stood whole =
     ∙ put_is (standing past).configs (record { place = place; bytes = bytes }) (standing past).frus
 
 -- a FRU whose record is whole is refused by a limit alone
-by_limit : (old : WatchView) (past : List Step) (place : Place) (bytes : List ℕ) (fields : List Field) → WatchStands old past → holds_place old.entries place ≡ false
+by_limit : (old : WatchView) (past : List Step) (place : Place) (bytes : List ℕ) (fields : List Field) → WatchStands old past
+    → holds_place old.entries place ≡ false
     → record_of bytes ≡ Ok fields → nat_le most_frus (length old.entries) ≡ false
     → refusal_after past (Plug place bytes) ≡ over past place bytes
 by_limit old past place bytes fields stood free whole room =

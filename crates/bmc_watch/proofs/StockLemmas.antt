@@ -1,13 +1,12 @@
 -- The totals and the items of a state: before a step, behind it, and where no board comes or goes.
-use Rattle.std.proofs.Common.{◌≡◌, ◌∙◌, ℕ, ◌+◌, List, [], ◌∷◌, ◌++◌, map, length, Bool, true, false, not, cond, Option, Some, None, refl, sym, ap, ap₂}
-use Rattle.std.proofs.Common.{subst, append-nil, filter, filter_map, find, inl, inr, ◌≤◌}
-use Rattle.std.specs.Option.{option_eq, unwrap_or}
-use Rattle.std.specs.Prelude.{option_map}
-use Rattle.std.specs.List.{AllByRecursion, list_any}
+use Rattle.std.proofs.Common.{◌≡◌, ◌∙◌, ℕ, List, [], ◌∷◌, ◌++◌, map, length, Bool, true, false, not, cond, Option, Some, None, refl, sym, ap, ap₂}
+use Rattle.std.proofs.Common.{subst, subst₂, filter, filter_map, inl, inr, ◌≤◌}
+use Rattle.std.specs.Option.{option_eq}
+use Rattle.std.specs.Prelude.{option_and_then, option_map, IsSomeAnd}
+use Rattle.std.specs.List.{AllByRecursion}
 use Rattle.std.specs.Ordering.{is_eq}
 use Rattle.std.proofs.lemmas.Bool.{or_left, or_right, or_cases}
 use Rattle.bmc_base.specs.Places.{Place, place_eq, place_cmp}
-use Rattle.fru_area.specs.declared.field.Field.{Field}
 use Rattle.probe_lang.specs.Presents.{without_entry, is_entry_at, are_by_place}
 use Rattle.probe_lang.specs.Sights.{Sight, entry_sight}
 use Rattle.probe_lang.specs.declared.rows.Entry.{Entry}
@@ -16,40 +15,40 @@ use Rattle.cfg_json.specs.declared.item.Item.{Item}
 use Rattle.fru_rows.specs.Idle.{busy}
 use Rattle.found_set.specs.Found.{is_found, is_reached}
 use Rattle.inventory.specs.Boards.{boards_in, board_places, has_board, rules_of}
-use Rattle.inventory.specs.Differences.{Moment, IsMarkedBy, boards_at, keys_left}
+use Rattle.inventory.specs.Differences.{Moment, keys_left, places_of}
+use Rattle.inventory.specs.Follows.{kept_with, AreKeysAscending, Follows}
 use Rattle.inventory.specs.Indexes.{kept_of, except, with_board, with_boards}
-use Rattle.inventory.specs.Inventories.{moment_keys, kept_then}
-use Rattle.inventory.specs.Items.{entry_fields, items, items_less, live}
+use Rattle.inventory.specs.Items.{entry_fields, is_live, items, items_less, live}
 use Rattle.inventory.specs.Limits.{limit_of, no_totals, passed_limit, totals_of, totals_after}
 use Rattle.inventory.specs.Lists.{keys_of, board_list}
 use Rattle.inventory.specs.Moments.{IsAmong, AreAscending}
-use Rattle.inventory.specs.Naming.{is_naming, naming, naming_items}
-use Rattle.inventory.specs.declared.board.Board.{Board}
+use Rattle.inventory.specs.Naming.{naming_items}
 use Rattle.inventory.specs.declared.board.BoardKey.{BoardKey}
+use Rattle.inventory.specs.declared.changed.Difference.{Difference}
 use Rattle.inventory.specs.declared.limits.Totals.{Totals}
+use Rattle.inventory.specs.declared.stock.ItemDifference.{ItemDifference}
 use Rattle.inventory.specs.declared.fault.InventoryFault.{InventoryFault}
 use Rattle.inventory.proofs.BoardLemmas.{board_itself, board_same}
 use Rattle.inventory.proofs.BoardsLemmas.{board_places_ascend}
 use Rattle.inventory.proofs.IndexesLemmas.{has_front}
 use Rattle.inventory.proofs.MergeLemmas.{entries_ascend}
-use Rattle.inventory.proofs.NamingLemmas.{naming_live, naming_same}
+use Rattle.inventory.proofs.CallersLemmas.{follows_moment, new_ascend}
+use Rattle.inventory.proofs.NamingLemmas.{naming_is_live, naming_live}
 use Rattle.inventory.proofs.TotalsLemmas.{totals_add_up}
 use Rattle.bmc_machine.specs.Refusals.{limit_refusal}
 use Rattle.bmc_machine.proofs.FewerLemmas.{boards_fewer}
 use Rattle.bmc_machine.proofs.LimitLemmas.{keys_fewer}
 use Rattle.bmc_report.specs.declared.change.Change.{Change}
-use Rattle.bmc_report.specs.declared.refusal.Refusal.{Refusal}
 use Rattle.bmc_machine.specs.Changes.{item_change}
 use Rattle.live_sensors.specs.Items.{settled}
 use Rattle.live_sensors.specs.Sensors.{LiveSensors, sensor_in}
 use Rattle.bmc_watch.specs.Settling.{AreKept, live_left, Settles}
 use Rattle.bmc_watch.specs.Changes.{IsDifference, Tells}
 use Rattle.bmc_watch.specs.Insides.{IsStocked}
-use Rattle.bmc_watch.specs.ItemSteps.{AreListed, TellsItems, items_behind}
+use Rattle.bmc_watch.specs.ItemSteps.{Continues, TellsItems}
 use Rattle.bmc_watch.specs.Watches.{WatchView, view_boards, view_items, view_keys, Moves}
-use Rattle.bmc_watch.specs.declared.changes.ItemStep.{ItemStep}
-use Rattle.bmc_watch.proofs.EventsLemmas.{IsSeen, boards_seen}
-use Rattle.bmc_watch.proofs.ItemsLemmas.{items_apart}
+use Rattle.bmc_watch.proofs.EventsLemmas.{IsSeen}
+use Rattle.bmc_watch.proofs.ItemsLemmas.{fields_apart}
 use Rattle.bmc_watch.proofs.KeysLemmas.{keeps, moves}
 
 -- ---- boards that are kept
@@ -126,75 +125,72 @@ module _ (configs : List Config) (entries : List Entry) (kept kept_now : List (L
       subst (λ (kept : List (Option Place)). has_board kept place ≡ true) (sym (kept_is number))
       (new_have (kept_of kept number) (boards_of configs entries number) place has)
 
-  -- what is listed of a moment is listed of these FRUs
-  pub listed_then : (moment : Moment) (list : List Item) → IsSeen configs entries moment
-      → ((found reach : ℕ → Bool) → IsMarkedBy moment.facts found reach
-      → list ≡ naming_items configs (kept_then kept configs found reach moment) (entry_fields moment.entries) (moment_keys configs found reach moment))
-      → list ≡ naming_items configs (kept_of kept_now) (entry_fields (busy entries)) (keys_in configs entries)
-  listed_then moment list shows is =
-      is found reach shows.marked
-      ∙ ap₂ (λ (kept boards : ℕ → List (Option Place)). naming_items configs kept (entry_fields moment.entries) (keys_of (length configs) boards)) kept_same same
-      ∙ ap (λ (entries_then : List Entry). naming_items configs (kept_of kept_now) (entry_fields entries_then) (keys_in configs entries)) shows.works
-    where
-      found : ℕ → Bool
-      found = is_found (rules_of configs) (map entry_sight (busy entries))
-
-      reach : ℕ → Bool
-      reach = is_reached (rules_of configs) (map entry_sight (busy entries))
-
-      same : boards_at configs found reach moment ≡ boards_of configs entries
-      same = boards_seen configs entries moment shows
-
-      kept_same : kept_then kept configs found reach moment ≡ kept_of kept_now
-      kept_same = λ i number. at number i
-        where
-          at : (number : ℕ) → kept_then kept configs found reach moment number ≡ kept_of kept_now number
-          at number = ap (with_boards (kept_of kept number)) (λ i. same i number) ∙ sym (kept_is number)
-
--- ---- the items of a step by which one FRU comes or goes
+-- ---- the items of a step
 
 -- boards ascend
-pub boards_ascend : (configs : List Config) (entries : List Entry) → are_by_place entries ≡ true → (number : ℕ) → AreAscending (boards_of configs entries number)
+pub boards_ascend : (configs : List Config) (entries : List Entry) → are_by_place entries ≡ true → (number : ℕ)
+    → AreAscending (boards_of configs entries number)
 unfolding boards_in
 boards_ascend configs entries order number =
     board_places_ascend configs (is_found (rules_of configs) (map entry_sight entries)) (is_reached (rules_of configs) (map entry_sight entries))
     (map entry_sight entries) number (entries_ascend entries order)
 
--- the naming boards stay as they are where none goes or comes
-module _ (configs : List Config) (kept kept_now : List (List (Option Place))) (entries entries_now : List Entry) (gone new : List BoardKey)
+-- what the naming boards of these FRUs expose, where boards that come are kept behind the others
+abbrev pub items_with : List Config → List (List (Option Place)) → List BoardKey → List Entry → List Item
+items_with configs kept new entries = naming_items configs (kept_with kept new) (entry_fields (busy entries)) (keys_in configs entries)
+
+-- From these FRUs to those, and from the first of these configurations to all: the items behind the step follow those before it.
+module _ (configs all : List Config) (kept : List (List (Option Place))) (entries entries_now : List Entry) (difference : Difference)
     (order : are_by_place entries ≡ true) (order_now : are_by_place entries_now ≡ true)
-    (differs : IsDifference (length configs) (length configs) (boards_of configs entries) (boards_of configs entries_now) gone new)
-    (keep : (number : ℕ) → kept_of kept_now number
-    ≡ with_boards (kept_of kept number) (except (has_board (boards_of configs entries number)) (boards_of configs entries_now number))) where
-  naming_stays : list_any (is_naming configs) gone ≡ false → list_any (is_naming configs) new ≡ false
-      → naming configs (board_list (kept_of kept_now) (keys_in configs entries_now)) ≡ naming configs (board_list (kept_of kept) (keys_in configs entries))
-  naming_stays none_gone none_new =
-      naming_same configs (length configs) (kept_of kept) (kept_of kept_now) (boards_of configs entries) (boards_of configs entries_now)
-      (boards_ascend configs entries order) (boards_ascend configs entries_now order_now)
-      (ap (list_any (is_naming configs)) (sym differs.those_gone) ∙ none_gone) (ap (list_any (is_naming configs)) (sym differs.those_new) ∙ none_new) keep
+    (gone_is : difference.gone_boards ≡ keys_left (length all) (boards_of configs entries) (boards_of all entries_now))
+    (new_is : difference.new_boards ≡ keys_left (length all) (boards_of all entries_now) (boards_of configs entries))
+    (holds : (number : ℕ) (place : Option Place) → has_board (boards_of configs entries number) place ≡ true → has_board (kept_of kept number) place ≡ true)
+    (alike : (number : ℕ) (place : Option Place) → has_board (boards_of configs entries number) place ≡ true
+    → has_board (boards_of all entries_now number) place ≡ true
+    → option_and_then (entry_fields (busy entries)) place ≡ option_and_then (entry_fields (busy entries_now)) place)
+    (before : List Item) (was : before ≡ naming_items all (kept_of kept) (entry_fields (busy entries)) (keys_of (length all) (boards_of configs entries)))
+    (moment : Moment) (works : moment.entries ≡ busy entries_now) where
+  pub continues : Continues all kept difference moment before (items_with all kept difference.new_boards entries_now)
+  continues = record {
+    order = subst AreKeysAscending (sym new_is)
+        (new_ascend all (length all) kept (boards_of configs entries) (boards_of all entries_now) (entry_fields (busy entries))
+        (entry_fields (busy entries_now)) (boards_ascend configs entries order) (boards_ascend all entries_now order_now) holds alike);
+    follows = subst₂ (λ (gone new : List BoardKey). Follows gone new before (naming_items all (kept_with kept new) (entry_fields moment.entries) new)
+        (items_with all kept new entries_now)) (sym gone_is) (sym new_is)
+        (subst₂ (λ (there : List Entry) (first : List Item). Follows goes comes first (naming_items all (kept_with kept comes) (entry_fields there) comes)
+        (items_with all kept comes entries_now)) (sym works) (sym was)
+        (follows_moment all (length all) kept (boards_of configs entries) (boards_of all entries_now) (entry_fields (busy entries))
+        (entry_fields (busy entries_now)) (boards_ascend configs entries order) (boards_ascend all entries_now order_now) holds alike));
+  }
+    where
+      goes : List BoardKey
+      goes = keys_left (length all) (boards_of configs entries) (boards_of all entries_now)
 
-  -- where a FRU comes
-  module _ (before : List Item) (was : before ≡ naming_items configs (kept_of kept) (entry_fields (busy entries)) (keys_in configs entries))
-      (all : (number : ℕ) (place : Option Place) → has_board (boards_of configs entries number) place ≡ true → has_board (kept_of kept number) place ≡ true)
-      (moment : Moment) (shows : IsSeen configs entries_now moment) where
-    pub items_plugged : (entry : Entry) → IsAmong entry (busy entries) (busy entries_now)
-        → AllByRecursion (λ (each : Entry). is_entry_at each.place entry ≡ false) (busy entries)
-        → (listed : Option (List Item)) → AreListed configs kept gone new moment listed
-        → items_behind listed before ≡ naming_items configs (kept_of kept_now) (entry_fields (busy entries_now)) (keys_in configs entries_now)
-    items_plugged entry among apart (Some list) are = listed_then configs entries_now kept kept_now (boards_of configs entries) all keep moment list shows are
-    items_plugged entry among apart None are =
-        was ∙ sym (items_apart configs (kept_of kept) (length configs) entry entries entries_now among apart (λ (board : Board). is_naming configs board.key))
-        ∙ ap (items configs (entry_fields (busy entries_now))) (sym (naming_stays are.0 are.1))
+      comes : List BoardKey
+      comes = keys_left (length all) (boards_of all entries_now) (boards_of configs entries)
 
-    -- where a FRU goes
-    pub items_unplugged : (entry : Entry) → IsAmong entry (busy entries_now) (busy entries)
-        → AllByRecursion (λ (each : Entry). is_entry_at each.place entry ≡ false) (busy entries_now)
-        → (listed : Option (List Item)) → AreListed configs kept gone new moment listed
-        → items_behind listed before ≡ naming_items configs (kept_of kept_now) (entry_fields (busy entries_now)) (keys_in configs entries_now)
-    items_unplugged entry among apart (Some list) are = listed_then configs entries_now kept kept_now (boards_of configs entries) all keep moment list shows are
-    items_unplugged entry among apart None are =
-        was ∙ ap (items configs (entry_fields (busy entries))) (sym (naming_stays are.0 are.1))
-        ∙ items_apart configs (kept_of kept_now) (length configs) entry entries_now entries among apart (λ (board : Board). is_naming configs board.key)
+-- Where no configuration comes.
+module _ (configs : List Config) (kept : List (List (Option Place))) (entries entries_now : List Entry) (difference : Difference)
+    (order : are_by_place entries ≡ true) (order_now : are_by_place entries_now ≡ true)
+    (differs : IsDifference (length configs) (length configs) (boards_of configs entries) (boards_of configs entries_now)
+    difference.gone_boards difference.new_boards)
+    (totals : Totals) (before : List Item) (stocked : IsStocked configs entries kept totals before) (moment : Moment)
+    (shows : IsSeen configs entries_now moment)
+    (entry : Entry) where
+  -- a FRU comes
+  pub plug_continues : IsAmong entry (busy entries) (busy entries_now) → AllByRecursion (λ (each : Entry). is_entry_at each.place entry ≡ false) (busy entries)
+      → Continues configs kept difference moment before (items_with configs kept difference.new_boards entries_now)
+  plug_continues among apart =
+      continues configs configs kept entries entries_now difference order order_now differs.those_gone differs.those_new stocked.holds
+      (λ number place has now. sym (fields_apart configs entry entries entries_now among apart number place has)) before stocked.items moment shows.works
+
+  -- a FRU goes
+  pub unplug_continues : IsAmong entry (busy entries_now) (busy entries)
+      → AllByRecursion (λ (each : Entry). is_entry_at each.place entry ≡ false) (busy entries_now)
+      → Continues configs kept difference moment before (items_with configs kept difference.new_boards entries_now)
+  unplug_continues among apart =
+      continues configs configs kept entries entries_now difference order order_now differs.those_gone differs.those_new stocked.holds
+      (λ number place has now. fields_apart configs entry entries_now entries among apart number place now) before stocked.items moment shows.works
 
 -- the totals are those of the boards that are there then
 pub counted_then : (configs : List Config) (entries entries_now : List Entry) (gone new : List BoardKey) (totals totals_now : Totals)
@@ -216,6 +212,20 @@ pub live_all : (view : WatchView) (totals : Totals) (inventory : List Item) → 
 live_all view totals inventory stocked =
     ap live stocked.items ∙ naming_live view.configs (entry_fields (busy view.entries)) (board_list (kept_of view.kept) (view_keys view))
 
+-- an item is live among what the naming boards expose where it is so among all
+pub lives : (view : WatchView) (totals : Totals) (inventory : List Item) → IsStocked view.configs view.entries view.kept totals inventory
+    → (item : Item) → is_live inventory item ≡ is_live (view_items view) item
+lives view totals inventory stocked item =
+    ap (λ (items : List Item). is_live items item) stocked.items
+    ∙ naming_is_live view.configs (entry_fields (busy view.entries)) (board_list (kept_of view.kept) (view_keys view)) item
+
+-- so the live items are those of the naming boards that are live among all
+pub live_shown : (view : WatchView) (totals : Totals) (inventory : List Item) → IsStocked view.configs view.entries view.kept totals inventory
+    → filter (is_live (view_items view)) inventory ≡ live (view_items view)
+unfolding live
+live_shown view totals inventory stocked =
+    sym (λ i. filter (λ item. lives view totals inventory stocked item i) inventory) ∙ live_all view totals inventory stocked
+
 -- a state after what was staged is taken over
 pub record IsNext (old new : WatchView) (totals : Totals) (inventory gone fresh : List Item) : Type 0 where
   pub moves : Moves old new
@@ -224,31 +234,57 @@ pub record IsNext (old new : WatchView) (totals : Totals) (inventory gone fresh 
   pub comes : fresh ≡ live_left new old
 
 pub taken_over : (old new : WatchView) (more : List Config) (gone fresh : List BoardKey) (kept kept_now : List (List (Option Place))) (told : List Change)
-    (totals totals_now : Totals) (before : List Item) (step : ItemStep) → new.configs ≡ old.configs ++ more
+    (totals totals_now : Totals) (before next : List Item) (items : ItemDifference) → new.configs ≡ old.configs ++ more
     → IsStocked old.configs old.entries old.kept totals before
     → IsDifference (length old.configs) (length new.configs) (view_boards old) (view_boards new) gone fresh
     → ((number : ℕ) → kept_of kept number ≡ kept_of old.kept number) → Tells new.configs gone fresh kept kept_now told → new.kept ≡ kept_now
     → totals_now ≡ totals_of new.configs (view_keys new) → limit_of totals_now ≡ None
-    → items_behind step.inventory before ≡ naming_items new.configs (kept_of new.kept) (entry_fields (busy new.entries)) (view_keys new)
-    → TellsItems before step → new.changes ≡ told ++ filter_map (item_change true) step.gone ++ filter_map (item_change false) step.new
-    → IsNext old new totals_now (items_behind step.inventory before) step.gone step.new
-taken_over old new more gone fresh kept kept_now told totals totals_now before step configs was differs same tells kept_are counted fits is tells_items changes =
+    → next ≡ items_with new.configs old.kept fresh new.entries → TellsItems before items next
+    → new.changes ≡ told ++ filter_map (item_change true) items.gone ++ filter_map (item_change false) items.new
+    → IsNext old new totals_now next items.gone items.new
+taken_over old new more gone fresh kept kept_now told totals totals_now before next items configs was differs same tells kept_are counted fits is tells_items
+    changes =
     let keep = keeps old new gone fresh kept kept_now told differs same tells kept_are in
-    let stocked : IsStocked new.configs new.entries new.kept totals_now (items_behind step.inventory before) = record {
+    let stocked : IsStocked new.configs new.entries new.kept totals_now next = record {
       counted = counted;
-      items = is;
+      items = is ∙ ap (λ (kept : ℕ → List (Option Place)). naming_items new.configs kept (entry_fields (busy new.entries)) (view_keys new)) kept_same;
       holds = holds_then new.configs new.entries old.kept new.kept (view_boards old) was.holds keep;
       fits = fits;
     } in
     let live_before = live_all old totals before was in
-    let live_now = live_all new totals_now (items_behind step.inventory before) stocked in
+    let live_now = live_all new totals_now next stocked in
     record {
-      moves = moves old new more gone fresh kept kept_now told before (items_behind step.inventory before) step.gone step.new configs differs same tells
-          kept_are live_before live_now tells_items.gone_are tells_items.new_are changes;
+      moves = moves old new more gone fresh kept kept_now told before next items.gone items.new configs differs same tells kept_are live_before live_now
+          tells_items.gone_are tells_items.new_are changes;
       stocked = stocked;
       goes = tells_items.gone_are ∙ ap₂ items_less live_before live_now;
       comes = tells_items.new_are ∙ ap₂ items_less live_now live_before;
     }
+  where
+    kept_at : (number : ℕ) → kept_with old.kept fresh number ≡ kept_of new.kept number
+    kept_at number =
+        ap (λ (kept : List (Option Place)). with_boards kept (places_of number fresh)) (sym (same number)) ∙ sym (tells.all_kept number)
+        ∙ ap (λ (kept : List (List (Option Place))). kept_of kept number) (sym kept_are)
+
+    kept_same : kept_with old.kept fresh ≡ kept_of new.kept
+    kept_same = λ i number. kept_at number i
+
+-- the items that are told are those of what was staged
+pub told_of : (before : List Item) (items : ItemDifference) (staged : Option (List Item)) (next : List Item) → staged ≡ Some next
+    → IsSomeAnd staged (TellsItems before items) → TellsItems before items next
+told_of before items staged next is tells = subst (λ (staged : Option (List Item)). IsSomeAnd staged (TellsItems before items)) is tells
+
+pub told_by : (before : List Item) (items : ItemDifference) (staged : Option (List Item)) (next : List Item) → staged ≡ Some next
+    → IsSomeAnd staged (λ next. items.gone ≡ items_less (live before) (live next))
+    → IsSomeAnd staged (λ next. items.new ≡ items_less (live next) (live before)) → TellsItems before items next
+told_by before items staged next is gone new = record {
+  gone_are = subst (λ (staged : Option (List Item)). IsSomeAnd staged (λ next. items.gone ≡ items_less (live before) (live next))) is gone;
+  new_are = subst (λ (staged : Option (List Item)). IsSomeAnd staged (λ next. items.new ≡ items_less (live next) (live before))) is new;
+}
+
+-- what was staged is there
+pub stock_is : (staged : Option (List Item)) (next now : List Item) → staged ≡ Some next → staged ≡ Some now → now ≡ next
+stock_is staged next now is taken = cc
 
 -- the sensors are settled as the live items go and come
 pub settles : (old new : WatchView) (gone fresh : List Item) (before staged now : LiveSensors) → gone ≡ live_left old new → fresh ≡ live_left new old
@@ -259,7 +295,8 @@ settles old new gone fresh before staged now goes comes kept follow =
 -- ---- limits
 
 -- the limit that the totals pass is the refusal
-pub limit_named : (configs : List Config) (entries : List Entry) (totals : Totals) (fault : InventoryFault) → totals ≡ totals_of configs (keys_in configs entries)
+pub limit_named : (configs : List Config) (entries : List Entry) (totals : Totals) (fault : InventoryFault)
+    → totals ≡ totals_of configs (keys_in configs entries)
     → limit_of totals ≡ Some fault → option_map limit_refusal (passed_limit configs (keys_in configs entries)) ≡ Some (limit_refusal fault)
 unfolding passed_limit
 limit_named configs entries totals fault is passed = ap (option_map limit_refusal) (ap limit_of (sym is) ∙ passed)
@@ -309,7 +346,8 @@ pub stocked_kept : (configs : List Config) (entries : List Entry) (kept kept_now
 stocked_kept configs entries kept kept_now totals inventory same stocked = record {
   counted = stocked.counted;
   items = stocked.items
-      ∙ ap (λ (kept : ℕ → List (Option Place)). naming_items configs kept (entry_fields (busy entries)) (keys_in configs entries)) (λ i number. sym (same number) i);
+      ∙ ap (λ (kept : ℕ → List (Option Place)). naming_items configs kept (entry_fields (busy entries)) (keys_in configs entries))
+      (λ i number. sym (same number) i);
   holds = λ number place has. subst (λ (kept : List (Option Place)). has_board kept place ≡ true) (sym (same number)) (stocked.holds number place has);
   fits = stocked.fits;
 }

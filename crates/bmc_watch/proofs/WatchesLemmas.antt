@@ -154,7 +154,8 @@ kept_after old new past step legal before held after moves number =
 
 -- an accepted step joins the history, and the changes are its own
 pub accepted : (old new : WatchView) (past : List Step) (step : Step) → WatchStands old past → refusal_after past step ≡ None → IsLegalStep past step
-    → IsNoOutcome step → new.configs ≡ (standing (step ∷ past)).configs → new.entries ≡ map (fru_entry (standing (step ∷ past)).configs) (standing (step ∷ past)).frus
+    → IsNoOutcome step → new.configs ≡ (standing (step ∷ past)).configs
+    → new.entries ≡ map (fru_entry (standing (step ∷ past)).configs) (standing (step ∷ past)).frus
     → new.plugged ≡ (standing (step ∷ past)).plugged → Moves old new → Accepts past step new
 unfolding IsLegal
 accepted old new past step stood reason legal watched configs entries plugged moves =

@@ -44,5 +44,5 @@ pub record IsSound {L : Type 0} (a : Inside L) : Type 0 where
   pub rules : a.set.rules ≡ rules_of a.shelf
   pub rows : a.set.rows ≡ map row_of (busy a.rows.entries)
   pub none : (a.plugged || (length a.rows.entries == 0)) ≡ true
-  pub stock : IsStocked a.shelf a.rows.entries a.keep.kept a.totals a.inventory
+  pub stock : IsStocked a.shelf a.rows.entries a.keep.kept a.totals a.stock.items
   pub room : most_changes ≤ vec_capacity a.changes

@@ -5,3 +5,4 @@ pub mod Settling
 pub mod Readings
 pub mod Insides
 pub mod ItemSteps
+pub mod Counting

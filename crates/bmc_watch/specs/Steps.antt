@@ -5,7 +5,7 @@ use Rattle.fru_area.specs.declared.field.Field.{Field}
 use Rattle.probe_lang.specs.Presents.{with_entry, without_entry}
 use Rattle.match_rows.specs.Matching.{entry_of}
 use Rattle.bmc_report.specs.declared.refusal.Refusal.{Refusal}
-use Rattle.bmc_machine.specs.Histories.{Step, standing}
+use Rattle.bmc_machine.specs.Histories.{Step}
 use Rattle.bmc_machine.specs.Refusals.{refusal_after}
 use Rattle.bmc_machine.specs.Changes.{changes}
 use Rattle.bmc_machine.specs.Answers.{past_refused}

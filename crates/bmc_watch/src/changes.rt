@@ -1,12 +1,12 @@
 ghost use Rattle.std.specs.Prelude.{◌≡◌, ◌+◌, ◌≤◌, ◌++◌, ℕ, List, true, false, length, map, filter_map, option_to_list};
-ghost use Rattle.std.specs.Prelude.{Some, IfOk, OnOk, IfSome, IsSomeAnd, vec_capacity, vec_len};
-ghost use Rattle.std.specs.Option.{unwrap_or};
+ghost use Rattle.std.specs.Prelude.{⊤, Some, IfOk, OnOk, IfSome, IsSomeAnd, vec_capacity, vec_len};
 ghost use Rattle.cfg_json.specs.Configs.{fixed_of};
 ghost use Rattle.inventory.specs.Indexes.{kept_of};
 ghost use Rattle.inventory.specs.Limits.{totals_after, GivesTotals};
 ghost use Rattle.bmc_machine.specs.Changes.{board_change, item_change};
 ghost use Rattle.bmc_watch.specs.Changes.{HasRoomFor, AreWithin, Tells};
-ghost use Rattle.bmc_watch.specs.ItemSteps.{AreListed, TellsItems};
+ghost use Rattle.bmc_watch.specs.ItemSteps.{Continues, TellsItems};
+ghost use Rattle.cfg_json.specs.declared.item.Item.{Item as ItemView};
 ghost use Rattle.inventory.specs.Items.{IsValidItem};
 ghost use Rattle.std.specs.List.{All};
 ghost use Rattle.live_sensors.specs.Items.{settled};
@@ -16,8 +16,8 @@ use bmc_base::{Bytes, Ledger, OutOfMemory};
 use bmc_report::{Change, LiveKind};
 use cfg_json::{Body, Config, Item, ItemPart, Shelf};
 use inventory::{
-    BoardKey, BoardKeys, Difference, IndexKeep, Inventory, InventoryFault, ItemList, Moment,
-    Totals, changes_items,
+    BoardKey, BoardKeys, Difference, IndexKeep, InventoryFault, ItemDifference, Moment, Stock,
+    Totals,
 };
 use live_sensors::LiveSensors;
 use std::alloc::Global;
@@ -38,58 +38,27 @@ pub(crate) fn fixed_channels<L: Ledger>(
     Ok(Bytes::from(fixed))
 }
 
-// What a step makes of the items: the inventory behind it, where it is listed anew, and the live items that go and those
-// that come.
-#[derive(Drop)]
-pub(crate) struct ItemStep {
-    pub(crate) inventory: Option<Inventory>,
-    pub(crate) gone: ItemList,
-    pub(crate) new: ItemList,
-}
-
-// Compares the live items with those of an inventory that is listed anew.
-pub(crate) fn compare_items(
-    alloc: Global,
-    before: &Inventory,
-    after: Inventory,
-) -> Result<ItemStep, OutOfMemory>
-    ensures listed { IfOk result (λ step. step.inventory ≡ Some after) }
-    ensures tells { IfOk result (TellsItems before.now) }
-    ensures valid { IfOk result (λ step. All IsValidItem step.new) }
-{
-    Ok(ItemStep {
-        gone: before.less(alloc, &after)?,
-        new: after.less(alloc, before)?,
-        inventory: Some(after),
-    })
-}
-
-// Finds what a step makes of the items, where no configuration comes. They are listed anew only where a naming board goes
-// or comes.
-pub(crate) fn step_items<'s, L: Ledger>(
+// Stages what becomes of the items where no configuration comes, and returns the live items that go and those that come.
+pub(crate) fn stage_items<'s, L: Ledger>(
     alloc: Global,
     shelf: &'s Shelf<L>,
     keep: &IndexKeep,
-    before: &Inventory,
     difference: &Difference,
     after: &Moment<'_>,
-) -> Result<ItemStep, OutOfMemory>
-    ensures listed { IfOk result (λ step. AreListed shelf.now keep.now.kept difference.now.gone_boards difference.now.new_boards after.now step.inventory) }
-    ensures tells { IfOk result (TellsItems before.now) }
-    ensures valid { IfOk result (λ step. All IsValidItem step.new) }
+    stock: &mut Stock,
+) -> Result<ItemDifference, OutOfMemory>
+    requires { (next : List ItemView) × Continues shelf.now keep.now.kept difference.now after.now stock.old.items next }
+    ensures items { stock.new.items ≡ stock.old.items }
+    ensures staged { (next : List ItemView) → Continues shelf.now keep.now.kept difference.now after.now stock.old.items next
+        → OnOk result (stock.new.staged ≡ Some next) }
+    ensures ready { OnOk result (IsSomeAnd stock.new.staged (λ _. ⊤)) }
+    ensures tells { IfOk result (λ items. IsSomeAnd stock.new.staged (TellsItems stock.old.items items)) }
+    ensures valid { IfOk result (λ items. All IsValidItem items.new) }
 {
     // a shelf has few configurations, which is said with their count
     let _count = shelf.len();
     let none: Option<&'s Config<L>> = None;
-    if !changes_items(shelf, none, difference) {
-        return Ok(ItemStep {
-            inventory: None,
-            gone: ItemList::new(alloc),
-            new: ItemList::new(alloc),
-        });
-    }
-    let inventory = Inventory::list(alloc, shelf, none, keep, after)?;
-    compare_items(alloc, before, inventory)
+    stock.prepare(alloc, shelf, none, keep, difference, after)
 }
 
 // Counts the boards where some go and others come and no configuration does, or names the first limit that they pass.
@@ -104,26 +73,12 @@ pub(crate) fn count_boards<'s, L: Ledger>(
     totals.after(shelf, none, difference)
 }
 
-// Takes over the inventory that was listed anew, if one was.
-pub(crate) fn take_items(step: ItemStep, inventory: &mut Inventory)
-    ensures { inventory.new ≡ unwrap_or step.inventory inventory.old }
-{
-    let ItemStep {
-        inventory: listed,
-        gone: _gone,
-        new: _new,
-    } = step;
-    if let Some(listed) = listed {
-        *inventory = listed;
-    }
-}
-
 // Stages the boards that are new, makes room for the changes and for the sensors that are new, and returns the boards that
 // go. Nothing is taken over yet.
 pub(crate) fn stage_changes(
     alloc: Global,
     difference: Difference,
-    items: &ItemStep,
+    items: &ItemDifference,
     keep: &mut IndexKeep,
     sensors: &mut LiveSensors,
     changes: &mut Vec<Change>,
@@ -238,7 +193,7 @@ fn append_items(gone: bool, items: &[Item], changes: &mut Vec<Change>)
 }
 
 // Lists the changes of live items behind those of boards: the ones that are gone, and then those that are new.
-pub(crate) fn tell_items(items: &ItemStep, changes: &mut Vec<Change>)
+pub(crate) fn tell_items(items: &ItemDifference, changes: &mut Vec<Change>)
     requires { vec_len changes.old + length items.now.gone + length items.now.new ≤ vec_capacity changes.old }
     ensures items { changes.new.items ≡ changes.old.items ++ filter_map (item_change true) items.now.gone
         ++ filter_map (item_change false) items.now.new }
@@ -249,7 +204,7 @@ pub(crate) fn tell_items(items: &ItemStep, changes: &mut Vec<Change>)
 }
 
 // Drops the sensors of live items that are gone, and starts those of live items that are new. There is room for them.
-pub(crate) fn settle_sensors(items: &ItemStep, sensors: &mut LiveSensors)
+pub(crate) fn settle_sensors(items: &ItemDifference, sensors: &mut LiveSensors)
     requires room { length items.now.new ≤ sensors.old.room }
     requires valid { All IsValidItem items.now.new }
     ensures { (name : List ℕ) → sensor_in sensors.new name ≡ settled items.now.gone items.now.new name (sensor_in sensors.old name) }

@@ -1,10 +1,15 @@
-ghost use Rattle.std.specs.Prelude.{◌≡◌, [], false, find, IfOk, OnOk, OnErr, IsSomeAnd, Some};
+ghost use Rattle.std.specs.Prelude.{◌≡◌, ◌<◌, ◌++◌, ◌∷◌, [], false, filter, find, length, IfOk, OnOk, OnErr, IsSomeAnd, None, Some};
+ghost use Rattle.std.specs.Result.{is_err};
+ghost use Rattle.bmc_base.specs.Steps.{IsWithin};
 ghost use Rattle.bmc_machine.specs.Histories as histories;
 ghost use Rattle.bmc_watch.specs.Watches.{no_view, view_items, view_list, IsSame};
+ghost use Rattle.cfg_json.specs.Shelves.{most_configs, number_of};
 ghost use Rattle.fru_rows.specs.Idle.{busy};
-ghost use Rattle.inventory.specs.Items.{entry_fields, board_items, live};
+ghost use Rattle.inventory.specs.Items.{entry_fields, board_items, is_live, live};
+ghost use Rattle.inventory.specs.Shown.{items_of};
 ghost use Rattle.probe_lang.specs.Presents.{holds_place, is_entry_at};
-ghost use Rattle.match_rows.specs.Matching.{entry_of};
+ghost use Rattle.match_rows.specs.Matching.{entry_of, pattern_count};
+ghost use Rattle.bmc_watch.specs.Counting.{most_evals, Tests, TestsPlug};
 ghost use Rattle.fru_rows.specs.Idle.{is_idle};
 ghost use Rattle.bmc_watch.specs.Steps.{AddsUnless, RemovesFru, Tries};
 ghost use Rattle.bmc_watch.specs.Settling.{AreKept, Settles, SettlesUnless};
@@ -13,8 +18,8 @@ ghost use Rattle.bmc_machine.specs.Changes.{sensor_changes};
 ghost use Rattle.sensor_core.specs.Sensors.{Sensor as SensorView};
 
 use crate::changes::{
-    compare_items, count_boards, fixed_channels, settle_sensors, stage_changes, step_items,
-    take_items, tell_changes, tell_items,
+    count_boards, fixed_channels, settle_sensors, stage_changes, stage_items, tell_changes,
+    tell_items,
 };
 use crate::listing::{list_board, list_boards};
 use crate::readings::{Glimpse, append_reading};
@@ -25,7 +30,7 @@ use cfg_json::{Config, Item, MOST_CONFIGS, Shelf};
 use found_set::FoundSet;
 use fru_record::FruRecord;
 use fru_rows::{Entries, FruRows, is_idle};
-use inventory::{Board, IndexKeep, Inventory, Live, Moment, Totals, difference, difference_by};
+use inventory::{Board, IndexKeep, Moment, Shown, Stock, Totals, difference, difference_by};
 use live_sensors::LiveSensors;
 use match_rows::make;
 use probe_lang::Entry;
@@ -49,7 +54,7 @@ pub struct Watch<L: Ledger> {
     set: FoundSet<L>,
     keep: IndexKeep,
     totals: Totals,
-    inventory: Inventory,
+    stock: Stock,
     plugged: bool,
     changes: Vec<Change>,
 }
@@ -74,7 +79,7 @@ impl<L: Ledger> Watch<L> {
         let rows = FruRows::new(alloc)?;
         let set = FoundSet::new(alloc)?;
         let keep = IndexKeep::new(alloc)?;
-        let inventory = Inventory::new(alloc)?;
+        let stock = Stock::new(alloc)?;
         let changes = Vec::with_capacity(alloc, MOST_CHANGES)?;
         Ok(Watch {
             shelf,
@@ -82,7 +87,7 @@ impl<L: Ledger> Watch<L> {
             set,
             keep,
             totals: Totals::none(),
-            inventory,
+            stock,
             plugged: false,
             changes,
         })
@@ -116,11 +121,18 @@ impl<L: Ledger> Watch<L> {
         &self.keep
     }
 
-    /// Returns the live items, by board and expose.
-    pub fn live(&self) -> Live<'_>
-        ensures { result ≡ live (view_items self.now) }
+    /// Borrows the boards that have items with names in a family, with their items. All live items are among them.
+    pub fn shown(&self) -> &[Shown]
+        ensures { filter (is_live (view_items self.now)) (items_of result.now) ≡ live (view_items self.now) }
     {
-        self.inventory.live()
+        self.stock.boards()
+    }
+
+    /// Whether an item is live. Its name is looked up once.
+    pub fn is_live(&self, item: &Item) -> bool
+        ensures { result ≡ is_live (view_items self.now) item.now }
+    {
+        self.stock.is_live(item)
     }
 
     /// Lists the boards, by configuration and place.
@@ -174,6 +186,7 @@ impl<L: Ledger> Watch<L> {
         ensures tried { IfOk result (λ refusal. Tries self.old (histories.Configure config) refusal self.new
             × SettlesUnless refusal self.old self.new sensors.old sensors.new) }
         ensures same { OnErr result (IsSame self.old self.new × AreKept sensors.old sensors.new) }
+        ensures counted { IsWithin steps.old steps.new (most_evals (self.old.configs ++ config ∷ [])) }
     {
         if self.plugged {
             return Ok(self.refuse(Refusal::ConfigAfterPlug));
@@ -184,6 +197,25 @@ impl<L: Ledger> Watch<L> {
         if self.shelf.len() >= MOST_CONFIGS {
             return Ok(self.refuse(Refusal::ConfigLimit));
         }
+        self.add_config(alloc, config, sensors, steps)
+    }
+
+    // Adds a configuration, or returns the refusal by the limit that its boards would pass.
+    fn add_config(
+        &mut self,
+        alloc: Global,
+        config: Config<L>,
+        sensors: &mut LiveSensors,
+        steps: &mut Steps<L>,
+    ) -> Result<Option<Refusal>, OutOfMemory>
+        requires never { self.old.plugged ≡ false }
+        requires new { number_of self.old.configs config.name ≡ None }
+        requires few { length self.old.configs < most_configs }
+        ensures tried { IfOk result (λ refusal. Tries self.old (histories.Configure config) refusal self.new
+            × SettlesUnless refusal self.old self.new sensors.old sensors.new) }
+        ensures same { OnErr result (IsSame self.old self.new × AreKept sensors.old sensors.new) }
+        ensures counted { IsWithin steps.old steps.new (most_evals (self.old.configs ++ config ∷ [])) }
+    {
         let fixed = fixed_channels(alloc, &config)?;
         let next = self.set.prepare_config(
             alloc,
@@ -200,8 +232,14 @@ impl<L: Ledger> Watch<L> {
             Ok(totals) => totals,
             Err(fault) => return Ok(self.refuse(limit_refused(fault))),
         };
-        let listed = Inventory::list(alloc, &self.shelf, Some(&config), &self.keep, &after)?;
-        let items = compare_items(alloc, &self.inventory, listed)?;
+        let items = self.stock.prepare(
+            alloc,
+            &self.shelf,
+            Some(&config),
+            &self.keep,
+            &difference,
+            &after,
+        )?;
         let gone = stage_changes(
             alloc,
             difference,
@@ -216,7 +254,7 @@ impl<L: Ledger> Watch<L> {
         tell_changes(&self.shelf, &mut self.keep, &gone, &mut self.changes);
         tell_items(&items, &mut self.changes);
         settle_sensors(&items, sensors);
-        take_items(items, &mut self.inventory);
+        self.stock.commit();
         Ok(None)
     }
 
@@ -233,6 +271,7 @@ impl<L: Ledger> Watch<L> {
         ensures tried { IfOk result (λ refusal. Tries self.old (histories.Plug place bytes.now) refusal self.new
             × SettlesUnless refusal self.old self.new sensors.old sensors.new) }
         ensures same { OnErr result (IsSame self.old self.new × AreKept sensors.old sensors.new) }
+        ensures counted { TestsPlug (is_err result) self.old place bytes.now steps.old steps.new }
     {
         if self.rows.entry(place).is_some() {
             return Ok(self.refuse(Refusal::Occupied));
@@ -264,6 +303,7 @@ impl<L: Ledger> Watch<L> {
         ensures ok { IfOk result (λ refusal. AddsUnless refusal place fru self.old self.new
             × SettlesUnless refusal self.old self.new sensors.old sensors.new) }
         ensures same { OnErr result (IsSame self.old self.new × AreKept sensors.old sensors.new) }
+        ensures counted { Tests (is_err result) (pattern_count self.old.configs) (most_evals self.old.configs) steps.old steps.new }
     {
         let made = make(alloc, place, fru, &self.shelf, steps)?;
         let boxed = Box::new(alloc, made)?;
@@ -292,6 +332,7 @@ impl<L: Ledger> Watch<L> {
         ensures ok { IfOk result (λ refusal. AddsUnless refusal boxed.value.place boxed.value.fru self.old self.new
             × SettlesUnless refusal self.old self.new sensors.old sensors.new) }
         ensures same { OnErr result (IsSame self.old self.new × AreKept sensors.old sensors.new) }
+        ensures counted { IsWithin steps.old steps.new (most_evals self.old.configs) }
     {
         self.rows.reserve(alloc)?;
         let entry: &Entry = &boxed;
@@ -304,13 +345,13 @@ impl<L: Ledger> Watch<L> {
             Ok(totals) => totals,
             Err(fault) => return Ok(self.refuse(limit_refused(fault))),
         };
-        let items = step_items(
+        let items = stage_items(
             alloc,
             &self.shelf,
             &self.keep,
-            &self.inventory,
             &difference,
             &after,
+            &mut self.stock,
         )?;
         let gone = stage_changes(
             alloc,
@@ -327,7 +368,7 @@ impl<L: Ledger> Watch<L> {
         tell_changes(&self.shelf, &mut self.keep, &gone, &mut self.changes);
         tell_items(&items, &mut self.changes);
         settle_sensors(&items, sensors);
-        take_items(items, &mut self.inventory);
+        self.stock.commit();
         Ok(None)
     }
 
@@ -343,6 +384,7 @@ impl<L: Ledger> Watch<L> {
         ensures tried { IfOk result (λ refusal. Tries self.old (histories.Unplug place) refusal self.new
             × SettlesUnless refusal self.old self.new sensors.old sensors.new) }
         ensures same { OnErr result (IsSame self.old self.new × AreKept sensors.old sensors.new) }
+        ensures counted { IsWithin steps.old steps.new (most_evals self.old.configs) }
     {
         let Some(entry) = self.rows.entry(place) else {
             return Ok(self.refuse(Refusal::NotPresent));
@@ -367,6 +409,7 @@ impl<L: Ledger> Watch<L> {
         requires { IsSomeAnd (find (is_entry_at place) self.old.entries) (λ entry. is_idle entry ≡ false) }
         ensures ok { OnOk result (RemovesFru place self.old self.new × Settles self.old self.new sensors.old sensors.new) }
         ensures same { OnErr result (IsSame self.old self.new × AreKept sensors.old sensors.new) }
+        ensures counted { IsWithin steps.old steps.new (most_evals self.old.configs) }
     {
         let Some(entry) = self.rows.entry(place) else {
             unreachable!()
@@ -381,13 +424,13 @@ impl<L: Ledger> Watch<L> {
             Ok(totals) => totals,
             Err(_) => unreachable!(),
         };
-        let items = step_items(
+        let items = stage_items(
             alloc,
             &self.shelf,
             &self.keep,
-            &self.inventory,
             &difference,
             &after,
+            &mut self.stock,
         )?;
         let gone = stage_changes(
             alloc,
@@ -403,7 +446,7 @@ impl<L: Ledger> Watch<L> {
         tell_changes(&self.shelf, &mut self.keep, &gone, &mut self.changes);
         tell_items(&items, &mut self.changes);
         settle_sensors(&items, sensors);
-        take_items(items, &mut self.inventory);
+        self.stock.commit();
         Ok(())
     }
 }

@@ -16,7 +16,6 @@ use Rattle.std.proofs.lemmas.Map.Keys.{IsDistinct-from_sorted}
 use Rattle.bmc_base.specs.Places.{Place, place_cmp}
 use Rattle.fru_area.specs.declared.field.Field.{Field}
 use Rattle.tmpl.specs.Rendering.{rendered}
-use Rattle.cfg_json.specs.Configs.{Config}
 use Rattle.cfg_json.specs.declared.expose.Expose.{Expose}
 use Rattle.cfg_json.specs.declared.item.Item.{Item}
 use Rattle.cfg_json.specs.declared.item.ItemId.{ItemId}
@@ -24,9 +23,9 @@ use Rattle.match_rows.proofs.PlacesLemmas.{place_total}
 use Rattle.inventory.specs.declared.board.Board.{Board}
 use Rattle.inventory.specs.declared.board.BoardKey.{BoardKey}
 use Rattle.inventory.specs.Differences.{key_of}
-use Rattle.inventory.specs.Lists.{keys_of, board_of, board_list}
+use Rattle.inventory.specs.Lists.{keys_of, board_of}
 use Rattle.inventory.specs.Items.{exposes_of, board_fields, part_of, rendered_item, board_items, items, id_eq, is_live, live}
-use Rattle.inventory.specs.Orders.{key_cmp, exposer, id_cmp, AreByKey, AreById, HaveOwnIds}
+use Rattle.inventory.specs.Orders.{key_cmp, exposer, id_cmp, AreById, HaveOwnIds}
 use Rattle.inventory.specs.Laws.{BoardListAscends, ItemsAscend, ItemsDiffer, LiveAscend}
 use Rattle.inventory.proofs.BoardLemmas.{and_first, and_second, board_same}
 use Rattle.inventory.proofs.BoardsLemmas.{board_cmp_eq}
@@ -41,12 +40,12 @@ key_total = then_total (on_total (λ (key : BoardKey). key.config) nat_cmp_total
 pub id_total : IsTotalOrder id_cmp
 id_total = then_total (on_total exposer key_total) (on_total (λ (id : ItemId). id.expose) nat_cmp_total)
 
-then_eq : (order next : Ordering) (one other : Bool) → is_eq order ≡ one → is_eq next ≡ other → is_eq (ordering_then order next) ≡ (one && other)
+pub then_eq : (order next : Ordering) (one other : Bool) → is_eq order ≡ one → is_eq next ≡ other → is_eq (ordering_then order next) ≡ (one && other)
 then_eq Less next one other is is_next = ap (λ (each : Bool). each && other) is
 then_eq Equal next one other is is_next = is_next ∙ ap (λ (each : Bool). each && other) is
 then_eq Greater next one other is is_next = ap (λ (each : Bool). each && other) is
 
-number_cmp_eq : (one other : ℕ) → is_eq (nat_cmp one other) ≡ (one == other)
+pub number_cmp_eq : (one other : ℕ) → is_eq (nat_cmp one other) ≡ (one == other)
 number_cmp_eq one other = grind (arith, eq-eqb, eqb-true)
 
 -- the order of ids finds them equal where they are the same
@@ -82,7 +81,7 @@ key_places_ascend number places ascend =
     (ascending_map (option_cmp place_cmp) key_cmp (key_of number)
     (λ one other less. ap (λ (order : Ordering). ordering_then order (option_cmp place_cmp one other)) (tied_itself nat_cmp_total number) ∙ less) places ascend)
 
-keys_ascend : (boards : ℕ → List (Option Place)) (count : ℕ) → ((number : ℕ) → IsStrictlySortedBy (option_cmp place_cmp) (boards number))
+pub keys_ascend : (boards : ℕ → List (Option Place)) (count : ℕ) → ((number : ℕ) → IsStrictlySortedBy (option_cmp place_cmp) (boards number))
     → IsStrictlySortedBy key_cmp (keys_of count boards)
 keys_ascend boards count each =
     subst (IsStrictlySortedBy key_cmp) (map-id (keys_of count boards))
@@ -115,7 +114,7 @@ module _ (fields_at : Place → Option (List Field)) (board : Board) where
   from position exposes = filter_map (rendered_item board (board_fields fields_at board)) (enumerate_from position exposes)
 
   -- they are of the board, and of these exposes
-  items_from : (position : ℕ) (exposes : List Expose)
+  pub items_from : (position : ℕ) (exposes : List Expose)
       → AllByRecursion (λ (item : Item). (exposer item.id ≡ board.key) × (position ≤ item.id.expose)) (from position exposes)
   items_from position [] = tt
   items_from position (expose ∷ exposes) =
@@ -129,7 +128,7 @@ module _ (fields_at : Place → Option (List Field)) (board : Board) where
       by None rest = rest
       by (Some name) rest = ((refl, omega arith), rest)
 
-  items_ascend_from : (position : ℕ) (exposes : List Expose) → AreById (from position exposes)
+  pub items_ascend_from : (position : ℕ) (exposes : List Expose) → AreById (from position exposes)
   unfolding IsStrictlySortedBy
   items_ascend_from position [] = tt
   items_ascend_from position (expose ∷ exposes) =

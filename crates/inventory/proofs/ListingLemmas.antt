@@ -1,6 +1,6 @@
 -- The boards of one moment, each with its index.
 use Rattle.std.proofs.Common.{◌≡◌, ◌∙◌, ℕ, zero, suc, ◌+◌, ◌<◌, Bool, true, false, not, cond, ◌||◌, List, [], ◌∷◌, ◌++◌, length, map, take, drop, get_or}
-use Rattle.std.proofs.Common.{Option, Some, None, option_map, slice_get, refl, sym, ap, ap₂, arith, append_assoc, length-append}
+use Rattle.std.proofs.Common.{Option, Some, None, refl, sym, ap, ap₂, arith, append_assoc, length-append}
 use Rattle.std.specs.Option.{option_eq, unwrap_or}
 use Rattle.std.specs.List.{AllByRecursion, IsDistinct, position_or_len, flat_map, range_with_len}
 use Rattle.std.proofs.Math.Bool.{or-false, or_assoc}
@@ -8,14 +8,11 @@ use Rattle.std.proofs.Math.Seq.{drop-cons}
 use Rattle.std.proofs.lemmas.Bool.{or_parts}
 use Rattle.std.proofs.lemmas.Grind.{flat_map-append}
 use Rattle.std.proofs.lemmas.List.{map-append, append-nil, take_more, take-append-drop}
-use Rattle.std.proofs.lemmas.List.Elements.{filter-append}
 use Rattle.std.proofs.lemmas.List.Folds.{list_any-append}
 use Rattle.bmc_base.specs.Places.{Place, place_eq}
 use Rattle.inventory.specs.Boards.{has_board}
 use Rattle.inventory.specs.Indexes.{with_board, with_boards, index_in, index_of}
 use Rattle.inventory.specs.Differences.{key_of}
-use Rattle.inventory.specs.Naming.{has_families, is_naming, naming}
-use Rattle.cfg_json.specs.Configs.{Config, counts_of}
 use Rattle.inventory.specs.Lists.{board_of, board_list, keys_of}
 use Rattle.inventory.specs.declared.board.BoardKey.{BoardKey}
 use Rattle.inventory.specs.declared.board.Board.{Board}
@@ -56,7 +53,7 @@ has_after kept (first ∷ places) place =
     ∙ or_assoc (has_board kept place) (option_eq place_eq place first) (has_board places place)
 
 -- a board that is kept has its index for good
-index_same : (kept places : List (Option Place)) (place : Option Place) → has_board kept place ≡ true
+pub index_same : (kept places : List (Option Place)) (place : Option Place) → has_board kept place ≡ true
     → index_in (with_boards kept places) place ≡ index_in kept place
 index_same kept [] place has = refl
 index_same kept (first ∷ places) place has = by (has_board kept first) (λ more is. index_same more places place is)
@@ -140,7 +137,7 @@ module _ (kept places : List (Option Place)) (i : ℕ) (place : Option Place) (d
       by false = omega (arith, count, length-append before (place ∷ []))
 
   -- and it has its index among all of them
-  index_given : (last : ℕ) → last ≡ length before → unwrap_or (index_of kept place) (last + 1) ≡ index_in (with_boards kept places) place
+  pub index_given : (last : ℕ) → last ≡ length before → unwrap_or (index_of kept place) (last + 1) ≡ index_in (with_boards kept places) place
   index_given last count = by (has_board kept place) refl ∙ ap (λ (more : List (Option Place)). index_in more place) (sym all)
     where
       by : (has : Bool) → has_board kept place ≡ has
@@ -200,56 +197,3 @@ config_listed kept boards number places so_far now earlier e is =
     ∙ ap (λ (back : List Board). board_list all (keys_of number boards) ++ back) (boards_alike all number (boards number))
     ∙ sym (map-append (board_of all) (keys_of number boards) (map (key_of number) (boards number)))
     ∙ ap (board_list all) (sym (keys_more number boards))
-
--- ---- the naming boards
-
--- a configuration tells whether its boards are naming
-pub config_names : (configs : List Config) (number : ℕ) (config : Config) → slice_get configs number ≡ Some config
-    → is_naming configs (key_of number None) ≡ has_families (counts_of config.exposes)
-config_names configs number config is =
-    ap (λ (found : Option Config).
-    has_families (unwrap_or (option_map (λ (config : Config). counts_of config.exposes) found) (record { sensors = 0; zones = 0; fans = 0 }))) is
-
-module _ (configs : List Config) (kept : ℕ → List (Option Place)) (number : ℕ) where
-  -- the boards of one configuration are all naming, or none is
-  all_naming : (places : List (Option Place)) → is_naming configs (key_of number None) ≡ true
-      → naming configs (map (board_of kept) (map (key_of number) places)) ≡ map (board_of kept) (map (key_of number) places)
-  all_naming [] names = refl
-  all_naming (place ∷ places) names =
-      let board = board_of kept (key_of number place) in
-      let later = naming configs (map (board_of kept) (map (key_of number) places)) in
-      ap (λ (is : Bool). cond is (board ∷ later) later) names ∙ ap (λ (more : List Board). board ∷ more) (all_naming places names)
-
-  none_naming : (places : List (Option Place)) → is_naming configs (key_of number None) ≡ false
-      → naming configs (map (board_of kept) (map (key_of number) places)) ≡ []
-  none_naming [] names = refl
-  none_naming (place ∷ places) names =
-      let board = board_of kept (key_of number place) in
-      let later = naming configs (map (board_of kept) (map (key_of number) places)) in
-      ap (λ (is : Bool). cond is (board ∷ later) later) names ∙ none_naming places names
-
-module _ (configs : List Config) (kept boards : ℕ → List (Option Place)) (number : ℕ) where
-  abbrev front : List Board
-  front = board_list (λ n. with_boards (kept n) (boards n)) (keys_of number boards)
-
-  abbrev test : Board → Bool
-  test board = is_naming configs board.key
-
-  pub naming_listed : (places : List (Option Place)) (so_far now : List Board) → is_naming configs (key_of number None) ≡ true
-      → so_far ≡ naming configs front → now ≡ so_far ++ map (board_of (λ _. with_boards (kept number) places)) (map (key_of number) places)
-      → places ≡ boards number → now ≡ naming configs (board_list (λ n. with_boards (kept n) (boards n)) (keys_of (number + 1) boards))
-  naming_listed places so_far now names earlier e is =
-      let block : List Board = map (board_of (λ _. with_boards (kept number) places)) (map (key_of number) places) in
-      e ∙ ap (λ (list : List Board). list ++ block) earlier
-      ∙ ap (λ (back : List Board). naming configs front ++ back) (sym (all_naming configs (λ _. with_boards (kept number) places) number places names))
-      ∙ sym (filter-append test front block) ∙ ap (naming configs) (config_listed kept boards number places front (front ++ block) refl refl is)
-
-  pub naming_passed : (so_far : List Board) → is_naming configs (key_of number None) ≡ false → so_far ≡ naming configs front
-      → so_far ≡ naming configs (board_list (λ n. with_boards (kept n) (boards n)) (keys_of (number + 1) boards))
-  naming_passed so_far names earlier =
-      let block : List Board = map (board_of (λ _. with_boards (kept number) (boards number))) (map (key_of number) (boards number)) in
-      earlier ∙ sym (append-nil (naming configs front))
-      ∙ ap (λ (back : List Board). naming configs front ++ back)
-      (sym (none_naming configs (λ _. with_boards (kept number) (boards number)) number (boards number) names))
-      ∙ sym (filter-append test front block)
-      ∙ ap (naming configs) (config_listed kept boards number (boards number) front (front ++ block) refl refl refl)

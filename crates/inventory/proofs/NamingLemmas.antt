@@ -1,5 +1,5 @@
 -- The boards whose items hold names.
-use Rattle.std.proofs.Common.{◌≡◌, ◌∙◌, ℕ, zero, suc, ◌+◌, Bool, true, false, not, cond, ◌||◌, List, [], ◌∷◌, ◌++◌, length, map, filter, Option, Some, None}
+use Rattle.std.proofs.Common.{◌≡◌, ◌∙◌, ℕ, ◌+◌, Bool, true, false, not, cond, ◌||◌, List, [], ◌∷◌, ◌++◌, length, filter, Option, Some, None}
 use Rattle.std.proofs.Common.{option_map, slice_get, refl, sym, ap, ap₂, subst, arith, inl, inr}
 use Rattle.std.specs.Prelude.{◌==◌, ◌&&◌, bytes_eq, find, filter_map}
 use Rattle.std.specs.Option.{is_some, option_eq, option_cmp, unwrap_or}
@@ -7,12 +7,10 @@ use Rattle.std.specs.Ordering.{is_eq}
 use Rattle.std.specs.declared.cmp.Ordering.TheVariants.{Less}
 use Rattle.std.specs.Cmp.{IsTotalOrder}
 use Rattle.std.specs.Cmp.Lexicographic.{options_total}
-use Rattle.std.specs.List.{AllByRecursion, cons_option, enumerate_from, list_any}
+use Rattle.std.specs.List.{AllByRecursion, cons_option, enumerate_from}
 use Rattle.std.specs.List.Sorted.{IsStrictlySortedBy}
-use Rattle.std.proofs.lemmas.Bool.{eqb-true, or_cases, or_left, or_parts, or_right}
-use Rattle.std.proofs.lemmas.List.{map-append}
+use Rattle.std.proofs.lemmas.Bool.{eqb-true, or_cases, or_left, or_right}
 use Rattle.std.proofs.lemmas.List.Elements.{filter-append}
-use Rattle.std.proofs.lemmas.List.Folds.{list_any-append}
 use Rattle.bmc_base.specs.Places.{Place, place_cmp, place_eq}
 use Rattle.fru_area.specs.declared.field.Field.{Field}
 use Rattle.match_rows.proofs.PlacesLemmas.{place_total}
@@ -23,19 +21,14 @@ use Rattle.cfg_json.specs.declared.expose.Body.TheVariants as bodies
 use Rattle.cfg_json.specs.declared.expose.Expose.{Expose}
 use Rattle.cfg_json.specs.declared.item.Item.{Item}
 use Rattle.inventory.specs.Boards.{has_board}
-use Rattle.inventory.specs.Differences.{key_of, keys_left}
-use Rattle.inventory.specs.Indexes.{except, index_in, with_boards}
 use Rattle.inventory.specs.Items.{board_fields, board_items, family_eq, family_of, holder, is_item, is_live, items, live, part_of}
 use Rattle.inventory.specs.Items.{rendered_item, rendered_items}
-use Rattle.inventory.specs.Lists.{board_list, board_of, keys_of}
 use Rattle.inventory.specs.Moments.{AreAscending}
 use Rattle.inventory.specs.Naming.{has_families, is_naming, naming}
 use Rattle.inventory.specs.declared.board.Board.{Board}
 use Rattle.inventory.specs.declared.family.Family.{Family}
-use Rattle.inventory.proofs.BoardLemmas.{board_itself, board_same, except_left}
+use Rattle.inventory.proofs.BoardLemmas.{board_itself, board_same}
 use Rattle.inventory.proofs.BoardsLemmas.{board_cmp_eq}
-use Rattle.inventory.proofs.ListLemmas.{all_any, all_map, filter_none}
-use Rattle.inventory.proofs.TotalsLemmas.{keys_by}
 
 -- ---- items without a family
 
@@ -194,6 +187,19 @@ naming_live configs fields_at boards =
     sym (live_kin (items configs fields_at (naming configs boards))) ∙ ap live (kin_items configs fields_at boards)
     ∙ live_kin (items configs fields_at boards)
 
+-- and an item is live among them where it is among all
+pub naming_is_live : (configs : List Config) (fields_at : Place → Option (List Field)) (boards : List Board) (item : Item)
+    → is_live (items configs fields_at (naming configs boards)) item ≡ is_live (items configs fields_at boards) item
+naming_is_live configs fields_at boards item =
+    λ i. unwrap_or (option_map (λ family. is_item item.id (holds family i)) (family_of item.part)) false
+  where
+    holds : (family : Family)
+        → holder (items configs fields_at (naming configs boards)) family item.name ≡ holder (items configs fields_at boards) family item.name
+    holds family =
+        sym (holder_kin (items configs fields_at (naming configs boards)) family item.name)
+        ∙ ap (λ (all : List Item). holder all family item.name) (kin_items configs fields_at boards)
+        ∙ holder_kin (items configs fields_at boards) family item.name
+
 -- ---- boards that ascend
 
 boards_total : IsTotalOrder (option_cmp place_cmp)
@@ -247,7 +253,7 @@ rest_in first one other ascend all board has =
     ]
 
 -- lists that ascend and have the same boards are the same
-lists_same : (one other : List (Option Place)) → AreAscending one → AreAscending other → AreIn one other → AreIn other one → one ≡ other
+pub lists_same : (one other : List (Option Place)) → AreAscending one → AreAscending other → AreIn one other → AreIn other one → one ≡ other
 unfolding IsStrictlySortedBy
 lists_same [] [] ascend other_ascend one_in other_in = refl
 lists_same [] (second ∷ other) ascend other_ascend one_in other_in = absurd (let has = other_in second (first_in second other) in cc)
@@ -259,95 +265,3 @@ lists_same (first ∷ one) (second ∷ other) ascend other_ascend one_in other_i
     (lists_same one other ascend.1 other_ascend.1
     (rest_in first one other ascend (subst (λ (each : Option Place). AreIn (first ∷ one) (each ∷ other)) (sym same) one_in))
     (rest_in second other one other_ascend (subst (λ (each : Option Place). AreIn (second ∷ other) (each ∷ one)) same other_in)))
-
--- where nothing of one list is left, all of it is in the other
-none_but : (one other : List (Option Place)) → except (has_board other) one ≡ [] → AreIn one other
-none_but one other none board has = by (has_board other board) refl
-  where
-    by : (is : Bool) → has_board other board ≡ is → is ≡ true
-    by true is = refl
-    by false is =
-        let left : has_board (except (has_board other) one) board ≡ true = except_left (has_board other) one board has is in
-        let gone : has_board (except (has_board other) one) board ≡ false = ap (λ (boards : List (Option Place)). has_board boards board) none in
-        absurd (cc)
-
--- ---- boards that are naming
-
--- where each passes, and none is said to pass, there is none
-no_element : {X Y : Type 0} (test : Y → Bool) (image : X → Y) (xs : List X) → ((x : X) → test (image x) ≡ true) → list_any test (map image xs) ≡ false
-    → xs ≡ []
-no_element test image [] passes none = refl
-no_element test image (first ∷ xs) passes none =
-    let parts : (test (image first) ≡ false) × (list_any test (map image xs) ≡ false) = or_parts _ _ none in
-    let is : test (image first) ≡ true = passes first in
-    let isnt : test (image first) ≡ false = parts.0 in
-    absurd (cc)
-
-module _ (configs : List Config) (kept kept_after before after : ℕ → List (Option Place)) (ascend : (number : ℕ) → AreAscending (before number))
-    (ascend_after : (number : ℕ) → AreAscending (after number))
-    (keeps : (number : ℕ) → kept_after number ≡ with_boards (kept number) (except (has_board (before number)) (after number))) where
-  -- the naming boards among those of one configuration
-  abbrev naming_at : (ℕ → List (Option Place)) → ℕ → List (Option Place) → List Board
-  naming_at kept number places = naming configs (board_list kept (map (key_of number) places))
-
-  -- boards of a configuration that keep their indexes
-  kept_same : (number : ℕ) → kept_after number ≡ kept number → (places : List (Option Place))
-      → board_list kept_after (map (key_of number) places) ≡ board_list kept (map (key_of number) places)
-  kept_same number same [] = refl
-  kept_same number same (place ∷ places) =
-      ap₂ (λ (boards : List (Option Place)) (rest : List Board). record { key = key_of number place; index = index_in boards place } ∷ rest)
-      same (kept_same number same places)
-
-  none_naming : (kept : ℕ → List (Option Place)) (number : ℕ) → is_naming configs (key_of number None) ≡ false → (places : List (Option Place))
-      → naming_at kept number places ≡ []
-  none_naming kept number idle places =
-      filter_none (λ (board : Board). is_naming configs board.key) (board_list kept (map (key_of number) places))
-      (all_map _ (board_of kept) (map (key_of number) places) (all_map _ (key_of number) places (all_any _ (λ place. idle) places)))
-
-  naming_block : (number : ℕ) → list_any (is_naming configs) (map (key_of number) (except (has_board (after number)) (before number))) ≡ false
-      → list_any (is_naming configs) (map (key_of number) (except (has_board (before number)) (after number))) ≡ false
-      → naming_at kept_after number (after number) ≡ naming_at kept number (before number)
-  naming_block number none_gone none_new = by (is_naming configs (key_of number None)) refl
-    where
-      by : (is : Bool) → is_naming configs (key_of number None) ≡ is → naming_at kept_after number (after number) ≡ naming_at kept number (before number)
-      by false idle = none_naming kept_after number idle (after number) ∙ sym (none_naming kept number idle (before number))
-      by true is =
-          let gone : except (has_board (after number)) (before number) ≡ [] = no_element (is_naming configs) (key_of number) _ (λ place. is) none_gone in
-          let new : except (has_board (before number)) (after number) ≡ [] = no_element (is_naming configs) (key_of number) _ (λ place. is) none_new in
-          let same : after number ≡ before number =
-          lists_same (after number) (before number) (ascend_after number) (ascend number) (none_but (after number) (before number) new)
-          (none_but (before number) (after number) gone) in
-          ap (λ (places : List (Option Place)). naming_at kept_after number places) same
-          ∙ ap (naming configs) (kept_same number (keeps number ∙ ap (with_boards (kept number)) new) (before number))
-
-  -- the naming boards among one configuration's and those behind it
-  naming_more : (kept places : ℕ → List (Option Place)) (from count : ℕ)
-      → naming configs (board_list kept (keys_by places from (suc count)))
-      ≡ naming_at kept from (places from) ++ naming configs (board_list kept (keys_by places (from + 1) count))
-  naming_more kept places from count =
-      ap (naming configs) (map-append (board_of kept) (map (key_of from) (places from)) (keys_by places (from + 1) count))
-      ∙ filter-append (λ (board : Board). is_naming configs board.key) (board_list kept (map (key_of from) (places from)))
-      (board_list kept (keys_by places (from + 1) count))
-
-  naming_range : (from count : ℕ)
-      → list_any (is_naming configs) (keys_by (λ number. except (has_board (after number)) (before number)) from count) ≡ false
-      → list_any (is_naming configs) (keys_by (λ number. except (has_board (before number)) (after number)) from count) ≡ false
-      → naming configs (board_list kept_after (keys_by after from count)) ≡ naming configs (board_list kept (keys_by before from count))
-  naming_range from zero none_gone none_new = refl
-  naming_range from (suc count) none_gone none_new =
-      let gone = or_parts _ _ (sym (list_any-append (is_naming configs) (map (key_of from) (except (has_board (after from)) (before from)))
-      (keys_by (λ number. except (has_board (after number)) (before number)) (from + 1) count)) ∙ none_gone) in
-      let new = or_parts _ _ (sym (list_any-append (is_naming configs) (map (key_of from) (except (has_board (before from)) (after from)))
-      (keys_by (λ number. except (has_board (before number)) (after number)) (from + 1) count)) ∙ none_new) in
-      naming_more kept_after after from count
-      ∙ ap₂ (λ (front back : List Board). front ++ back) (naming_block from gone.0 new.0) (naming_range (from + 1) count gone.1 new.1)
-      ∙ sym (naming_more kept before from count)
-
--- where no naming board goes or comes, the naming boards stay with their indexes
-pub naming_same : (configs : List Config) (count : ℕ) (kept kept_after before after : ℕ → List (Option Place))
-    → ((number : ℕ) → AreAscending (before number)) → ((number : ℕ) → AreAscending (after number))
-    → list_any (is_naming configs) (keys_left count before after) ≡ false → list_any (is_naming configs) (keys_left count after before) ≡ false
-    → ((number : ℕ) → kept_after number ≡ with_boards (kept number) (except (has_board (before number)) (after number)))
-    → naming configs (board_list kept_after (keys_of count after)) ≡ naming configs (board_list kept (keys_of count before))
-naming_same configs count kept kept_after before after ascend ascend_after none_gone none_new keeps =
-    naming_range configs kept kept_after before after ascend ascend_after keeps 0 count none_gone none_new

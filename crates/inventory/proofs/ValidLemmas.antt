@@ -1,7 +1,7 @@
 -- Items of valid configurations are valid.
-use Rattle.std.proofs.Common.{◌≡◌, ℕ, zero, suc, ◌+◌, List, [], ◌∷◌, ◌++◌, Option, Some, None, option_map, option_to_list}
+use Rattle.std.proofs.Common.{◌≡◌, ℕ, ◌+◌, List, [], ◌∷◌, ◌++◌, Option, Some, None, option_map, option_to_list, refl}
 use Rattle.std.specs.Prelude.{IfSome}
-use Rattle.std.specs.List.{All, filter_map, cons_option, enumerate_from}
+use Rattle.std.specs.List.{All, AllByRecursion, filter_map, cons_option, enumerate_from}
 use Rattle.std.proofs.lemmas.List.Elements.{All-nil, All-cons, All-head, All-tail, All-same, All-append, All-push, All-filter}
 use Rattle.bmc_base.specs.Places.{Place}
 use Rattle.fru_area.specs.declared.field.Field.{Field}
@@ -12,11 +12,10 @@ use Rattle.cfg_json.specs.declared.expose.Body.{Body}
 use Rattle.cfg_json.specs.declared.expose.Body.TheVariants.{Sensor, Fan, Zone, Mux, Passive}
 use Rattle.cfg_json.specs.declared.item.Item.{Item}
 use Rattle.inventory.specs.declared.board.Board.{Board}
-use Rattle.inventory.specs.declared.board.BoardKey.{BoardKey}
-use Rattle.inventory.specs.Items.{IsValidPart, IsValidItem, part_of, board_fields, exposes_of, rendered_item, board_items, items}
+use Rattle.inventory.specs.Items.{IsValidPart, IsValidItem, part_of, rendered_item, items}
 use Rattle.inventory.specs.Items.{is_live, live, items_less}
-use Rattle.inventory.specs.Lists.{board_list}
-use Rattle.inventory.specs.Naming.{naming, naming_items}
+use Rattle.inventory.specs.Shown.{items_of, AreShown, IsShown}
+use Rattle.inventory.specs.declared.shown.Shown.{Shown}
 
 -- ---- an item
 
@@ -44,7 +43,7 @@ item_valid board fields position expose valid = by (rendered board.key.place fie
 
 -- ---- the items of boards
 
-rendered_valid : (board : Board) (fields : Option (List Field)) (from : ℕ) (exposes : List Expose) → All IsValidExpose exposes
+pub rendered_valid : (board : Board) (fields : Option (List Field)) (from : ℕ) (exposes : List Expose) → All IsValidExpose exposes
     → All IsValidItem (filter_map (rendered_item board fields) (enumerate_from from exposes))
 rendered_valid board fields from [] valid = All-nil IsValidItem
 rendered_valid board fields from (expose ∷ exposes) valid =
@@ -54,28 +53,6 @@ rendered_valid board fields from (expose ∷ exposes) valid =
     by : (item : Option Item) (rest : List Item) → IfSome item IsValidItem → All IsValidItem rest → All IsValidItem (cons_option item rest)
     by None rest one later = later
     by (Some item) rest one later = All-cons IsValidItem item rest one later
-
-config_valid : (configs : List Config) (number : ℕ) → All IsValidConfig configs → All IsValidExpose (exposes_of configs number)
-config_valid [] number valid = All-nil IsValidExpose
-config_valid (config ∷ configs) zero valid = All-head IsValidConfig config configs valid
-config_valid (config ∷ configs) (suc number) valid = config_valid configs number (All-tail IsValidConfig config configs valid)
-
-pub items_valid : (configs : List Config) (fields_at : Place → Option (List Field)) (boards : List Board) → All IsValidConfig configs
-    → All IsValidItem (items configs fields_at boards)
-unfolding items
-items_valid configs fields_at [] valid = All-nil IsValidItem
-items_valid configs fields_at (board ∷ boards) valid =
-    All-append IsValidItem (board_items configs fields_at board) (items configs fields_at boards)
-    (rendered_valid board (board_fields fields_at board) 0 (exposes_of configs board.key.config) (config_valid configs board.key.config valid))
-    (items_valid configs fields_at boards valid)
-
-pub naming_items_valid : (configs : List Config) (kept : ℕ → List (Option Place)) (fields_at : Place → Option (List Field)) (keys : List BoardKey)
-    → All IsValidConfig configs → All IsValidItem (naming_items configs kept fields_at keys)
-naming_items_valid configs kept fields_at keys = items_valid configs fields_at (naming configs (board_list kept keys))
-
--- there are no items
-pub none_valid : (items : List Item) → items ≡ [] → All IsValidItem items
-none_valid items none = All-same IsValidItem items [] none (All-nil IsValidItem)
 
 -- ---- configurations with one more
 
@@ -91,3 +68,14 @@ unfolding live items_less
 less_valid items here there shown here_is shown_is valid =
     All-same IsValidItem shown (items_less here there) shown_is
     (All-filter _ IsValidItem here (All-same IsValidItem here (live items) here_is (All-filter (is_live items) IsValidItem items valid)))
+
+-- ---- boards with their items
+
+each_valid : (boards : List Shown) → AllByRecursion IsShown boards → All IsValidItem (items_of boards)
+each_valid [] shown = All-nil IsValidItem
+each_valid (board ∷ boards) shown = All-append IsValidItem board.items.items (items_of boards) shown.0.valid (each_valid boards shown.1)
+
+-- the live items of these boards that are not elsewhere
+pub told_valid : (boards : List Shown) (there told : List Item) → AreShown boards → told ≡ items_less (live (items_of boards)) there → All IsValidItem told
+told_valid boards there told shown told_is =
+    less_valid (items_of boards) (live (items_of boards)) there told refl told_is (each_valid boards shown.each)

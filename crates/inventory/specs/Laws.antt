@@ -14,7 +14,7 @@ use Rattle.inventory.specs.Indexes.{except, with_boards, index_of}
 use Rattle.inventory.specs.Lists.{keys_of, board_list}
 use Rattle.inventory.specs.Items.{items, live}
 use Rattle.inventory.specs.Orders.{AreByKey, AreById, HaveOwnIds}
-use Rattle.inventory.specs.Holders.{held_eq, held_of}
+use Rattle.inventory.specs.Bearers.{held_eq, held_of}
 
 -- boards that differ are kept behind the others, those alone that are new
 abbrev pub KeepsNew : Type 0

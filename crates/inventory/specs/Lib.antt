@@ -9,5 +9,8 @@ pub mod Items
 pub mod Limits
 pub mod Naming
 pub mod Orders
-pub mod Holders
 pub mod Inventories
+pub mod Bearers
+pub mod Follows
+pub mod Shown
+pub mod Stocks

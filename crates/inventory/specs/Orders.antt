@@ -1,7 +1,7 @@
 -- The order of boards and of items.
-use Rattle.std.specs.Prelude.{if◌then◌else◌, List, [], ◌∷◌, map}
+use Rattle.std.specs.Prelude.{List, map}
 use Rattle.std.specs.Option.{option_cmp}
-use Rattle.std.specs.Ordering.{is_lt, nat_cmp, ordering_then}
+use Rattle.std.specs.Ordering.{nat_cmp, ordering_then}
 use Rattle.std.specs.declared.cmp.Ordering.{Ordering}
 use Rattle.std.specs.List.{IsDistinct}
 use Rattle.std.specs.List.Sorted.{IsStrictlySortedBy}
@@ -35,8 +35,3 @@ AreById items = IsStrictlySortedBy id_cmp (map (λ (item : Item). item.id) items
 -- no two items have one id
 abbrev pub HaveOwnIds : List Item → Type 0
 HaveOwnIds items = IsDistinct id_eq (map (λ (item : Item). item.id) items)
-
--- these items, without those at the front that come before an id
-abbrev pub from_id : ItemId → List Item → List Item
-from_id id [] = []
-from_id id (item ∷ items) = if is_lt (id_cmp item.id id) then from_id id items else item ∷ items

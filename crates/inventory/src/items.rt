@@ -1,6 +1,8 @@
 ghost use Rattle.std.specs.Prelude.{◌≡◌, ◌++◌, filter_map, option_map, option_to_list, IfOk, OnOk};
+ghost use Rattle.std.specs.List.{All};
 ghost use Rattle.bmc_base.specs.Places.{last_bus};
 ghost use Rattle.tmpl.specs.Rendering.{fields_of, rendered_number};
+ghost use Rattle.cfg_json.specs.Configs.{IsValidExpose};
 ghost use Rattle.inventory.specs.Items.{number_at, sensor_at, part_of};
 ghost use Rattle.inventory.specs.Items.{board_fields, entry_fields, exposes_of, items, rendered_item, rendered_items};
 
@@ -136,13 +138,14 @@ pub(crate) fn append_items(
     Ok(())
 }
 
-// Borrows the exposes of a configuration; there are none where no configuration has the number.
-fn exposes_at<'s, L: Ledger>(
+// Borrows the exposes of a configuration, which are valid; there are none where no configuration has the number.
+pub(crate) fn exposes_at<'s, L: Ledger>(
     shelf: &'s Shelf<L>,
     plus: Option<&'s Config<L>>,
     number: u32,
 ) -> &'s [Expose]
-    ensures { result.now ≡ exposes_of (shelf.now ++ option_to_list (option_map (λ config. config.now) plus.entry)) number }
+    ensures value { result.now ≡ exposes_of (shelf.now ++ option_to_list (option_map (λ config. config.now) plus.entry)) number }
+    ensures valid { All IsValidExpose result.now }
 {
     match config_at(shelf, plus, number as usize) {
         Some(config) => config.exposes(),
@@ -151,7 +154,7 @@ fn exposes_at<'s, L: Ledger>(
 }
 
 // Borrows the record at the place of a board, if there is one.
-fn record_at<'m>(moment: &'m Moment<'_>, board: &Board) -> Option<&'m FruRecord>
+pub(crate) fn record_at<'m>(moment: &'m Moment<'_>, board: &Board) -> Option<&'m FruRecord>
     ensures { fields_of result ≡ board_fields (entry_fields moment.now.entries) board.now }
 {
     moment.fru(board.key.place?)

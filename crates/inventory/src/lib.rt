@@ -5,23 +5,28 @@
 mod board;
 mod boards;
 mod changed;
+mod coming;
 mod compare;
 mod configs;
 mod family;
 mod fault;
+mod held;
 mod hits;
-mod holders;
+mod ids;
 mod index_keep;
-mod inventory;
+mod item_list;
 mod items;
 pub mod law;
-mod less;
+mod leads;
 mod limits;
 mod listing;
 #[cfg(test)]
 mod live_tests;
 mod lone;
 mod moment;
+mod names;
+mod shown;
+mod stock;
 #[cfg(test)]
 mod tests;
 
@@ -30,11 +35,11 @@ pub use changed::Difference;
 pub use compare::{difference, difference_by};
 pub use family::Family;
 pub use fault::InventoryFault;
-pub use holders::{Holders, Live};
 pub use index_keep::IndexKeep;
-pub use inventory::{Inventory, changes_items};
+pub use item_list::ItemList;
 pub use items::list_items;
-pub use less::{ItemList, push_less};
 pub use limits::Totals;
 pub use listing::list_all;
 pub use moment::Moment;
+pub use shown::Shown;
+pub use stock::{ItemDifference, Stock};

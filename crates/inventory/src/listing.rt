@@ -1,11 +1,9 @@
-ghost use Rattle.std.specs.Prelude.{◌≡◌, ◌+◌, ◌<◌, ◌≤◌, ◌++◌, ℕ, Bool, if◌then◌else◌, map, unwrap_or, length, option_to_list, option_map, IfOk, OnOk};
+ghost use Rattle.std.specs.Prelude.{◌≡◌, ◌+◌, ◌≤◌, ◌++◌, ℕ, Bool, if◌then◌else◌, map, unwrap_or, length, option_to_list, option_map, IfOk, OnOk};
 ghost use Rattle.inventory.specs.Boards.{has_board};
 ghost use Rattle.inventory.specs.Indexes.{index_of, kept_of, with_boards};
 ghost use Rattle.inventory.specs.Differences.{IsMarkedBy, boards_at, key_of};
 ghost use Rattle.inventory.specs.Lists.{board_of, board_list, keys_of};
-ghost use Rattle.inventory.specs.Moments.{boards_now, AreAscending};
-ghost use Rattle.inventory.specs.Naming.{has_families, naming};
-ghost use Rattle.cfg_json.specs.Configs.{counts_of};
+ghost use Rattle.inventory.specs.Moments.{AreAscending};
 
 use crate::boards::list_boards;
 use crate::configs::{config_at, config_count};
@@ -22,7 +20,11 @@ fn index_behind(index: u32) -> Result<u32, OutOfMemory>
 }
 
 // Returns the index of a board that is kept. Any other gets the one behind the last that was given.
-fn give_index(keep: &IndexKeep, key: &BoardKey, last: &mut u32) -> Result<u32, OutOfMemory>
+pub(crate) fn give_index(
+    keep: &IndexKeep,
+    key: &BoardKey,
+    last: &mut u32,
+) -> Result<u32, OutOfMemory>
     ensures index { IfOk result (λ index. index ≡ unwrap_or (index_of (kept_of keep.now.kept key.now.config) key.now.place) (last.old + 1)) }
     ensures last { OnOk result (last.new ≡ (if has_board (kept_of keep.now.kept key.now.config) key.now.place then last.old else last.old + 1)) }
 {
@@ -81,44 +83,6 @@ pub fn list_all<L: Ledger>(
         let Some(config) = config_at(shelf, plus, number) else {
             unreachable!()
         };
-        let match_one = config.probe().match_one();
-        list_boards(&mut places, moment, number as u32, match_one)?;
-        append_boards(&mut boards, keep, number as u32, &places)?;
-    }
-    Ok(boards)
-}
-
-// Whether a configuration has exposes that are of a family.
-fn has_families<L: Ledger>(config: &Config<L>) -> bool
-    ensures { result ≡ has_families (counts_of config.now.exposes) }
-{
-    let counts = config.counts();
-    counts.sensors > 0 || counts.zones > 0 || counts.fans > 0
-}
-
-// Lists the naming boards at a moment, as [`list_all`] lists all boards.
-pub(crate) fn list_naming<L: Ledger>(
-    alloc: Global,
-    shelf: &Shelf<L>,
-    plus: Option<&Config<L>>,
-    keep: &IndexKeep,
-    moment: &Moment<'_>,
-) -> Result<Vec<Board>, OutOfMemory>
-    requires { length (shelf.now ++ option_to_list (option_map (λ config. config.now) plus)) ≤ 256 }
-    ensures { let all = shelf.now ++ option_to_list (option_map (λ config. config.now) plus.entry) in
-        (found reach : ℕ → Bool) → IsMarkedBy moment.now.facts found reach → IfOk result (λ boards. boards.items
-        ≡ naming all (board_list (λ number. with_boards (kept_of keep.now.kept number) (boards_at all found reach moment.now number))
-        (keys_of (length all) (boards_at all found reach moment.now)))) }
-{
-    let mut boards = Vec::new(alloc);
-    let mut places = Vec::new(alloc);
-    for number in 0..config_count(shelf, plus) {
-        let Some(config) = config_at(shelf, plus, number) else {
-            unreachable!()
-        };
-        if !has_families(config) {
-            continue;
-        }
         let match_one = config.probe().match_one();
         list_boards(&mut places, moment, number as u32, match_one)?;
         append_boards(&mut boards, keep, number as u32, &places)?;

@@ -1,10 +1,10 @@
-ghost use Rattle.std.specs.Prelude.{◌≡◌, ◌≤◌, ◌^◌, true, length, IfOk};
-ghost use Rattle.inventory.specs.Orders.{AreById};
-
-use crate::less::is_before;
-use crate::{Family, Holders, ItemList, Live, push_less};
+use crate::held::Held;
+use crate::names::{Names, first_of, keep_noted};
+use crate::stock::{compare, note_change};
+use crate::{BoardKey, Family, Shown};
 use bmc_base::{Milli, Name, Place};
 use cfg_json::{Item, ItemId, ItemPart, SensorItem, ZoneSetting};
+use indexmap::IndexMap;
 use sensor_core::{Limit, SensorSetting};
 use std::alloc::Global;
 use std::process::Abort;
@@ -40,8 +40,17 @@ const PLAIN: SensorItem = SensorItem {
     },
 };
 
+fn id(row: Row<'_>) -> ItemId {
+    let (config, bus, expose, _, _) = row;
+    ItemId {
+        config,
+        place: Place::new(bus, 80),
+        expose,
+    }
+}
+
 fn item(row: Row<'_>) -> Result<Item, Fail> {
-    let (config, bus, expose, name, family) = row;
+    let (_, _, _, name, family) = row;
     let part = match family {
         Some(Family::Sensor) => ItemPart::Sensor(PLAIN),
         Some(Family::Zone) => ItemPart::Zone(ZoneSetting {
@@ -52,45 +61,42 @@ fn item(row: Row<'_>) -> Result<Item, Fail> {
         None => ItemPart::Passive,
     };
     Ok(Item {
-        id: ItemId {
-            config,
-            place: Place::new(bus, 80),
-            expose,
-        },
+        id: id(row),
         name: Name::new(name)?,
         part,
     })
 }
 
-// Whether each item comes before the next.
-fn ascend(items: &[Item]) -> bool
-    ensures { result ≡ true → AreById items.now }
-{
-    if items.is_empty() {
-        return true;
-    }
-    for i in 0..items.len() - 1 {
-        if !is_before(&items[i].id, &items[i + 1].id) {
-            return false;
+// The boards of these rows, which stand in the order of the ids.
+fn boards(alloc: Global, rows: &[Row<'_>]) -> Result<Vec<Shown>, Fail> {
+    let mut boards: Vec<Shown> = Vec::new(alloc);
+    for row in rows {
+        let ItemId { config, place, .. } = id(*row);
+        let key = BoardKey { config, place };
+        let count = boards.len();
+        if count > 0 && boards[count - 1].key == key {
+            boards[count - 1].items.push(item(*row)?)?;
+        } else {
+            let mut items = Vec::new(alloc);
+            items.push(item(*row)?)?;
+            boards.push(Shown { key, items })?;
         }
     }
-    true
+    Ok(boards)
 }
 
-// The items of these rows, which ascend by id.
-fn items(alloc: Global, rows: &[Row<'_>]) -> Result<ItemList, Fail>
-    ensures order { IfOk result (λ items. AreById items) }
-    ensures few { IfOk result (λ items. length items ≤ 2 ^ 32) }
-{
-    let mut items = ItemList::new(alloc);
-    for row in rows {
-        items.push(alloc, item(*row)?)?;
+// The keys of boards.
+fn keys(alloc: Global, boards: &[Shown]) -> Result<Vec<BoardKey>, Fail> {
+    let mut keys = Vec::new(alloc);
+    for board in boards {
+        keys.push(board.key)?;
     }
-    if items.as_slice().len() <= 100 && ascend(items.as_slice()) {
-        Ok(items)
-    } else {
-        Err(Fail::from("the rows do not ascend"))
-    }
+    Ok(keys)
+}
+
+// The names that the items of boards bear.
+fn names(alloc: Global, boards: &[Shown]) -> Result<Names, Fail> {
+    Ok(note_change(alloc, &IndexMap::new(alloc), &[], &[], boards)?)
 }
 
 // Names that occur twice: in one family, in several, and at an item of no family.
@@ -104,30 +110,44 @@ const ROWS: [Row<'static>; 7] = [
     (1, 2, 1, "Fan 2", SENSOR),
 ];
 
-// The live items are at these positions, and the names are held at those.
-#[tactic(auto, using(crate::proofs::IdsLemmas::ascending_ids))]
+// The names are held by the rows at these positions.
 fn assert_held(
     rt: &impl Abort,
-    alloc: Global,
-    rows: &[Row<'_>],
-    live: &[u32],
-    held: &[(Family, &str, Option<u32>)],
+    names: &Names,
+    held: &[(Family, &str, Option<usize>)],
 ) -> Result<(), Fail> {
-    let items = items(alloc, rows)?;
-    let holders = Holders::list(alloc, items.as_slice())?;
-    assert_eq!(rt; holders.len(), live.len());
-    for (number, position) in live.iter().enumerate() {
-        assert_eq!(rt; holders.at(number), Some(*position));
-    }
-    assert_eq!(rt; holders.at(live.len()), None);
     for (family, name, position) in held {
-        assert_eq!(rt; holders.position(*family, &Name::new(name)?), *position);
+        let held = Held {
+            family: *family,
+            name: Name::new(name)?,
+        };
+        let row = match position {
+            Some(position) => ROWS.get(*position),
+            None => None,
+        };
+        assert_eq!(rt; first_of(names, &held), row.map(|row| id(*row)));
     }
     Ok(())
 }
 
+// Takes these boards out.
+fn forget(
+    alloc: Global,
+    names: &mut Names,
+    boards: &[Shown],
+    gone: &[BoardKey],
+) -> Result<(), Fail> {
+    let over = note_change(alloc, names, boards, gone, &[])?;
+    names.reserve(over.len())?;
+    keep_noted(names, over);
+    Ok(())
+}
+
 #[test]
-fn the_first_item_holds_its_name(rt: HostRuntime) -> Result<(), Fail> {
+fn the_first_bearer_holds_its_name(rt: HostRuntime) -> Result<(), Fail> {
+    let alloc = rt.alloc();
+    let all = boards(alloc, &ROWS)?;
+    let mut names = names(alloc, &all)?;
     let held = [
         (Family::Fan, "Fan 1", Some(0)),
         (Family::Zone, "Fan 1", None),
@@ -138,47 +158,44 @@ fn the_first_item_holds_its_name(rt: HostRuntime) -> Result<(), Fail> {
         (Family::Sensor, "Fan 2", Some(6)),
         (Family::Sensor, "Fan 1", None),
     ];
-    assert_held(&rt, rt.alloc(), &ROWS, &[0, 1, 3, 5, 6], &held)?;
-    // the first holder goes, and the second item has the name
+    assert_held(&rt, &names, &held)?;
+    // the board of the first holder goes, and the next item has the name
+    let gone = keys(alloc, &boards(alloc, &ROWS[..2])?)?;
+    forget(alloc, &mut names, &all, &gone)?;
     let held = [
-        (Family::Fan, "Fan 1", Some(1)),
-        (Family::Zone, "Zone 1", Some(0)),
-        (Family::Fan, "Zone 1", Some(2)),
+        (Family::Fan, "Fan 1", Some(2)),
+        (Family::Zone, "Zone 1", None),
+        (Family::Fan, "Zone 1", Some(3)),
     ];
-    assert_held(&rt, rt.alloc(), &ROWS[1..], &[0, 1, 2, 4, 5], &held)?;
-    assert_held(&rt, rt.alloc(), &[], &[], &[(Family::Fan, "Fan 1", None)])
+    assert_held(&rt, &names, &held)
 }
 
-// These rows are of the live items that are in the first list and not in the second.
-#[tactic(auto, using(crate::proofs::IdsLemmas::ascending_ids, crate::proofs::IdsLemmas::live_ascend))]
-fn assert_less(
-    rt: &impl Abort,
-    alloc: Global,
-    here: &[Row<'_>],
-    there: &[Row<'_>],
-    less: &[Row<'_>],
-) -> Result<(), Fail> {
-    let here = items(alloc, here)?;
-    let there = items(alloc, there)?;
-    let here_holders = Holders::list(alloc, here.as_slice())?;
-    let there_holders = Holders::list(alloc, there.as_slice())?;
-    let mut list = ItemList::new(alloc);
-    push_less(
-        alloc,
-        &mut list,
-        &Live::of(here.as_slice(), &here_holders),
-        &Live::of(there.as_slice(), &there_holders),
-    )?;
-    assert_eq!(rt; list.as_slice().len(), less.len());
-    for (item, row) in list.as_slice().iter().zip(less) {
-        let (config, bus, expose, name, _) = *row;
-        assert_eq!(rt;
-            (item.id.config, item.id.place, item.id.expose),
-            (config, Place::new(bus, 80), expose)
-        );
-        assert_eq!(rt; item.name.as_str(), name);
+// The items are those of these rows.
+fn assert_rows(rt: &impl Abort, items: &[Item], rows: &[Row<'_>]) -> Result<(), Fail> {
+    assert_eq!(rt; items.len(), rows.len());
+    for (item, row) in items.iter().zip(rows) {
+        assert_eq!(rt; item.id, id(*row));
+        assert_eq!(rt; item.name.as_str(), row.3);
     }
     Ok(())
+}
+
+// The boards of all rows before go and those of all rows after come: of what is live these rows go, and those come.
+fn assert_change(
+    rt: &impl Abort,
+    alloc: Global,
+    before: &[Row<'_>],
+    after: &[Row<'_>],
+    gone: &[Row<'_>],
+    new: &[Row<'_>],
+) -> Result<(), Fail> {
+    let here = boards(alloc, before)?;
+    let there = boards(alloc, after)?;
+    let names = names(alloc, &here)?;
+    let over = note_change(alloc, &names, &here, &keys(alloc, &here)?, &there)?;
+    let told = compare(alloc, &names, &over, &here, &there)?;
+    assert_rows(rt, told.gone.as_slice(), gone)?;
+    assert_rows(rt, told.new.as_slice(), new)
 }
 
 #[test]
@@ -187,17 +204,15 @@ fn live_items_go_and_come(rt: HostRuntime) -> Result<(), Fail> {
     let rows = [
         (&ROWS[..], &ROWS[..], &[][..], &[][..]),
         (&[], &ROWS[2..], &[], &[ROWS[2], ROWS[3], ROWS[5], ROWS[6]]),
-        (&ROWS[2..], &[], &[ROWS[2], ROWS[3], ROWS[5], ROWS[6]], &[]),
         // a name goes with its holder, and comes with the next item
         (&ROWS, &ROWS[1..], &[ROWS[0]], &[ROWS[2]]),
-        (&ROWS[1..], &ROWS, &[ROWS[2]], &[ROWS[0]]),
         // an item that holds no name goes
         (&ROWS[..3], &ROWS[..2], &[], &[]),
         (&ROWS[..4], &ROWS[2..5], &[ROWS[0], ROWS[1]], &[ROWS[2]]),
     ];
     for (before, after, gone, new) in rows {
-        assert_less(&rt, rt.alloc(), before, after, gone)?;
-        assert_less(&rt, rt.alloc(), after, before, new)?;
+        assert_change(&rt, rt.alloc(), before, after, gone, new)?;
+        assert_change(&rt, rt.alloc(), after, before, new, gone)?;
     }
     Ok(())
 }

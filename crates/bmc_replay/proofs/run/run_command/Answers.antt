@@ -1,4 +1,3 @@
-use Rattle.std.proofs.Common.{rules}
 use Rattle.bmc_replay.proofs.RunsLemmas.{shown_answers}
 use Rattle.bmc_replay.proofs.run.run_command.Goals as goal
 

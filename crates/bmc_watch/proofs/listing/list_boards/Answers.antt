@@ -1,5 +1,5 @@
 -- There is no configuration more.
-use Rattle.std.proofs.Common.{◌≡◌, ◌++◌, ℕ, Bool, List, [], subst, append-nil}
+use Rattle.std.proofs.Common.{◌≡◌, ℕ, Bool, List, subst, append-nil}
 use Rattle.std.specs.Prelude.{IfOk}
 use Rattle.cfg_json.specs.Configs.{Config}
 use Rattle.inventory.specs.Differences.{IsMarkedBy}

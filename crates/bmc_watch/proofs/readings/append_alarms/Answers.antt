@@ -1,4 +1,4 @@
-use Rattle.std.proofs.Common.{arith, ◌+◌, ◌∙◌}
+use Rattle.std.proofs.Common.{arith, ◌∙◌}
 use Rattle.bmc_machine.specs.Changes.{alarm_change}
 use Rattle.bmc_watch.proofs.ReadingsLemmas.{told_more}
 use Rattle.bmc_watch.proofs.readings.append_alarms.Goals as goal

@@ -1,4 +1,4 @@
-use Rattle.std.proofs.Common.{◌≡◌, ◌+◌, ◌≤◌, ◌++◌, ℕ, take, length, vec_capacity, vec_len}
+use Rattle.std.proofs.Common.{◌≡◌, ◌+◌, ◌≤◌, ◌++◌, take, vec_capacity, vec_len}
 use Rattle.std.specs.List.{flat_map, enumerate_from}
 use Rattle.sensor_core.specs.Sensors.{Sensor as SensorView}
 use Rattle.bmc_machine.specs.Changes.{alarm_change}

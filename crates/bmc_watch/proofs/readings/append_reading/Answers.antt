@@ -1,5 +1,5 @@
 -- The failure is told first, and then the alarms.
-use Rattle.std.proofs.Common.{◌≡◌, ◌∙◌, ◌++◌, List, ap, append_assoc}
+use Rattle.std.proofs.Common.{◌∙◌, ◌++◌, List, ap, append_assoc}
 use Rattle.std.specs.List.{flat_map, enumerate_from}
 use Rattle.sensor_core.specs.Settings.{limits_of}
 use Rattle.bmc_report.specs.declared.change.Change.{Change}

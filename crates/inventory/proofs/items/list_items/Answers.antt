@@ -1,4 +1,4 @@
-use Rattle.std.proofs.Common.{◌≡◌, ◌∙◌, ◌++◌, List, Option, ap₂, option_map, option_to_list}
+use Rattle.std.proofs.Common.{◌∙◌, ◌++◌, List, Option, ap₂, option_map, option_to_list}
 use Rattle.fru_area.specs.declared.field.Field.{Field}
 use Rattle.cfg_json.specs.Configs.{Config}
 use Rattle.cfg_json.specs.declared.expose.Expose.{Expose}
@@ -14,7 +14,7 @@ loop-board-preserved g c =
     c.append_items.new.items.items c.loop-board-test.true c.board-item.is
     (c.in_ok-append_items.ensures
     ∙ ap₂ (λ (fields : Option (List Field)) (exposes : List Expose). c.loop-board.items.items ++ rendered_items board fields exposes) c.record_at.ensures
-    c.exposes_at-exposes.ensures)
+    c.exposes_at-exposes.ensures.value)
 
 pub returns : goal.returns
 returns g c =

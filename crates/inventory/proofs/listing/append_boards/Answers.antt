@@ -1,4 +1,3 @@
-use Rattle.std.proofs.Common.{sym}
 use Rattle.inventory.specs.Indexes.{kept_of}
 use Rattle.inventory.proofs.BoardsLemmas.{ascending_differ}
 use Rattle.inventory.proofs.ListingLemmas.{listed_more, count_more}

@@ -1,12 +1,11 @@
-use Rattle.std.proofs.Common.{◌≡◌, ◌∙◌, ◌++◌, ℕ, Bool, List, Option, length, map, refl, sym, ap, subst, arith, option_map, option_to_list}
+use Rattle.std.proofs.Common.{◌≡◌, ◌∙◌, ◌++◌, ℕ, Bool, List, Option, length, sym, ap, arith, option_map, option_to_list}
 use Rattle.cfg_json.specs.Configs.{Config}
-use Rattle.inventory.specs.declared.board.Board.{Board}
 use Rattle.bmc_base.specs.Places.{Place}
 use Rattle.inventory.specs.Indexes.{kept_of, with_boards}
-use Rattle.inventory.specs.Differences.{boards_at, key_of}
-use Rattle.inventory.specs.Lists.{board_of, board_list, keys_of}
-use Rattle.inventory.specs.Moments.{boards_now, AreAscending}
-use Rattle.inventory.proofs.DifferencesLemmas.{boards_there, none_within}
+use Rattle.inventory.specs.Differences.{boards_at}
+use Rattle.inventory.specs.Lists.{board_list, keys_of}
+use Rattle.inventory.specs.Moments.{boards_now}
+use Rattle.inventory.proofs.DifferencesLemmas.{boards_there}
 use Rattle.inventory.proofs.ListingLemmas.{config_listed}
 use Rattle.inventory.proofs.listing.list_all.Goals as goal
 

@@ -1,4 +1,5 @@
-use Rattle.std.proofs.Common.{arith, ◌≡◌, ◌∙◌, List, [], true, false, Option, Some, map, length, ◌==◌, ◌||◌, refl, ap, ap₂, sym, subst, append-nil, inl}
+use Rattle.std.proofs.Common.{arith, ◌≡◌, ◌∙◌, List, [], true, false, Option, Some, map, length, ◌==◌, ◌||◌, refl, ap, ap₂, sym, subst, subst₂, append-nil, inl}
+use Rattle.cfg_json.specs.declared.item.Item.{Item}
 use Rattle.std.specs.Prelude.{option_map}
 use Rattle.probe_lang.specs.Sights.{entry_sight}
 use Rattle.probe_lang.specs.declared.rows.Entry.{Entry}
@@ -10,7 +11,8 @@ use Rattle.found_set.specs.Sets.{SetView}
 use Rattle.found_set.specs.declared.next_facts.NextFacts.{NextFacts}
 use Rattle.found_set.specs.Rows.{row_of, sights_of}
 use Rattle.found_set.specs.Events.{PlugEvent}
-use Rattle.inventory.specs.Boards.{boards_in}
+use Rattle.found_set.proofs.EventsLemmas.{none_within}
+use Rattle.inventory.specs.Boards.{boards_in, rules_of}
 use Rattle.inventory.specs.Indexes.{kept_of}
 use Rattle.inventory.specs.Limits.{limit_of, passed_limit, totals_after}
 use Rattle.inventory.specs.Lists.{keys_of}
@@ -24,11 +26,12 @@ use Rattle.bmc_watch.proofs.EventsLemmas.{on_err, new_place, known_entry, free_t
 use Rattle.bmc_watch.proofs.EventsLemmas.{staged_within, tells_those}
 use Rattle.bmc_watch.proofs.EventsLemmas.{set_after, rows_plugged}
 use Rattle.match_rows.proofs.RowsLemmas.{with_entry_by_place}
-use Rattle.bmc_watch.specs.ItemSteps.{items_behind}
 use Rattle.bmc_watch.proofs.BusyLemmas.{busy_with}
 use Rattle.bmc_watch.proofs.ItemsLemmas.{busy_apart, free_apart}
-use Rattle.bmc_watch.proofs.KeysLemmas.{keeps}
-use Rattle.bmc_watch.proofs.StockLemmas.{IsNext, counted_then, items_plugged, limit_named, no_refusal, stocked_kept, settles, taken_over}
+use Rattle.bmc_watch.proofs.StockLemmas.{IsNext, counted_then, items_with, limit_named, no_refusal}
+use Rattle.bmc_watch.proofs.StockLemmas.{plug_continues, stock_is, stocked_kept, settles, taken_over, told_of}
+use Rattle.bmc_watch.specs.Counting.{most_evals}
+use Rattle.bmc_watch.proofs.CountingLemmas.{within_rules}
 use Rattle.bmc_watch.proofs.watch.Watch.add_busy.Goals as goal
 
 pub prepare_plug-requires-clause-new : goal.prepare_plug-requires-clause-new
@@ -106,7 +109,52 @@ returns-in-Err-clause-ok g c =
       refl,
     )
 
+-- ---- the items
+
+pub stage_items-requires : goal.stage_items-requires
+stage_items-requires g c =
+    let order : are_by_place c.self.inside.rows.entries ≡ true = ap are_by_place (sym c.in_ok-reserve.ensures.entries) ∙ c.busy.ensures.all in
+    let free : holds_place c.self.inside.rows.entries c.args.boxed.value.place ≡ false =
+    ap (λ (view : WatchView). holds_place view.entries c.args.boxed.value.place) c.self.view_is ∙ c.requires.free in
+    let order_now = with_entry_by_place c.args.boxed.value c.self.inside.rows.entries order free in
+    let was = seen c.self.inside.shelf c.self.inside.rows.entries c.of-before.result c.self.inside.set.rules c.self.inside.set.rows
+    (c.of-before.ensures.facts ∙ c.facts.ensures.current ∙ ap (λ (set : SetView). facts set.rules (sights_of set.rows)) c.in_ok-next.ensures.ok)
+    c.self.invariant.rules c.self.invariant.rows (c.of-before.ensures.entries ∙ c.busy.ensures.value ∙ ap busy c.in_ok-reserve.ensures.entries) in
+    let is = seen c.self.inside.shelf (with_entry c.args.boxed.value c.self.inside.rows.entries) c.with-after.result c.self.inside.set.rules _
+    (c.with-after.ensures.facts ∙ c.facts-2.ensures ∙ ap (λ (next : NextFacts). next.facts) c.in_ok-next.ensures.next) c.self.invariant.rules
+    (rows_plugged c.self.inside.set.rows c.self.inside.rows.entries (with_entry c.args.boxed.value c.self.inside.rows.entries) c.deref-entry.result.now
+    c.self.invariant.rows order (ap is_idle c.deref-entry.ensures ∙ c.requires.busy)
+    (ap (λ (entry : Entry). with_entry entry c.self.inside.rows.entries) (sym c.deref-entry.ensures)))
+    (busy_plugged c.deref-entry.result.now c.args.boxed.value c.reserve.new.self.entries _ c.with-after.result.entries c.deref-entry.ensures
+    c.busy.ensures.all (ap is_idle c.deref-entry.ensures ∙ c.requires.busy) c.busy-2.ensures.value c.with-after.ensures.entries
+    ∙ ap (λ (there : List Entry). busy (with_entry c.args.boxed.value there)) c.in_ok-reserve.ensures.entries) in
+    let differs = difference_is c.self.inside.shelf c.self.inside.shelf c.of-before.result c.with-after.result c.self.inside.rows.entries
+    (with_entry c.args.boxed.value c.self.inside.rows.entries) c.in_ok-difference.difference.gone_boards c.in_ok-difference.difference.new_boards was is
+    c.in_ok-difference.ensures in
+    let among = plug_among c.args.boxed.value (busy c.self.inside.rows.entries) (busy c.self.inside.rows.entries)
+    (busy (with_entry c.args.boxed.value c.self.inside.rows.entries)) refl
+    (sym (busy_with c.args.boxed.value c.self.inside.rows.entries order c.requires.busy)) in
+    let apart = busy_apart c.args.boxed.value c.self.inside.rows.entries (free_apart c.args.boxed.value c.self.inside.rows.entries free) in
+    (
+      items_with c.self.inside.shelf c.self.inside.keep.kept c.in_ok-difference.difference.new_boards
+          (with_entry c.args.boxed.value c.self.inside.rows.entries),
+      plug_continues c.self.inside.shelf c.self.inside.keep.kept c.self.inside.rows.entries (with_entry c.args.boxed.value c.self.inside.rows.entries)
+          c.in_ok-difference.difference order order_now differs c.self.inside.totals c.self.inside.stock.items c.self.invariant.stock c.with-after.result is
+          c.args.boxed.value among apart,
+    )
+
 -- ---- want of memory
+
+pub invariant_of-self-in_err-items : goal.invariant_of-self-in_err-items
+invariant_of-self-in_err-items g c = record {
+  rules = ap (λ (set : SetView). set.rules) c.in_ok-next.ensures.ok ∙ c.self.invariant.rules;
+  rows = ap (λ (set : SetView). set.rows) c.in_ok-next.ensures.ok ∙ c.self.invariant.rows
+      ∙ sym (ap (λ (entries : List Entry). map row_of (busy entries)) c.in_ok-reserve.ensures.entries);
+  none = ap (λ (entries : List Entry). c.self.inside.plugged || (length entries == 0)) c.in_ok-reserve.ensures.entries ∙ c.self.invariant.none;
+  stock = subst₂ (λ (entries : List Entry) (items : List Item). IsStocked c.self.inside.shelf entries c.self.inside.keep.kept c.self.inside.totals items)
+      (sym c.in_ok-reserve.ensures.entries) (sym c.stage_items.ensures.items) c.self.invariant.stock;
+  room = c.self.invariant.room;
+}
 
 pub returns-in_err-items-clause-same : goal.returns-in_err-items-clause-same
 returns-in_err-items-clause-same g c =
@@ -127,11 +175,11 @@ invariant_of-self-in_err-gone g c = record {
   rows = ap (λ (set : SetView). set.rows) c.in_ok-next.ensures.ok ∙ c.self.invariant.rows
       ∙ sym (ap (λ (entries : List Entry). map row_of (busy entries)) c.in_ok-reserve.ensures.entries);
   none = ap (λ (entries : List Entry). c.self.inside.plugged || (length entries == 0)) c.in_ok-reserve.ensures.entries ∙ c.self.invariant.none;
-  stock = subst (λ (entries : List Entry). IsStocked c.self.inside.shelf entries c.stage_changes.new.keep.kept c.self.inside.totals
-      c.self.inside.inventory)
-      (sym c.in_ok-reserve.ensures.entries)
+  stock = subst₂ (λ (entries : List Entry) (items : List Item). IsStocked c.self.inside.shelf entries c.stage_changes.new.keep.kept c.self.inside.totals
+      items)
+      (sym c.in_ok-reserve.ensures.entries) (sym c.stage_items.ensures.items)
       (stocked_kept c.self.inside.shelf c.self.inside.rows.entries c.self.inside.keep.kept c.stage_changes.new.keep.kept c.self.inside.totals
-      c.self.inside.inventory c.stage_changes.ensures.kept c.self.invariant.stock);
+      c.self.inside.stock.items c.stage_changes.ensures.kept c.self.invariant.stock);
   room = omega (arith, c.self.invariant.room, c.stage_changes.ensures.more);
 }
 
@@ -226,25 +274,21 @@ invariant_of-self-2 g c =
     c.in_ok-difference.ensures in
     let tells = tells_those c.self.inside.shelf c.in_ok-difference.difference.gone_boards c.in_ok-difference.difference.new_boards c.in_ok-gone.gone
     c.stage_changes.new.keep.staged _ _ _ c.in_ok-gone.ensures.gone c.in_ok-gone.ensures.staged c.tell_changes.ensures.told in
-    let keep = keeps old new c.in_ok-difference.difference.gone_boards c.in_ok-difference.difference.new_boards c.stage_changes.new.keep.kept
-    c.tell_changes.new.keep.kept c.tell_changes.new.changes.items differs c.stage_changes.ensures.kept tells refl in
     let order_then = ap are_by_place now ∙ order_now in
     let among = plug_among c.args.boxed.value (busy c.self.inside.rows.entries) (busy c.self.inside.rows.entries) (busy c.plug.new.self.entries) refl
     (ap busy now ∙ sym (busy_with c.args.boxed.value c.self.inside.rows.entries order c.requires.busy)) in
     let apart = busy_apart c.args.boxed.value c.self.inside.rows.entries (free_apart c.args.boxed.value c.self.inside.rows.entries free) in
-    let next : IsNext old new c.in-Ok.totals (items_behind c.in_ok-items.items.inventory c.self.inside.inventory)
-    c.in_ok-items.items.gone c.in_ok-items.items.new =
+    let continue = plug_continues c.self.inside.shelf c.self.inside.keep.kept c.self.inside.rows.entries c.plug.new.self.entries c.in_ok-difference.difference
+    order order_then differs c.self.inside.totals c.self.inside.stock.items c.self.invariant.stock c.with-after.result is c.args.boxed.value among apart in
+    let staged = c.in_ok-items.ensures.staged _ continue in
+    let next : IsNext old new c.in-Ok.totals _ c.in_ok-items.items.gone c.in_ok-items.items.new =
     taken_over old new [] c.in_ok-difference.difference.gone_boards c.in_ok-difference.difference.new_boards c.stage_changes.new.keep.kept
-    c.tell_changes.new.keep.kept c.tell_changes.new.changes.items c.self.inside.totals c.in-Ok.totals c.self.inside.inventory c.in_ok-items.items
+    c.tell_changes.new.keep.kept c.tell_changes.new.changes.items c.self.inside.totals c.in-Ok.totals c.self.inside.stock.items _ c.in_ok-items.items
     (sym (append-nil c.self.inside.shelf)) c.self.invariant.stock differs c.stage_changes.ensures.kept tells refl
     (counted_then c.self.inside.shelf c.self.inside.rows.entries c.plug.new.self.entries c.in_ok-difference.difference.gone_boards
     c.in_ok-difference.difference.new_boards c.self.inside.totals c.in-Ok.totals order order_then differs c.self.invariant.stock.counted
-    c.in-Ok.ensures.0) (ap limit_of c.in-Ok.ensures.0 ∙ c.in-Ok.ensures.1)
-    (items_plugged c.self.inside.shelf c.self.inside.keep.kept c.tell_changes.new.keep.kept c.self.inside.rows.entries c.plug.new.self.entries
-    c.in_ok-difference.difference.gone_boards c.in_ok-difference.difference.new_boards order order_then differs keep c.self.inside.inventory
-    c.self.invariant.stock.items c.self.invariant.stock.holds c.with-after.result is c.args.boxed.value among apart c.in_ok-items.items.inventory
-    c.in_ok-items.ensures.listed)
-    c.in_ok-items.ensures.tells c.tell_items.ensures.items in
+    c.in-Ok.ensures.0) (ap limit_of c.in-Ok.ensures.0 ∙ c.in-Ok.ensures.1) refl
+    (told_of c.self.inside.stock.items c.in_ok-items.items c.stage_items.new.stock.staged _ staged c.in_ok-items.ensures.tells) c.tell_items.ensures.items in
     let set = set_after (PlugEvent (row_of c.deref-entry.result.now)) c.self.inside.set c.prepare_plug.new.self c.commit.new.self c.in_ok-next.ensures.ok
     c.commit.ensures in
     record {
@@ -253,8 +297,8 @@ invariant_of-self-2 g c =
           order (ap is_idle c.deref-entry.ensures ∙ c.requires.busy)
           (now ∙ ap (λ (entry : Entry). with_entry entry c.self.inside.rows.entries) (sym c.deref-entry.ensures));
       none = refl;
-      stock = subst (IsStocked c.self.inside.shelf c.plug.new.self.entries c.tell_changes.new.keep.kept c.in-Ok.totals) (sym c.take_items.ensures)
-          next.stocked;
+      stock = subst (IsStocked c.self.inside.shelf c.plug.new.self.entries c.tell_changes.new.keep.kept c.in-Ok.totals) (sym
+          (stock_is c.stage_items.new.stock.staged _ c.commit-2.new.self.items staged c.commit-2.ensures.items)) next.stocked;
       room = omega (arith, c.self.invariant.room, c.stage_changes.ensures.more, c.tell_changes.ensures.capacity, c.tell_items.ensures.capacity);
     }
 
@@ -296,25 +340,21 @@ returns-clause-ok g c =
     c.in_ok-difference.ensures in
     let tells = tells_those c.self.inside.shelf c.in_ok-difference.difference.gone_boards c.in_ok-difference.difference.new_boards c.in_ok-gone.gone
     c.stage_changes.new.keep.staged _ _ _ c.in_ok-gone.ensures.gone c.in_ok-gone.ensures.staged c.tell_changes.ensures.told in
-    let keep = keeps old new c.in_ok-difference.difference.gone_boards c.in_ok-difference.difference.new_boards c.stage_changes.new.keep.kept
-    c.tell_changes.new.keep.kept c.tell_changes.new.changes.items differs c.stage_changes.ensures.kept tells refl in
     let order_then = ap are_by_place now ∙ order_now in
     let among = plug_among c.args.boxed.value (busy c.self.inside.rows.entries) (busy c.self.inside.rows.entries) (busy c.plug.new.self.entries) refl
     (ap busy now ∙ sym (busy_with c.args.boxed.value c.self.inside.rows.entries order c.requires.busy)) in
     let apart = busy_apart c.args.boxed.value c.self.inside.rows.entries (free_apart c.args.boxed.value c.self.inside.rows.entries free) in
-    let next : IsNext old new c.in-Ok.totals (items_behind c.in_ok-items.items.inventory c.self.inside.inventory)
-    c.in_ok-items.items.gone c.in_ok-items.items.new =
+    let continue = plug_continues c.self.inside.shelf c.self.inside.keep.kept c.self.inside.rows.entries c.plug.new.self.entries c.in_ok-difference.difference
+    order order_then differs c.self.inside.totals c.self.inside.stock.items c.self.invariant.stock c.with-after.result is c.args.boxed.value among apart in
+    let staged = c.in_ok-items.ensures.staged _ continue in
+    let next : IsNext old new c.in-Ok.totals _ c.in_ok-items.items.gone c.in_ok-items.items.new =
     taken_over old new [] c.in_ok-difference.difference.gone_boards c.in_ok-difference.difference.new_boards c.stage_changes.new.keep.kept
-    c.tell_changes.new.keep.kept c.tell_changes.new.changes.items c.self.inside.totals c.in-Ok.totals c.self.inside.inventory c.in_ok-items.items
+    c.tell_changes.new.keep.kept c.tell_changes.new.changes.items c.self.inside.totals c.in-Ok.totals c.self.inside.stock.items _ c.in_ok-items.items
     (sym (append-nil c.self.inside.shelf)) c.self.invariant.stock differs c.stage_changes.ensures.kept tells refl
     (counted_then c.self.inside.shelf c.self.inside.rows.entries c.plug.new.self.entries c.in_ok-difference.difference.gone_boards
     c.in_ok-difference.difference.new_boards c.self.inside.totals c.in-Ok.totals order order_then differs c.self.invariant.stock.counted
-    c.in-Ok.ensures.0) (ap limit_of c.in-Ok.ensures.0 ∙ c.in-Ok.ensures.1)
-    (items_plugged c.self.inside.shelf c.self.inside.keep.kept c.tell_changes.new.keep.kept c.self.inside.rows.entries c.plug.new.self.entries
-    c.in_ok-difference.difference.gone_boards c.in_ok-difference.difference.new_boards order order_then differs keep c.self.inside.inventory
-    c.self.invariant.stock.items c.self.invariant.stock.holds c.with-after.result is c.args.boxed.value among apart c.in_ok-items.items.inventory
-    c.in_ok-items.ensures.listed)
-    c.in_ok-items.ensures.tells c.tell_items.ensures.items in
+    c.in-Ok.ensures.0) (ap limit_of c.in-Ok.ensures.0 ∙ c.in-Ok.ensures.1) refl
+    (told_of c.self.inside.stock.items c.in_ok-items.items c.stage_items.new.stock.staged _ staged c.in_ok-items.ensures.tells) c.tell_items.ensures.items in
     let follows = settles old new c.in_ok-items.items.gone c.in_ok-items.items.new c.args.sensors.now c.stage_changes.new.sensors c.settle_sensors.new.sensors
     next.goes next.comes c.stage_changes.ensures.sensors c.settle_sensors.ensures in
     subst (λ (view : WatchView). AddsFru c.args.boxed.value.place c.args.boxed.value.fru view new
@@ -324,8 +364,44 @@ returns-clause-ok g c =
         entries = now ∙ ap (λ (entry : Entry). with_entry entry c.self.inside.rows.entries)
             (c.requires.known ∙ ap (λ (view : WatchView). entry_of view.configs c.args.boxed.value.place c.args.boxed.value.fru) (sym c.self.view_is));
         plugged = refl;
-        fits = no_refusal new.configs new.entries new.kept c.in-Ok.totals (items_behind c.in_ok-items.items.inventory c.self.inside.inventory) next.stocked;
+        fits = no_refusal new.configs new.entries new.kept c.in-Ok.totals _ next.stocked;
         moves = next.moves;
       },
       follows,
     )
+
+-- ---- the work
+
+pub returns-in_err-reserve-clause-counted : goal.returns-in_err-reserve-clause-counted
+returns-in_err-reserve-clause-counted g c =
+    none_within c.args.steps.now (most_evals c.args.self.now.configs)
+
+pub returns-in_err-next-clause-counted : goal.returns-in_err-next-clause-counted
+returns-in_err-next-clause-counted g c =
+    within_rules (PlugEvent (row_of c.deref-entry.result.now)) c.args.steps.now c.prepare_plug.new.steps c.self.inside.set.rules c.self.inside.set.rows
+    c.args.self.now.configs (c.self.invariant.rules ∙ ap (λ (view : WatchView). rules_of view.configs) c.self.view_is) c.in_err-next.ensures.counted
+
+pub returns-in_err-difference-clause-counted : goal.returns-in_err-difference-clause-counted
+returns-in_err-difference-clause-counted g c =
+    within_rules (PlugEvent (row_of c.deref-entry.result.now)) c.args.steps.now c.prepare_plug.new.steps c.self.inside.set.rules c.self.inside.set.rows
+    c.args.self.now.configs (c.self.invariant.rules ∙ ap (λ (view : WatchView). rules_of view.configs) c.self.view_is) c.in_ok-next.ensures.counted
+
+pub returns-in-Err-clause-counted : goal.returns-in-Err-clause-counted
+returns-in-Err-clause-counted g c =
+    within_rules (PlugEvent (row_of c.deref-entry.result.now)) c.args.steps.now c.prepare_plug.new.steps c.self.inside.set.rules c.self.inside.set.rows
+    c.args.self.now.configs (c.self.invariant.rules ∙ ap (λ (view : WatchView). rules_of view.configs) c.self.view_is) c.in_ok-next.ensures.counted
+
+pub returns-in_err-items-clause-counted : goal.returns-in_err-items-clause-counted
+returns-in_err-items-clause-counted g c =
+    within_rules (PlugEvent (row_of c.deref-entry.result.now)) c.args.steps.now c.prepare_plug.new.steps c.self.inside.set.rules c.self.inside.set.rows
+    c.args.self.now.configs (c.self.invariant.rules ∙ ap (λ (view : WatchView). rules_of view.configs) c.self.view_is) c.in_ok-next.ensures.counted
+
+pub returns-in_err-gone-clause-counted : goal.returns-in_err-gone-clause-counted
+returns-in_err-gone-clause-counted g c =
+    within_rules (PlugEvent (row_of c.deref-entry.result.now)) c.args.steps.now c.prepare_plug.new.steps c.self.inside.set.rules c.self.inside.set.rows
+    c.args.self.now.configs (c.self.invariant.rules ∙ ap (λ (view : WatchView). rules_of view.configs) c.self.view_is) c.in_ok-next.ensures.counted
+
+pub returns-clause-counted : goal.returns-clause-counted
+returns-clause-counted g c =
+    within_rules (PlugEvent (row_of c.deref-entry.result.now)) c.args.steps.now c.prepare_plug.new.steps c.self.inside.set.rules c.self.inside.set.rows
+    c.args.self.now.configs (c.self.invariant.rules ∙ ap (λ (view : WatchView). rules_of view.configs) c.self.view_is) c.in_ok-next.ensures.counted

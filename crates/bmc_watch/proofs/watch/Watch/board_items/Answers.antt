@@ -1,5 +1,5 @@
 -- FRUs that are idle have no boards.
-use Rattle.std.proofs.Common.{◌≡◌, ◌∙◌, List, ap}
+use Rattle.std.proofs.Common.{◌∙◌, List, ap}
 use Rattle.probe_lang.specs.declared.rows.Entry.{Entry}
 use Rattle.fru_rows.specs.Idle.{busy}
 use Rattle.inventory.specs.Items.{entry_fields, board_items}

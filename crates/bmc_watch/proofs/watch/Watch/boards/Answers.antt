@@ -1,10 +1,6 @@
 -- All boards are kept.
-use Rattle.std.proofs.Common.{◌≡◌, ◌∙◌, List, ap}
-use Rattle.found_set.specs.Found.{facts}
-use Rattle.found_set.specs.Rows.{sights_of}
-use Rattle.found_set.specs.Sets.{SetView}
-use Rattle.inventory.specs.declared.board.Board.{Board}
-use Rattle.bmc_watch.specs.Watches.{WatchView, view_list}
+use Rattle.std.proofs.Common.{◌∙◌, ap}
+use Rattle.bmc_watch.specs.Watches.{view_list}
 use Rattle.bmc_watch.proofs.EventsLemmas.{if_ok_more, seen}
 use Rattle.bmc_watch.proofs.ListedLemmas.{found_of, reach_of, boards_listed}
 use Rattle.bmc_watch.proofs.watch.Watch.boards.Goals as goal

@@ -7,6 +7,7 @@ use Rattle.found_set.specs.Rows.{sights_of}
 use Rattle.found_set.specs.Events.{UnplugEvent}
 use Rattle.found_set.specs.Sets.{SetView}
 use Rattle.found_set.specs.declared.next_facts.NextFacts.{NextFacts}
+use Rattle.inventory.specs.Boards.{rules_of}
 use Rattle.inventory.specs.Indexes.{kept_of}
 use Rattle.bmc_watch.specs.Settling.{Settles}
 use Rattle.bmc_watch.specs.Watches.{WatchView}
@@ -19,10 +20,9 @@ use Rattle.probe_lang.specs.declared.rows.Entry.{Entry}
 use Rattle.match_rows.proofs.RowsLemmas.{without_entry_by_place}
 use Rattle.inventory.specs.Limits.{limit_of, totals_after}
 use Rattle.bmc_watch.specs.Insides.{IsStocked}
-use Rattle.bmc_watch.specs.ItemSteps.{items_behind}
 use Rattle.bmc_watch.proofs.ItemsLemmas.{gone_apart}
-use Rattle.bmc_watch.proofs.KeysLemmas.{keeps}
-use Rattle.bmc_watch.proofs.StockLemmas.{IsNext, counted_then, items_unplugged, none_passed, stocked_kept, settles, taken_over}
+use Rattle.bmc_watch.proofs.StockLemmas.{IsNext, counted_then, items_with, none_passed, stock_is, stocked_kept, settles, taken_over, told_of, unplug_continues}
+use Rattle.bmc_watch.proofs.CountingLemmas.{within_rules}
 use Rattle.bmc_watch.proofs.watch.Watch.remove_busy.Goals as goal
 
 pub prepare_unplug-requires : goal.prepare_unplug-requires
@@ -41,15 +41,59 @@ difference_by-requires g c =
     (c.of-before.ensures.entries ∙ c.busy.ensures.value)
     (c.without-after.ensures.entries ∙ ap (without_entry c.args.place) c.busy-2.ensures.value))
 
+-- ---- the items
+
+pub stage_items-requires : goal.stage_items-requires
+stage_items-requires g c =
+    let order : are_by_place c.self.inside.rows.entries ≡ true = c.in-Some.ensures.order in
+    let was = seen c.self.inside.shelf c.self.inside.rows.entries c.of-before.result c.self.inside.set.rules c.self.inside.set.rows
+    (c.of-before.ensures.facts ∙ c.facts.ensures.current ∙ ap (λ (set : SetView). facts set.rules (sights_of set.rows)) c.in_ok-next.ensures.ok)
+    c.self.invariant.rules c.self.invariant.rows (c.of-before.ensures.entries ∙ c.busy.ensures.value) in
+    let is = seen c.self.inside.shelf (without_entry c.args.place c.self.inside.rows.entries) c.without-after.result c.self.inside.set.rules _
+    (c.without-after.ensures.facts ∙ c.facts-2.ensures ∙ ap (λ (next : NextFacts). next.facts) c.in_ok-next.ensures.next) c.self.invariant.rules
+    (rows_unplugged c.self.inside.set.rows c.self.inside.rows.entries (without_entry c.args.place c.self.inside.rows.entries) c.args.place
+    c.self.invariant.rows refl)
+    (c.without-after.ensures.entries ∙ ap (without_entry c.args.place) c.busy-2.ensures.value
+    ∙ busy_without c.args.place c.self.inside.rows.entries) in
+    let differs = difference_is c.self.inside.shelf c.self.inside.shelf c.of-before.result c.without-after.result c.self.inside.rows.entries
+    (without_entry c.args.place c.self.inside.rows.entries) c.in_ok-difference.difference.gone_boards c.in_ok-difference.difference.new_boards was is
+    c.in_ok-difference.ensures in
+    let works = busy_at (find (is_entry_at c.args.place) c.args.self.now.entries) c.in-Some.entry.now
+    (c.in-Some.ensures.value ∙ ap (λ (view : WatchView). find (is_entry_at c.args.place) view.entries) c.self.view_is) c.requires in
+    let found = busy_found c.args.place c.in-Some.entry.now c.self.inside.rows.entries (sym c.in-Some.ensures.value) works in
+    let left = sym (busy_without c.args.place c.self.inside.rows.entries) in
+    let among = unplug_among c.args.place c.in-Some.entry.now (busy c.self.inside.rows.entries) (busy c.self.inside.rows.entries)
+    (busy (without_entry c.args.place c.self.inside.rows.entries)) (ap are_by_place (sym c.busy.ensures.value) ∙ c.busy.ensures.order) found refl left in
+    let apart = subst (AllByRecursion (λ (each : Entry). is_entry_at each.place c.in-Some.entry.now ≡ false)) (sym left)
+    (gone_apart c.args.place c.in-Some.entry.now (busy c.self.inside.rows.entries) found) in (
+      items_with c.self.inside.shelf c.self.inside.keep.kept c.in_ok-difference.difference.new_boards
+          (without_entry c.args.place c.self.inside.rows.entries),
+      unplug_continues c.self.inside.shelf c.self.inside.keep.kept c.self.inside.rows.entries (without_entry c.args.place c.self.inside.rows.entries)
+          c.in_ok-difference.difference order (without_entry_by_place c.args.place c.self.inside.rows.entries order) differs c.self.inside.totals
+          c.self.inside.stock.items c.self.invariant.stock c.without-after.result is c.in-Some.entry.now among apart,
+    )
+
 -- ---- want of memory
+
+pub invariant_of-self-in_err-items : goal.invariant_of-self-in_err-items
+invariant_of-self-in_err-items g c = record {
+  rules = ap (λ (set : SetView). set.rules) c.in_ok-next.ensures.ok ∙ c.self.invariant.rules;
+  rows = ap (λ (set : SetView). set.rows) c.in_ok-next.ensures.ok ∙ c.self.invariant.rows;
+  none = c.self.invariant.none;
+  stock = subst (IsStocked c.self.inside.shelf c.self.inside.rows.entries c.self.inside.keep.kept c.self.inside.totals) (sym c.stage_items.ensures.items)
+      c.self.invariant.stock;
+  room = c.self.invariant.room;
+}
 
 pub invariant_of-self-in_err-gone : goal.invariant_of-self-in_err-gone
 invariant_of-self-in_err-gone g c = record {
   rules = ap (λ (set : SetView). set.rules) c.in_ok-next.ensures.ok ∙ c.self.invariant.rules;
   rows = ap (λ (set : SetView). set.rows) c.in_ok-next.ensures.ok ∙ c.self.invariant.rows;
   none = c.self.invariant.none;
-  stock = stocked_kept c.self.inside.shelf c.self.inside.rows.entries c.self.inside.keep.kept c.stage_changes.new.keep.kept c.self.inside.totals
-      c.self.inside.inventory c.stage_changes.ensures.kept c.self.invariant.stock;
+  stock = subst (IsStocked c.self.inside.shelf c.self.inside.rows.entries c.stage_changes.new.keep.kept c.self.inside.totals)
+      (sym c.stage_items.ensures.items)
+      (stocked_kept c.self.inside.shelf c.self.inside.rows.entries c.self.inside.keep.kept c.stage_changes.new.keep.kept c.self.inside.totals
+      c.self.inside.stock.items c.stage_changes.ensures.kept c.self.invariant.stock);
   room = omega (arith, c.self.invariant.room, c.stage_changes.ensures.more);
 }
 
@@ -144,8 +188,6 @@ invariant_of-self-2 g c =
     c.in_ok-difference.ensures in
     let tells = tells_those c.self.inside.shelf c.in_ok-difference.difference.gone_boards c.in_ok-difference.difference.new_boards c.in_ok-gone.gone
     c.stage_changes.new.keep.staged _ _ _ c.in_ok-gone.ensures.gone c.in_ok-gone.ensures.staged c.tell_changes.ensures.told in
-    let keep = keeps old new c.in_ok-difference.difference.gone_boards c.in_ok-difference.difference.new_boards c.stage_changes.new.keep.kept
-    c.tell_changes.new.keep.kept c.tell_changes.new.changes.items differs c.stage_changes.ensures.kept tells refl in
     let order_then = ap are_by_place c.unplug.ensures.entries ∙ without_entry_by_place c.args.place c.self.inside.rows.entries order in
     let works = busy_at (find (is_entry_at c.args.place) c.args.self.now.entries) c.in-Some.entry.now
     (c.in-Some.ensures.value ∙ ap (λ (view : WatchView). find (is_entry_at c.args.place) view.entries) c.self.view_is) c.requires in
@@ -156,19 +198,18 @@ invariant_of-self-2 g c =
     (busy c.unplug.new.self.entries) (ap are_by_place (sym c.busy.ensures.value) ∙ c.busy.ensures.order) found refl left in
     let apart = subst (AllByRecursion (λ (each : Entry). is_entry_at each.place c.in-Some.entry.now ≡ false)) (sym left)
     (gone_apart c.args.place c.in-Some.entry.now (busy c.self.inside.rows.entries) found) in
-    let next : IsNext old new c.in-Ok.totals (items_behind c.in_ok-items.items.inventory c.self.inside.inventory)
-    c.in_ok-items.items.gone c.in_ok-items.items.new =
+    let continue = unplug_continues c.self.inside.shelf c.self.inside.keep.kept c.self.inside.rows.entries c.unplug.new.self.entries
+    c.in_ok-difference.difference order order_then differs c.self.inside.totals c.self.inside.stock.items c.self.invariant.stock c.without-after.result is
+    c.in-Some.entry.now among apart in
+    let staged = c.in_ok-items.ensures.staged _ continue in
+    let next : IsNext old new c.in-Ok.totals _ c.in_ok-items.items.gone c.in_ok-items.items.new =
     taken_over old new [] c.in_ok-difference.difference.gone_boards c.in_ok-difference.difference.new_boards c.stage_changes.new.keep.kept
-    c.tell_changes.new.keep.kept c.tell_changes.new.changes.items c.self.inside.totals c.in-Ok.totals c.self.inside.inventory c.in_ok-items.items
+    c.tell_changes.new.keep.kept c.tell_changes.new.changes.items c.self.inside.totals c.in-Ok.totals c.self.inside.stock.items _ c.in_ok-items.items
     (sym (append-nil c.self.inside.shelf)) c.self.invariant.stock differs c.stage_changes.ensures.kept tells refl
     (counted_then c.self.inside.shelf c.self.inside.rows.entries c.unplug.new.self.entries c.in_ok-difference.difference.gone_boards
     c.in_ok-difference.difference.new_boards c.self.inside.totals c.in-Ok.totals order order_then differs c.self.invariant.stock.counted
-    c.in-Ok.ensures.0) (ap limit_of c.in-Ok.ensures.0 ∙ c.in-Ok.ensures.1)
-    (items_unplugged c.self.inside.shelf c.self.inside.keep.kept c.tell_changes.new.keep.kept c.self.inside.rows.entries c.unplug.new.self.entries
-    c.in_ok-difference.difference.gone_boards c.in_ok-difference.difference.new_boards order order_then differs keep c.self.inside.inventory
-    c.self.invariant.stock.items c.self.invariant.stock.holds c.without-after.result is c.in-Some.entry.now among apart
-    c.in_ok-items.items.inventory c.in_ok-items.ensures.listed)
-    c.in_ok-items.ensures.tells c.tell_items.ensures.items in
+    c.in-Ok.ensures.0) (ap limit_of c.in-Ok.ensures.0 ∙ c.in-Ok.ensures.1) refl
+    (told_of c.self.inside.stock.items c.in_ok-items.items c.stage_items.new.stock.staged _ staged c.in_ok-items.ensures.tells) c.tell_items.ensures.items in
     let set = set_after (UnplugEvent c.args.place) c.self.inside.set c.prepare_unplug.new.self c.commit.new.self c.in_ok-next.ensures.ok c.commit.ensures in
     record {
       rules = set.0 ∙ c.self.invariant.rules;
@@ -176,8 +217,8 @@ invariant_of-self-2 g c =
           c.unplug.ensures.entries;
       none = none_left c.self.inside.plugged c.self.inside.rows.entries c.unplug.new.self.entries c.args.place c.self.invariant.none
           c.unplug.ensures.entries;
-      stock = subst (IsStocked c.self.inside.shelf c.unplug.new.self.entries c.tell_changes.new.keep.kept c.in-Ok.totals) (sym c.take_items.ensures)
-          next.stocked;
+      stock = subst (IsStocked c.self.inside.shelf c.unplug.new.self.entries c.tell_changes.new.keep.kept c.in-Ok.totals) (sym
+          (stock_is c.stage_items.new.stock.staged _ c.commit-2.new.self.items staged c.commit-2.ensures.items)) next.stocked;
       room = omega (arith, c.self.invariant.room, c.stage_changes.ensures.more, c.tell_changes.ensures.capacity, c.tell_items.ensures.capacity);
     }
 
@@ -212,8 +253,6 @@ returns-clause-ok g c =
     c.in_ok-difference.ensures in
     let tells = tells_those c.self.inside.shelf c.in_ok-difference.difference.gone_boards c.in_ok-difference.difference.new_boards c.in_ok-gone.gone
     c.stage_changes.new.keep.staged _ _ _ c.in_ok-gone.ensures.gone c.in_ok-gone.ensures.staged c.tell_changes.ensures.told in
-    let keep = keeps old new c.in_ok-difference.difference.gone_boards c.in_ok-difference.difference.new_boards c.stage_changes.new.keep.kept
-    c.tell_changes.new.keep.kept c.tell_changes.new.changes.items differs c.stage_changes.ensures.kept tells refl in
     let order_then = ap are_by_place c.unplug.ensures.entries ∙ without_entry_by_place c.args.place c.self.inside.rows.entries order in
     let works = busy_at (find (is_entry_at c.args.place) c.args.self.now.entries) c.in-Some.entry.now
     (c.in-Some.ensures.value ∙ ap (λ (view : WatchView). find (is_entry_at c.args.place) view.entries) c.self.view_is) c.requires in
@@ -224,19 +263,18 @@ returns-clause-ok g c =
     (busy c.unplug.new.self.entries) (ap are_by_place (sym c.busy.ensures.value) ∙ c.busy.ensures.order) found refl left in
     let apart = subst (AllByRecursion (λ (each : Entry). is_entry_at each.place c.in-Some.entry.now ≡ false)) (sym left)
     (gone_apart c.args.place c.in-Some.entry.now (busy c.self.inside.rows.entries) found) in
-    let next : IsNext old new c.in-Ok.totals (items_behind c.in_ok-items.items.inventory c.self.inside.inventory)
-    c.in_ok-items.items.gone c.in_ok-items.items.new =
+    let continue = unplug_continues c.self.inside.shelf c.self.inside.keep.kept c.self.inside.rows.entries c.unplug.new.self.entries
+    c.in_ok-difference.difference order order_then differs c.self.inside.totals c.self.inside.stock.items c.self.invariant.stock c.without-after.result is
+    c.in-Some.entry.now among apart in
+    let staged = c.in_ok-items.ensures.staged _ continue in
+    let next : IsNext old new c.in-Ok.totals _ c.in_ok-items.items.gone c.in_ok-items.items.new =
     taken_over old new [] c.in_ok-difference.difference.gone_boards c.in_ok-difference.difference.new_boards c.stage_changes.new.keep.kept
-    c.tell_changes.new.keep.kept c.tell_changes.new.changes.items c.self.inside.totals c.in-Ok.totals c.self.inside.inventory c.in_ok-items.items
+    c.tell_changes.new.keep.kept c.tell_changes.new.changes.items c.self.inside.totals c.in-Ok.totals c.self.inside.stock.items _ c.in_ok-items.items
     (sym (append-nil c.self.inside.shelf)) c.self.invariant.stock differs c.stage_changes.ensures.kept tells refl
     (counted_then c.self.inside.shelf c.self.inside.rows.entries c.unplug.new.self.entries c.in_ok-difference.difference.gone_boards
     c.in_ok-difference.difference.new_boards c.self.inside.totals c.in-Ok.totals order order_then differs c.self.invariant.stock.counted
-    c.in-Ok.ensures.0) (ap limit_of c.in-Ok.ensures.0 ∙ c.in-Ok.ensures.1)
-    (items_unplugged c.self.inside.shelf c.self.inside.keep.kept c.tell_changes.new.keep.kept c.self.inside.rows.entries c.unplug.new.self.entries
-    c.in_ok-difference.difference.gone_boards c.in_ok-difference.difference.new_boards order order_then differs keep c.self.inside.inventory
-    c.self.invariant.stock.items c.self.invariant.stock.holds c.without-after.result is c.in-Some.entry.now among apart
-    c.in_ok-items.items.inventory c.in_ok-items.ensures.listed)
-    c.in_ok-items.ensures.tells c.tell_items.ensures.items in
+    c.in-Ok.ensures.0) (ap limit_of c.in-Ok.ensures.0 ∙ c.in-Ok.ensures.1) refl
+    (told_of c.self.inside.stock.items c.in_ok-items.items c.stage_items.new.stock.staged _ staged c.in_ok-items.ensures.tells) c.tell_items.ensures.items in
     let follows = settles old new c.in_ok-items.items.gone c.in_ok-items.items.new c.args.sensors.now c.stage_changes.new.sensors c.settle_sensors.new.sensors
     next.goes next.comes c.stage_changes.ensures.sensors c.settle_sensors.ensures in
     subst (λ (view : WatchView). RemovesFru c.args.place view new × Settles view new c.args.sensors.now c.settle_sensors.new.sensors) c.self.view_is (
@@ -273,8 +311,35 @@ unreachable-requires-in-Err g c =
     c.in_ok-difference.ensures in
     let totals = totals_after c.self.inside.shelf c.self.inside.totals c.in_ok-difference.difference.gone_boards
     c.in_ok-difference.difference.new_boards in
-    none_passed c.self.inside.shelf c.self.inside.rows.entries c.self.inside.keep.kept c.self.inside.totals totals c.self.inside.inventory c.args.place
+    none_passed c.self.inside.shelf c.self.inside.rows.entries c.self.inside.keep.kept c.self.inside.totals totals c.self.inside.stock.items c.args.place
     c.in-Err.field-0 c.self.invariant.stock
     (counted_then c.self.inside.shelf c.self.inside.rows.entries (without_entry c.args.place c.self.inside.rows.entries)
     c.in_ok-difference.difference.gone_boards c.in_ok-difference.difference.new_boards c.self.inside.totals totals order
     (without_entry_by_place c.args.place c.self.inside.rows.entries order) differs c.self.invariant.stock.counted refl) c.in-Err.ensures
+
+-- ---- the work
+
+pub returns-in_err-next-clause-counted : goal.returns-in_err-next-clause-counted
+returns-in_err-next-clause-counted g c =
+    within_rules (UnplugEvent c.args.place) c.args.steps.now c.prepare_unplug.new.steps c.self.inside.set.rules c.self.inside.set.rows
+    c.args.self.now.configs (c.self.invariant.rules ∙ ap (λ (view : WatchView). rules_of view.configs) c.self.view_is) c.in_err-next.ensures.counted
+
+pub returns-in_err-difference-clause-counted : goal.returns-in_err-difference-clause-counted
+returns-in_err-difference-clause-counted g c =
+    within_rules (UnplugEvent c.args.place) c.args.steps.now c.prepare_unplug.new.steps c.self.inside.set.rules c.self.inside.set.rows
+    c.args.self.now.configs (c.self.invariant.rules ∙ ap (λ (view : WatchView). rules_of view.configs) c.self.view_is) c.in_ok-next.ensures.counted
+
+pub returns-in_err-items-clause-counted : goal.returns-in_err-items-clause-counted
+returns-in_err-items-clause-counted g c =
+    within_rules (UnplugEvent c.args.place) c.args.steps.now c.prepare_unplug.new.steps c.self.inside.set.rules c.self.inside.set.rows
+    c.args.self.now.configs (c.self.invariant.rules ∙ ap (λ (view : WatchView). rules_of view.configs) c.self.view_is) c.in_ok-next.ensures.counted
+
+pub returns-in_err-gone-clause-counted : goal.returns-in_err-gone-clause-counted
+returns-in_err-gone-clause-counted g c =
+    within_rules (UnplugEvent c.args.place) c.args.steps.now c.prepare_unplug.new.steps c.self.inside.set.rules c.self.inside.set.rows
+    c.args.self.now.configs (c.self.invariant.rules ∙ ap (λ (view : WatchView). rules_of view.configs) c.self.view_is) c.in_ok-next.ensures.counted
+
+pub returns-clause-counted : goal.returns-clause-counted
+returns-clause-counted g c =
+    within_rules (UnplugEvent c.args.place) c.args.steps.now c.prepare_unplug.new.steps c.self.inside.set.rules c.self.inside.set.rows
+    c.args.self.now.configs (c.self.invariant.rules ∙ ap (λ (view : WatchView). rules_of view.configs) c.self.view_is) c.in_ok-next.ensures.counted

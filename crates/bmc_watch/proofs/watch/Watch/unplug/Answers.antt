@@ -1,6 +1,7 @@
 use Rattle.std.proofs.Common.{arith, ◌∙◌, ℕ, map, Option, None, refl, ap, sym, subst}
 use Rattle.probe_lang.specs.Presents.{holds_place}
 use Rattle.found_set.specs.Rows.{row_of}
+use Rattle.found_set.proofs.EventsLemmas.{none_within}
 use Rattle.bmc_report.specs.declared.refusal.Refusal.{Refusal}
 use Rattle.bmc_machine.specs.Histories.{Unplug}
 use Rattle.bmc_watch.specs.Settling.{Settles, SettlesUnless}
@@ -12,6 +13,7 @@ use Rattle.bmc_watch.proofs.IdleLemmas.{idle_boards, idle_moves, idle_settles}
 use Rattle.bmc_watch.proofs.EventsLemmas.{unplug_among}
 use Rattle.bmc_watch.proofs.EventsLemmas.{none_left}
 use Rattle.bmc_watch.proofs.StockLemmas.{idle_stocked}
+use Rattle.bmc_watch.specs.Counting.{most_evals}
 use Rattle.bmc_watch.proofs.watch.Watch.unplug.Goals as goal
 
 pub returns-in_default-clause-tried : goal.returns-in_default-clause-tried
@@ -45,7 +47,7 @@ invariant_of-self g c =
       rows = c.self.invariant.rows ∙ ap (map row_of) works;
       none = none_left c.self.inside.plugged c.self.inside.rows.entries c.unplug.new.self.entries c.args.place c.self.invariant.none c.unplug.ensures.entries;
       stock = idle_stocked c.self.inside.shelf c.self.inside.rows.entries c.unplug.new.self.entries c.self.inside.keep.kept c.self.inside.totals
-          c.self.inside.inventory (sym works) same c.self.invariant.stock;
+          c.self.inside.stock.items (sym works) same c.self.invariant.stock;
       room = omega (arith, c.self.invariant.room, c.clear.ensures.capacity);
     }
 
@@ -80,3 +82,13 @@ returns-then-is_idle-clause-tried g c =
       }),
       idle_settles old new c.args.sensors.now refl (sym works) same refl,
     )
+
+-- ---- the work
+
+pub returns-in_default-clause-counted : goal.returns-in_default-clause-counted
+returns-in_default-clause-counted g c =
+    none_within c.args.steps.now (most_evals c.args.self.now.configs)
+
+pub returns-then-is_idle-clause-counted : goal.returns-then-is_idle-clause-counted
+returns-then-is_idle-clause-counted g c =
+    none_within c.args.steps.now (most_evals c.args.self.now.configs)

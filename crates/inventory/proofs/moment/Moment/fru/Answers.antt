@@ -1,4 +1,4 @@
-use Rattle.std.proofs.Common.{◌≡◌, ◌∙◌, None, Some, sym, ap, option_map}
+use Rattle.std.proofs.Common.{◌∙◌, None, Some, sym, ap, option_map}
 use Rattle.probe_lang.specs.Presents.{unboxed}
 use Rattle.inventory.specs.Differences.{Moment}
 use Rattle.inventory.specs.Items.{entry_fields}

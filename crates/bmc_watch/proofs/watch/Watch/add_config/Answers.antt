@@ -1,0 +1,438 @@
+use Rattle.std.proofs.Common.{arith, ◌≡◌, ◌∙◌, List, [], ◌∷◌, ◌++◌, map, length, Option, Some, None, refl, ap, sym, subst, subst₂}
+use Rattle.std.proofs.lemmas.Bool.{lt-leb}
+use Rattle.std.proofs.lemmas.List.{length-append}
+use Rattle.cfg_json.specs.Shelves.{most_configs, number_of}
+use Rattle.probe_lang.specs.Sights.{entry_sight}
+use Rattle.cfg_json.specs.Configs.{Config}
+use Rattle.found_set.specs.Found.{rule_of, facts}
+use Rattle.found_set.specs.Events.{ConfigEvent}
+use Rattle.found_set.proofs.EventsLemmas.{none_within}
+use Rattle.found_set.specs.Rows.{sights_of}
+use Rattle.found_set.specs.Sets.{SetView}
+use Rattle.found_set.specs.declared.next_facts.NextFacts.{NextFacts}
+use Rattle.inventory.specs.Boards.{rules_of, boards_in}
+use Rattle.inventory.specs.Indexes.{kept_of}
+use Rattle.inventory.specs.Limits.{limit_of, totals_after, totals_of}
+use Rattle.inventory.specs.Lists.{keys_of}
+use Rattle.cfg_json.specs.declared.item.Item.{Item}
+use Rattle.bmc_report.specs.declared.refusal.Refusal.{Refusal}
+use Rattle.bmc_machine.specs.Histories.{Configure}
+use Rattle.bmc_watch.specs.Insides.{IsStocked}
+use Rattle.bmc_watch.specs.Settling.{Settles, SettlesUnless}
+use Rattle.bmc_watch.specs.Watches.{WatchView}
+use Rattle.bmc_watch.specs.Changes.{IsDifference, AreWithin}
+use Rattle.bmc_watch.specs.Steps.{Tries}
+use Rattle.bmc_watch.proofs.StepsLemmas.{configured, config_over_limit}
+use Rattle.bmc_watch.proofs.EventsLemmas.{on_err, not_ok, new_name, rules_more, seen, difference_is, gone_within, within_more, staged_within}
+use Rattle.bmc_watch.proofs.EventsLemmas.{tells_those, set_after, no_entries}
+use Rattle.bmc_watch.proofs.GrowthLemmas.{config_continues, config_counted}
+use Rattle.bmc_watch.proofs.StockLemmas.{IsNext, items_with, limit_named, no_refusal, stock_is, stocked_kept, settles, taken_over, told_by}
+use Rattle.bmc_watch.specs.Counting.{most_evals}
+use Rattle.bmc_watch.proofs.CountingLemmas.{within_rules}
+use Rattle.bmc_watch.proofs.watch.Watch.add_config.Goals as goal
+
+pub prepare_config-requires-clause-new : goal.prepare_config-requires-clause-new
+prepare_config-requires-clause-new g c =
+    new_name c.self.inside.set.rules c.self.inside.shelf c.name.result c.args.config c.self.invariant.rules c.name.ensures
+    (ap (λ (view : WatchView). number_of view.configs c.args.config.name) c.self.view_is ∙ c.requires.new)
+
+pub add-requires-clause-new : goal.add-requires-clause-new
+add-requires-clause-new g c =
+    ap (λ (view : WatchView). number_of view.configs c.args.config.name) c.self.view_is ∙ c.requires.new
+
+pub add-requires-clause-few : goal.add-requires-clause-few
+add-requires-clause-few g c = omega (arith, c.requires.few, ap (λ (view : WatchView). length view.configs) c.self.view_is)
+
+pub prepare-requires-clause-few : goal.prepare-requires-clause-few
+prepare-requires-clause-few g c =
+    omega (arith, c.requires.few, ap (λ (view : WatchView). length view.configs) c.self.view_is, length-append c.self.inside.shelf (c.args.config ∷ []))
+
+-- ---- a limit
+
+pub returns-in-Err-clause-tried : goal.returns-in-Err-clause-tried
+returns-in-Err-clause-tried g c =
+    let old : WatchView = record {
+      configs = c.self.inside.shelf;
+      entries = c.self.inside.rows.entries;
+      plugged = c.self.inside.plugged;
+      kept = c.self.inside.keep.kept;
+      changes = c.self.inside.changes.items;
+    } in
+    let was = seen c.self.inside.shelf c.self.inside.rows.entries c.of-before.result c.self.inside.set.rules c.self.inside.set.rows
+    (c.of-before.ensures.facts ∙ c.facts.ensures.current ∙ ap (λ (set : SetView). facts set.rules (sights_of set.rows)) c.in_ok-next.ensures.ok)
+    c.self.invariant.rules c.self.invariant.rows (c.of-before.ensures.entries ∙ c.busy.ensures.value) in
+    let is = seen (c.self.inside.shelf ++ c.args.config ∷ []) c.self.inside.rows.entries c.of-after.result _ c.self.inside.set.rows
+    (c.of-after.ensures.facts ∙ c.facts-2.ensures ∙ ap (λ (next : NextFacts). next.facts) c.in_ok-next.ensures.next)
+    (rules_more c.self.inside.set.rules c.self.inside.shelf c.args.config c.name.result c.probe.result.now c.as_slice.result.now c.self.invariant.rules
+    c.name.ensures c.probe.ensures (c.as_slice.ensures ∙ c.in_ok-fixed.ensures))
+    c.self.invariant.rows (c.of-after.ensures.entries ∙ c.busy-2.ensures.value) in
+    let differs = difference_is c.self.inside.shelf (c.self.inside.shelf ++ c.args.config ∷ []) c.of-before.result c.of-after.result
+    c.self.inside.rows.entries c.self.inside.rows.entries c.in_ok-difference.difference.gone_boards c.in_ok-difference.difference.new_boards was is
+    c.in_ok-difference.ensures in
+    let totals = totals_after (c.self.inside.shelf ++ c.args.config ∷ []) c.self.inside.totals c.in_ok-difference.difference.gone_boards
+    c.in_ok-difference.difference.new_boards in
+    let counted = config_counted c.self.inside.shelf c.args.config c.self.inside.rows.entries c.busy.ensures.all
+    c.in_ok-difference.difference.gone_boards c.in_ok-difference.difference.new_boards c.self.inside.totals totals differs
+    c.self.invariant.stock.counted refl in
+    let limit = limit_named (c.self.inside.shelf ++ c.args.config ∷ []) c.self.inside.rows.entries totals c.in-Err.fault counted c.in-Err.ensures
+    ∙ ap Some (sym c.limit_refused.ensures) in
+    subst (λ (refusal : Option Refusal). Tries c.args.self.now (Configure c.args.config) refusal c.refuse.new.self
+    × SettlesUnless refusal c.args.self.now c.refuse.new.self c.args.sensors.now c.args.sensors.now)
+    (sym c.refuse.ensures.reason) (
+      subst (λ (view : WatchView). Tries view (Configure c.args.config) (Some c.limit_refused.result) c.refuse.new.self) c.self.view_is
+          (config_over_limit old c.refuse.new.self c.args.config c.limit_refused.result (ap (λ (view : WatchView). view.plugged) c.self.view_is ∙ c.requires.never)
+          (no_entries c.self.inside.plugged c.self.inside.rows.entries (ap (λ (view : WatchView). view.plugged) c.self.view_is ∙ c.requires.never) c.self.invariant.none)
+          (ap (λ (view : WatchView). number_of view.configs c.args.config.name) c.self.view_is ∙ c.requires.new)
+          (lt-leb most_configs (length c.self.inside.shelf)
+          (omega (arith, c.requires.few, ap (λ (view : WatchView). length view.configs) c.self.view_is)))
+          limit c.refuse.ensures.left),
+      refl,
+    )
+
+-- ---- the items
+
+pub prepare-requires-clause-order : goal.prepare-requires-clause-order
+prepare-requires-clause-order g c =
+    let was = seen c.self.inside.shelf c.self.inside.rows.entries c.of-before.result c.self.inside.set.rules c.self.inside.set.rows
+    (c.of-before.ensures.facts ∙ c.facts.ensures.current ∙ ap (λ (set : SetView). facts set.rules (sights_of set.rows)) c.in_ok-next.ensures.ok)
+    c.self.invariant.rules c.self.invariant.rows (c.of-before.ensures.entries ∙ c.busy.ensures.value) in
+    let is = seen (c.self.inside.shelf ++ c.args.config ∷ []) c.self.inside.rows.entries c.of-after.result _ c.self.inside.set.rows
+    (c.of-after.ensures.facts ∙ c.facts-2.ensures ∙ ap (λ (next : NextFacts). next.facts) c.in_ok-next.ensures.next)
+    (rules_more c.self.inside.set.rules c.self.inside.shelf c.args.config c.name.result c.probe.result.now c.as_slice.result.now c.self.invariant.rules
+    c.name.ensures c.probe.ensures (c.as_slice.ensures ∙ c.in_ok-fixed.ensures))
+    c.self.invariant.rows (c.of-after.ensures.entries ∙ c.busy-2.ensures.value) in
+    let differs = difference_is c.self.inside.shelf (c.self.inside.shelf ++ c.args.config ∷ []) c.of-before.result c.of-after.result
+    c.self.inside.rows.entries c.self.inside.rows.entries c.in_ok-difference.difference.gone_boards c.in_ok-difference.difference.new_boards was is
+    c.in_ok-difference.ensures in
+    let continue = config_continues c.self.inside.shelf c.args.config c.self.inside.rows.entries c.busy.ensures.all c.self.inside.keep.kept
+    c.in_ok-difference.difference c.self.inside.totals c.self.inside.stock.items c.of-after.result differs c.self.invariant.stock is.works in
+    continue.order
+
+pub prepare-requires-clause-tie : goal.prepare-requires-clause-tie
+prepare-requires-clause-tie g c =
+    let was = seen c.self.inside.shelf c.self.inside.rows.entries c.of-before.result c.self.inside.set.rules c.self.inside.set.rows
+    (c.of-before.ensures.facts ∙ c.facts.ensures.current ∙ ap (λ (set : SetView). facts set.rules (sights_of set.rows)) c.in_ok-next.ensures.ok)
+    c.self.invariant.rules c.self.invariant.rows (c.of-before.ensures.entries ∙ c.busy.ensures.value) in
+    let is = seen (c.self.inside.shelf ++ c.args.config ∷ []) c.self.inside.rows.entries c.of-after.result _ c.self.inside.set.rows
+    (c.of-after.ensures.facts ∙ c.facts-2.ensures ∙ ap (λ (next : NextFacts). next.facts) c.in_ok-next.ensures.next)
+    (rules_more c.self.inside.set.rules c.self.inside.shelf c.args.config c.name.result c.probe.result.now c.as_slice.result.now c.self.invariant.rules
+    c.name.ensures c.probe.ensures (c.as_slice.ensures ∙ c.in_ok-fixed.ensures))
+    c.self.invariant.rows (c.of-after.ensures.entries ∙ c.busy-2.ensures.value) in
+    let differs = difference_is c.self.inside.shelf (c.self.inside.shelf ++ c.args.config ∷ []) c.of-before.result c.of-after.result
+    c.self.inside.rows.entries c.self.inside.rows.entries c.in_ok-difference.difference.gone_boards c.in_ok-difference.difference.new_boards was is
+    c.in_ok-difference.ensures in
+    let continue = config_continues c.self.inside.shelf c.args.config c.self.inside.rows.entries c.busy.ensures.all c.self.inside.keep.kept
+    c.in_ok-difference.difference c.self.inside.totals c.self.inside.stock.items c.of-after.result differs c.self.invariant.stock is.works in (
+      items_with (c.self.inside.shelf ++ c.args.config ∷ []) c.self.inside.keep.kept c.in_ok-difference.difference.new_boards c.self.inside.rows.entries,
+      continue.follows,
+    )
+
+-- ---- want of memory
+
+pub returns-in_err-items-clause-tried : goal.returns-in_err-items-clause-tried
+returns-in_err-items-clause-tried g c = not_ok _ _ c.from_residual-in_err-items.result c.from_residual-in_err-items.ensures.1
+
+pub returns-in_err-gone-clause-tried : goal.returns-in_err-gone-clause-tried
+returns-in_err-gone-clause-tried g c = not_ok _ _ c.from_residual-in_err-gone.result c.from_residual-in_err-gone.ensures.1
+
+pub returns-in_err-add-clause-tried : goal.returns-in_err-add-clause-tried
+returns-in_err-add-clause-tried g c = not_ok _ _ c.from_residual-in_err-add.result c.from_residual-in_err-add.ensures.1
+
+pub invariant_of-self-in_err-items : goal.invariant_of-self-in_err-items
+invariant_of-self-in_err-items g c = record {
+  rules = ap (λ (set : SetView). set.rules) c.in_ok-next.ensures.ok ∙ c.self.invariant.rules;
+  rows = ap (λ (set : SetView). set.rows) c.in_ok-next.ensures.ok ∙ c.self.invariant.rows;
+  none = c.self.invariant.none;
+  stock = subst (IsStocked c.self.inside.shelf c.self.inside.rows.entries c.self.inside.keep.kept c.self.inside.totals) (sym c.prepare.ensures.items)
+      c.self.invariant.stock;
+  room = c.self.invariant.room;
+}
+
+pub returns-in_err-items-clause-same : goal.returns-in_err-items-clause-same
+returns-in_err-items-clause-same g c =
+    on_err c.from_residual-in_err-items.result (
+      record {
+        configs = ap (λ (view : WatchView). view.configs) c.self.view_is;
+        entries = ap (λ (view : WatchView). view.entries) c.self.view_is;
+        plugged = ap (λ (view : WatchView). view.plugged) c.self.view_is;
+        kept = λ number. ap (λ (view : WatchView). kept_of view.kept number) c.self.view_is;
+        changes = ap (λ (view : WatchView). view.changes) c.self.view_is;
+      },
+      λ name. refl,
+    )
+
+pub invariant_of-self-in_err-gone : goal.invariant_of-self-in_err-gone
+invariant_of-self-in_err-gone g c = record {
+  rules = ap (λ (set : SetView). set.rules) c.in_ok-next.ensures.ok ∙ c.self.invariant.rules;
+  rows = ap (λ (set : SetView). set.rows) c.in_ok-next.ensures.ok ∙ c.self.invariant.rows;
+  none = c.self.invariant.none;
+  stock = subst (IsStocked c.self.inside.shelf c.self.inside.rows.entries c.stage_changes.new.keep.kept c.self.inside.totals) (sym c.prepare.ensures.items)
+      (stocked_kept c.self.inside.shelf c.self.inside.rows.entries c.self.inside.keep.kept c.stage_changes.new.keep.kept c.self.inside.totals
+      c.self.inside.stock.items c.stage_changes.ensures.kept c.self.invariant.stock);
+  room = omega (arith, c.self.invariant.room, c.stage_changes.ensures.more);
+}
+
+pub returns-in_err-gone-clause-same : goal.returns-in_err-gone-clause-same
+returns-in_err-gone-clause-same g c =
+    on_err c.from_residual-in_err-gone.result (
+      record {
+        configs = ap (λ (view : WatchView). view.configs) c.self.view_is;
+        entries = ap (λ (view : WatchView). view.entries) c.self.view_is;
+        plugged = ap (λ (view : WatchView). view.plugged) c.self.view_is;
+        kept = λ number. c.stage_changes.ensures.kept number ∙ ap (λ (view : WatchView). kept_of view.kept number) c.self.view_is;
+        changes = c.stage_changes.ensures.changes ∙ ap (λ (view : WatchView). view.changes) c.self.view_is;
+      },
+      c.stage_changes.ensures.sensors,
+    )
+
+pub invariant_of-self-in_err-add : goal.invariant_of-self-in_err-add
+invariant_of-self-in_err-add g c = record {
+  rules = ap (λ (set : SetView). set.rules) c.in_ok-next.ensures.ok ∙ c.self.invariant.rules ∙ sym (ap rules_of c.in_err-add.ensures.err);
+  rows = ap (λ (set : SetView). set.rows) c.in_ok-next.ensures.ok ∙ c.self.invariant.rows;
+  none = c.self.invariant.none;
+  stock = subst₂ (λ (configs : List Config) (items : List Item). IsStocked configs c.self.inside.rows.entries c.stage_changes.new.keep.kept
+      c.self.inside.totals items)
+      (sym c.in_err-add.ensures.err) (sym c.prepare.ensures.items)
+      (stocked_kept c.self.inside.shelf c.self.inside.rows.entries c.self.inside.keep.kept c.stage_changes.new.keep.kept c.self.inside.totals
+      c.self.inside.stock.items c.stage_changes.ensures.kept c.self.invariant.stock);
+  room = omega (arith, c.self.invariant.room, c.stage_changes.ensures.more);
+}
+
+pub returns-in_err-add-clause-same : goal.returns-in_err-add-clause-same
+returns-in_err-add-clause-same g c =
+    on_err c.from_residual-in_err-add.result (
+      record {
+        configs = c.in_err-add.ensures.err ∙ ap (λ (view : WatchView). view.configs) c.self.view_is;
+        entries = ap (λ (view : WatchView). view.entries) c.self.view_is;
+        plugged = ap (λ (view : WatchView). view.plugged) c.self.view_is;
+        kept = λ number. c.stage_changes.ensures.kept number ∙ ap (λ (view : WatchView). kept_of view.kept number) c.self.view_is;
+        changes = c.stage_changes.ensures.changes ∙ ap (λ (view : WatchView). view.changes) c.self.view_is;
+      },
+      c.stage_changes.ensures.sensors,
+    )
+
+-- ---- what is told
+
+pub tell_changes-requires-clause-staged : goal.tell_changes-requires-clause-staged
+tell_changes-requires-clause-staged g c =
+    let was = seen c.self.inside.shelf c.self.inside.rows.entries c.of-before.result c.self.inside.set.rules c.self.inside.set.rows
+    (c.of-before.ensures.facts ∙ c.facts.ensures.current ∙ ap (λ (set : SetView). facts set.rules (sights_of set.rows)) c.in_ok-next.ensures.ok)
+    c.self.invariant.rules c.self.invariant.rows (c.of-before.ensures.entries ∙ c.busy.ensures.value) in
+    let is = seen (c.self.inside.shelf ++ c.args.config ∷ []) c.self.inside.rows.entries c.of-after.result _ c.self.inside.set.rows
+    (c.of-after.ensures.facts ∙ c.facts-2.ensures ∙ ap (λ (next : NextFacts). next.facts) c.in_ok-next.ensures.next)
+    (rules_more c.self.inside.set.rules c.self.inside.shelf c.args.config c.name.result c.probe.result.now c.as_slice.result.now c.self.invariant.rules
+    c.name.ensures c.probe.ensures (c.as_slice.ensures ∙ c.in_ok-fixed.ensures))
+    c.self.invariant.rows (c.of-after.ensures.entries ∙ c.busy-2.ensures.value) in
+    let differs = difference_is c.self.inside.shelf (c.self.inside.shelf ++ c.args.config ∷ []) c.of-before.result c.of-after.result
+    c.self.inside.rows.entries c.self.inside.rows.entries c.in_ok-difference.difference.gone_boards c.in_ok-difference.difference.new_boards was is
+    c.in_ok-difference.ensures in
+    let differs_now = subst (λ (configs : List Config). IsDifference (length c.self.inside.shelf) (length configs)
+    (boards_in c.self.inside.shelf (map entry_sight c.self.inside.rows.entries)) (boards_in configs (map entry_sight c.self.inside.rows.entries))
+    c.in_ok-difference.difference.gone_boards c.in_ok-difference.difference.new_boards) (sym c.in_ok-add.ensures.ok) differs in
+    staged_within _ _ _ _ _ _ _ differs_now c.in_ok-gone.ensures.staged
+
+pub tell_changes-requires-clause-gone : goal.tell_changes-requires-clause-gone
+tell_changes-requires-clause-gone g c =
+    let was = seen c.self.inside.shelf c.self.inside.rows.entries c.of-before.result c.self.inside.set.rules c.self.inside.set.rows
+    (c.of-before.ensures.facts ∙ c.facts.ensures.current ∙ ap (λ (set : SetView). facts set.rules (sights_of set.rows)) c.in_ok-next.ensures.ok)
+    c.self.invariant.rules c.self.invariant.rows (c.of-before.ensures.entries ∙ c.busy.ensures.value) in
+    let is = seen (c.self.inside.shelf ++ c.args.config ∷ []) c.self.inside.rows.entries c.of-after.result _ c.self.inside.set.rows
+    (c.of-after.ensures.facts ∙ c.facts-2.ensures ∙ ap (λ (next : NextFacts). next.facts) c.in_ok-next.ensures.next)
+    (rules_more c.self.inside.set.rules c.self.inside.shelf c.args.config c.name.result c.probe.result.now c.as_slice.result.now c.self.invariant.rules
+    c.name.ensures c.probe.ensures (c.as_slice.ensures ∙ c.in_ok-fixed.ensures))
+    c.self.invariant.rows (c.of-after.ensures.entries ∙ c.busy-2.ensures.value) in
+    let differs = difference_is c.self.inside.shelf (c.self.inside.shelf ++ c.args.config ∷ []) c.of-before.result c.of-after.result
+    c.self.inside.rows.entries c.self.inside.rows.entries c.in_ok-difference.difference.gone_boards c.in_ok-difference.difference.new_boards was is
+    c.in_ok-difference.ensures in
+    subst (λ (configs : List Config). AreWithin c.in_ok-gone.gone (length configs)) (sym c.in_ok-add.ensures.ok)
+    (within_more c.in_ok-gone.gone c.self.inside.shelf c.args.config (gone_within _ _ _ _ _ _ _ differs c.in_ok-gone.ensures.gone))
+
+pub invariant_of-self-2 : goal.invariant_of-self-2
+invariant_of-self-2 g c =
+    let old : WatchView = record {
+      configs = c.self.inside.shelf;
+      entries = c.self.inside.rows.entries;
+      plugged = c.self.inside.plugged;
+      kept = c.self.inside.keep.kept;
+      changes = c.self.inside.changes.items;
+    } in
+    let new : WatchView = record {
+      configs = c.add.new.self;
+      entries = c.self.inside.rows.entries;
+      plugged = c.self.inside.plugged;
+      kept = c.tell_changes.new.keep.kept;
+      changes = c.tell_items.new.changes.items;
+    } in
+    let was = seen c.self.inside.shelf c.self.inside.rows.entries c.of-before.result c.self.inside.set.rules c.self.inside.set.rows
+    (c.of-before.ensures.facts ∙ c.facts.ensures.current ∙ ap (λ (set : SetView). facts set.rules (sights_of set.rows)) c.in_ok-next.ensures.ok)
+    c.self.invariant.rules c.self.invariant.rows (c.of-before.ensures.entries ∙ c.busy.ensures.value) in
+    let is = seen (c.self.inside.shelf ++ c.args.config ∷ []) c.self.inside.rows.entries c.of-after.result _ c.self.inside.set.rows
+    (c.of-after.ensures.facts ∙ c.facts-2.ensures ∙ ap (λ (next : NextFacts). next.facts) c.in_ok-next.ensures.next)
+    (rules_more c.self.inside.set.rules c.self.inside.shelf c.args.config c.name.result c.probe.result.now c.as_slice.result.now c.self.invariant.rules
+    c.name.ensures c.probe.ensures (c.as_slice.ensures ∙ c.in_ok-fixed.ensures))
+    c.self.invariant.rows (c.of-after.ensures.entries ∙ c.busy-2.ensures.value) in
+    let differs = difference_is c.self.inside.shelf (c.self.inside.shelf ++ c.args.config ∷ []) c.of-before.result c.of-after.result
+    c.self.inside.rows.entries c.self.inside.rows.entries c.in_ok-difference.difference.gone_boards c.in_ok-difference.difference.new_boards was is
+    c.in_ok-difference.ensures in
+    let differs_now = subst (λ (configs : List Config). IsDifference (length c.self.inside.shelf) (length configs)
+    (boards_in c.self.inside.shelf (map entry_sight c.self.inside.rows.entries)) (boards_in configs (map entry_sight c.self.inside.rows.entries))
+    c.in_ok-difference.difference.gone_boards c.in_ok-difference.difference.new_boards) (sym c.in_ok-add.ensures.ok) differs in
+    let tells = tells_those c.add.new.self c.in_ok-difference.difference.gone_boards c.in_ok-difference.difference.new_boards c.in_ok-gone.gone
+    c.stage_changes.new.keep.staged _ _ _ c.in_ok-gone.ensures.gone c.in_ok-gone.ensures.staged c.tell_changes.ensures.told in
+    let counted = config_counted c.self.inside.shelf c.args.config c.self.inside.rows.entries c.busy.ensures.all
+    c.in_ok-difference.difference.gone_boards c.in_ok-difference.difference.new_boards c.self.inside.totals c.in-Ok.totals differs
+    c.self.invariant.stock.counted
+    c.in-Ok.ensures.0 in
+    let continue = config_continues c.self.inside.shelf c.args.config c.self.inside.rows.entries c.busy.ensures.all c.self.inside.keep.kept
+    c.in_ok-difference.difference c.self.inside.totals c.self.inside.stock.items c.of-after.result differs c.self.invariant.stock is.works in
+    let staged = c.in_ok-items.ensures.staged _ continue.follows in
+    let next : IsNext old new c.in-Ok.totals _ c.in_ok-items.items.gone c.in_ok-items.items.new =
+    taken_over old new (c.args.config ∷ []) c.in_ok-difference.difference.gone_boards c.in_ok-difference.difference.new_boards
+    c.stage_changes.new.keep.kept c.tell_changes.new.keep.kept c.tell_changes.new.changes.items c.self.inside.totals c.in-Ok.totals
+    c.self.inside.stock.items _ c.in_ok-items.items c.in_ok-add.ensures.ok c.self.invariant.stock differs_now c.stage_changes.ensures.kept tells refl
+    (subst (λ (configs : List Config). c.in-Ok.totals ≡ totals_of configs (keys_of (length configs)
+    (boards_in configs (map entry_sight c.self.inside.rows.entries)))) (sym c.in_ok-add.ensures.ok) counted)
+    (ap limit_of c.in-Ok.ensures.0 ∙ c.in-Ok.ensures.1)
+    (ap (λ (configs : List Config). items_with configs c.self.inside.keep.kept c.in_ok-difference.difference.new_boards c.self.inside.rows.entries)
+    (sym c.in_ok-add.ensures.ok))
+    (told_by c.self.inside.stock.items c.in_ok-items.items c.prepare.new.self.staged _ staged c.in_ok-items.ensures.gone c.in_ok-items.ensures.new)
+    c.tell_items.ensures.items in
+    let set = set_after (ConfigEvent (rule_of c.name.result c.probe.result.now c.as_slice.result.now)) c.self.inside.set c.prepare_config.new.self
+    c.commit.new.self c.in_ok-next.ensures.ok c.commit.ensures in
+    record {
+      rules = set.0
+          ∙ rules_more c.self.inside.set.rules c.self.inside.shelf c.args.config c.name.result c.probe.result.now c.as_slice.result.now
+          c.self.invariant.rules c.name.ensures c.probe.ensures (c.as_slice.ensures ∙ c.in_ok-fixed.ensures)
+          ∙ sym (ap rules_of c.in_ok-add.ensures.ok);
+      rows = set.1 ∙ c.self.invariant.rows;
+      none = c.self.invariant.none;
+      stock = subst (IsStocked c.add.new.self c.self.inside.rows.entries c.tell_changes.new.keep.kept c.in-Ok.totals) (sym
+          (stock_is c.prepare.new.self.staged _ c.commit-2.new.self.items staged c.commit-2.ensures.items)) next.stocked;
+      room = omega (arith, c.self.invariant.room, c.stage_changes.ensures.more, c.tell_changes.ensures.capacity, c.tell_items.ensures.capacity);
+    }
+
+pub returns-clause-tried : goal.returns-clause-tried
+returns-clause-tried g c =
+    let old : WatchView = record {
+      configs = c.self.inside.shelf;
+      entries = c.self.inside.rows.entries;
+      plugged = c.self.inside.plugged;
+      kept = c.self.inside.keep.kept;
+      changes = c.self.inside.changes.items;
+    } in
+    let new : WatchView = record {
+      configs = c.add.new.self;
+      entries = c.self.inside.rows.entries;
+      plugged = c.self.inside.plugged;
+      kept = c.tell_changes.new.keep.kept;
+      changes = c.tell_items.new.changes.items;
+    } in
+    let was = seen c.self.inside.shelf c.self.inside.rows.entries c.of-before.result c.self.inside.set.rules c.self.inside.set.rows
+    (c.of-before.ensures.facts ∙ c.facts.ensures.current ∙ ap (λ (set : SetView). facts set.rules (sights_of set.rows)) c.in_ok-next.ensures.ok)
+    c.self.invariant.rules c.self.invariant.rows (c.of-before.ensures.entries ∙ c.busy.ensures.value) in
+    let is = seen (c.self.inside.shelf ++ c.args.config ∷ []) c.self.inside.rows.entries c.of-after.result _ c.self.inside.set.rows
+    (c.of-after.ensures.facts ∙ c.facts-2.ensures ∙ ap (λ (next : NextFacts). next.facts) c.in_ok-next.ensures.next)
+    (rules_more c.self.inside.set.rules c.self.inside.shelf c.args.config c.name.result c.probe.result.now c.as_slice.result.now c.self.invariant.rules
+    c.name.ensures c.probe.ensures (c.as_slice.ensures ∙ c.in_ok-fixed.ensures))
+    c.self.invariant.rows (c.of-after.ensures.entries ∙ c.busy-2.ensures.value) in
+    let differs = difference_is c.self.inside.shelf (c.self.inside.shelf ++ c.args.config ∷ []) c.of-before.result c.of-after.result
+    c.self.inside.rows.entries c.self.inside.rows.entries c.in_ok-difference.difference.gone_boards c.in_ok-difference.difference.new_boards was is
+    c.in_ok-difference.ensures in
+    let differs_now = subst (λ (configs : List Config). IsDifference (length c.self.inside.shelf) (length configs)
+    (boards_in c.self.inside.shelf (map entry_sight c.self.inside.rows.entries)) (boards_in configs (map entry_sight c.self.inside.rows.entries))
+    c.in_ok-difference.difference.gone_boards c.in_ok-difference.difference.new_boards) (sym c.in_ok-add.ensures.ok) differs in
+    let tells = tells_those c.add.new.self c.in_ok-difference.difference.gone_boards c.in_ok-difference.difference.new_boards c.in_ok-gone.gone
+    c.stage_changes.new.keep.staged _ _ _ c.in_ok-gone.ensures.gone c.in_ok-gone.ensures.staged c.tell_changes.ensures.told in
+    let counted = config_counted c.self.inside.shelf c.args.config c.self.inside.rows.entries c.busy.ensures.all
+    c.in_ok-difference.difference.gone_boards c.in_ok-difference.difference.new_boards c.self.inside.totals c.in-Ok.totals differs
+    c.self.invariant.stock.counted
+    c.in-Ok.ensures.0 in
+    let continue = config_continues c.self.inside.shelf c.args.config c.self.inside.rows.entries c.busy.ensures.all c.self.inside.keep.kept
+    c.in_ok-difference.difference c.self.inside.totals c.self.inside.stock.items c.of-after.result differs c.self.invariant.stock is.works in
+    let staged = c.in_ok-items.ensures.staged _ continue.follows in
+    let next : IsNext old new c.in-Ok.totals _ c.in_ok-items.items.gone c.in_ok-items.items.new =
+    taken_over old new (c.args.config ∷ []) c.in_ok-difference.difference.gone_boards c.in_ok-difference.difference.new_boards
+    c.stage_changes.new.keep.kept c.tell_changes.new.keep.kept c.tell_changes.new.changes.items c.self.inside.totals c.in-Ok.totals
+    c.self.inside.stock.items _ c.in_ok-items.items c.in_ok-add.ensures.ok c.self.invariant.stock differs_now c.stage_changes.ensures.kept tells refl
+    (subst (λ (configs : List Config). c.in-Ok.totals ≡ totals_of configs (keys_of (length configs)
+    (boards_in configs (map entry_sight c.self.inside.rows.entries)))) (sym c.in_ok-add.ensures.ok) counted)
+    (ap limit_of c.in-Ok.ensures.0 ∙ c.in-Ok.ensures.1)
+    (ap (λ (configs : List Config). items_with configs c.self.inside.keep.kept c.in_ok-difference.difference.new_boards c.self.inside.rows.entries)
+    (sym c.in_ok-add.ensures.ok))
+    (told_by c.self.inside.stock.items c.in_ok-items.items c.prepare.new.self.staged _ staged c.in_ok-items.ensures.gone c.in_ok-items.ensures.new)
+    c.tell_items.ensures.items in
+    let follows = settles old new c.in_ok-items.items.gone c.in_ok-items.items.new c.args.sensors.now c.stage_changes.new.sensors c.settle_sensors.new.sensors
+    next.goes next.comes c.stage_changes.ensures.sensors c.settle_sensors.ensures in
+    subst (λ (view : WatchView). Tries view (Configure c.args.config) None new × Settles view new c.args.sensors.now c.settle_sensors.new.sensors)
+        c.self.view_is (
+      configured old new c.args.config (ap (λ (view : WatchView). view.plugged) c.self.view_is ∙ c.requires.never) (no_entries c.self.inside.plugged c.self.inside.rows.entries (ap (λ (view : WatchView). view.plugged) c.self.view_is ∙ c.requires.never) c.self.invariant.none)
+          (ap (λ (view : WatchView). number_of view.configs c.args.config.name) c.self.view_is ∙ c.requires.new)
+          (lt-leb most_configs (length c.self.inside.shelf)
+          (omega (arith, c.requires.few, ap (λ (view : WatchView). length view.configs) c.self.view_is)))
+          c.in_ok-add.ensures.ok refl refl
+          (no_refusal new.configs new.entries new.kept c.in-Ok.totals _ next.stocked)
+          next.moves,
+      follows,
+    )
+
+-- ---- the work
+
+pub returns-in_err-fixed-clause-counted : goal.returns-in_err-fixed-clause-counted
+returns-in_err-fixed-clause-counted g c =
+    none_within c.args.steps.now (most_evals (c.args.self.now.configs ++ c.args.config ∷ []))
+
+pub returns-in_err-next-clause-counted : goal.returns-in_err-next-clause-counted
+returns-in_err-next-clause-counted g c =
+    within_rules (ConfigEvent (rule_of c.name.result c.probe.result.now c.as_slice.result.now)) c.args.steps.now c.prepare_config.new.steps
+    c.self.inside.set.rules c.self.inside.set.rows (c.args.self.now.configs ++ c.args.config ∷ [])
+    (rules_more c.self.inside.set.rules c.self.inside.shelf c.args.config c.name.result c.probe.result.now c.as_slice.result.now c.self.invariant.rules
+    c.name.ensures c.probe.ensures (c.as_slice.ensures ∙ c.in_ok-fixed.ensures)
+    ∙ ap (λ (view : WatchView). rules_of (view.configs ++ c.args.config ∷ [])) c.self.view_is) c.in_err-next.ensures.counted
+
+pub returns-in_err-difference-clause-counted : goal.returns-in_err-difference-clause-counted
+returns-in_err-difference-clause-counted g c =
+    within_rules (ConfigEvent (rule_of c.name.result c.probe.result.now c.as_slice.result.now)) c.args.steps.now c.prepare_config.new.steps
+    c.self.inside.set.rules c.self.inside.set.rows (c.args.self.now.configs ++ c.args.config ∷ [])
+    (rules_more c.self.inside.set.rules c.self.inside.shelf c.args.config c.name.result c.probe.result.now c.as_slice.result.now c.self.invariant.rules
+    c.name.ensures c.probe.ensures (c.as_slice.ensures ∙ c.in_ok-fixed.ensures)
+    ∙ ap (λ (view : WatchView). rules_of (view.configs ++ c.args.config ∷ [])) c.self.view_is) c.in_ok-next.ensures.counted
+
+pub returns-in-Err-clause-counted : goal.returns-in-Err-clause-counted
+returns-in-Err-clause-counted g c =
+    within_rules (ConfigEvent (rule_of c.name.result c.probe.result.now c.as_slice.result.now)) c.args.steps.now c.prepare_config.new.steps
+    c.self.inside.set.rules c.self.inside.set.rows (c.args.self.now.configs ++ c.args.config ∷ [])
+    (rules_more c.self.inside.set.rules c.self.inside.shelf c.args.config c.name.result c.probe.result.now c.as_slice.result.now c.self.invariant.rules
+    c.name.ensures c.probe.ensures (c.as_slice.ensures ∙ c.in_ok-fixed.ensures)
+    ∙ ap (λ (view : WatchView). rules_of (view.configs ++ c.args.config ∷ [])) c.self.view_is) c.in_ok-next.ensures.counted
+
+pub returns-in_err-items-clause-counted : goal.returns-in_err-items-clause-counted
+returns-in_err-items-clause-counted g c =
+    within_rules (ConfigEvent (rule_of c.name.result c.probe.result.now c.as_slice.result.now)) c.args.steps.now c.prepare_config.new.steps
+    c.self.inside.set.rules c.self.inside.set.rows (c.args.self.now.configs ++ c.args.config ∷ [])
+    (rules_more c.self.inside.set.rules c.self.inside.shelf c.args.config c.name.result c.probe.result.now c.as_slice.result.now c.self.invariant.rules
+    c.name.ensures c.probe.ensures (c.as_slice.ensures ∙ c.in_ok-fixed.ensures)
+    ∙ ap (λ (view : WatchView). rules_of (view.configs ++ c.args.config ∷ [])) c.self.view_is) c.in_ok-next.ensures.counted
+
+pub returns-in_err-gone-clause-counted : goal.returns-in_err-gone-clause-counted
+returns-in_err-gone-clause-counted g c =
+    within_rules (ConfigEvent (rule_of c.name.result c.probe.result.now c.as_slice.result.now)) c.args.steps.now c.prepare_config.new.steps
+    c.self.inside.set.rules c.self.inside.set.rows (c.args.self.now.configs ++ c.args.config ∷ [])
+    (rules_more c.self.inside.set.rules c.self.inside.shelf c.args.config c.name.result c.probe.result.now c.as_slice.result.now c.self.invariant.rules
+    c.name.ensures c.probe.ensures (c.as_slice.ensures ∙ c.in_ok-fixed.ensures)
+    ∙ ap (λ (view : WatchView). rules_of (view.configs ++ c.args.config ∷ [])) c.self.view_is) c.in_ok-next.ensures.counted
+
+pub returns-in_err-add-clause-counted : goal.returns-in_err-add-clause-counted
+returns-in_err-add-clause-counted g c =
+    within_rules (ConfigEvent (rule_of c.name.result c.probe.result.now c.as_slice.result.now)) c.args.steps.now c.prepare_config.new.steps
+    c.self.inside.set.rules c.self.inside.set.rows (c.args.self.now.configs ++ c.args.config ∷ [])
+    (rules_more c.self.inside.set.rules c.self.inside.shelf c.args.config c.name.result c.probe.result.now c.as_slice.result.now c.self.invariant.rules
+    c.name.ensures c.probe.ensures (c.as_slice.ensures ∙ c.in_ok-fixed.ensures)
+    ∙ ap (λ (view : WatchView). rules_of (view.configs ++ c.args.config ∷ [])) c.self.view_is) c.in_ok-next.ensures.counted
+
+pub returns-clause-counted : goal.returns-clause-counted
+returns-clause-counted g c =
+    within_rules (ConfigEvent (rule_of c.name.result c.probe.result.now c.as_slice.result.now)) c.args.steps.now c.prepare_config.new.steps
+    c.self.inside.set.rules c.self.inside.set.rows (c.args.self.now.configs ++ c.args.config ∷ [])
+    (rules_more c.self.inside.set.rules c.self.inside.shelf c.args.config c.name.result c.probe.result.now c.as_slice.result.now c.self.invariant.rules
+    c.name.ensures c.probe.ensures (c.as_slice.ensures ∙ c.in_ok-fixed.ensures)
+    ∙ ap (λ (view : WatchView). rules_of (view.configs ++ c.args.config ∷ [])) c.self.view_is) c.in_ok-next.ensures.counted

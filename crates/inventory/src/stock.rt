@@ -1,0 +1,213 @@
+ghost use Rattle.std.specs.Prelude.{◌≡◌, ◌≤◌, ◌++◌, ◌&&◌, ◌||◌, not, ⊤, Bool, List, [], filter_map, length, option_map, option_to_list, None, Some};
+ghost use Rattle.std.specs.Prelude.{IfOk, OnOk, OnErr, IsSomeAnd};
+ghost use Rattle.std.specs.List.{All};
+ghost use Rattle.std.specs.Option.{option_or};
+ghost use Rattle.indexmap.specs.IndexMap.{keys};
+ghost use Rattle.cfg_json.specs.declared.item.Item.{Item};
+ghost use Rattle.cfg_json.specs.declared.item.ItemId.{ItemId};
+ghost use Rattle.inventory.specs.Bearers.{ids_in, ids_over, is_bearer, leads, AreBorne, Lists};
+ghost use Rattle.inventory.specs.Follows.{item_of, kept_with, on, AreKeysAscending, Follows};
+ghost use Rattle.inventory.specs.Items.{entry_fields, holder, is_live, items_less, live, IsValidItem};
+ghost use Rattle.inventory.specs.Naming.{naming_items};
+ghost use Rattle.inventory.specs.Shown.{items_of, AreShown};
+ghost use Rattle.inventory.specs.declared.held.Held.{Held};
+
+use crate::coming::show_coming;
+use crate::held::{Held, family_of};
+use crate::leads::{copy_items, find_leads};
+use crate::names::{Names, first_of, forget_boards, keep_noted, note_boards};
+use crate::shown::{Shown, insert_boards, item_at, remove_boards};
+use crate::{BoardKey, Difference, Family, IndexKeep, ItemList, Moment};
+use bmc_base::{Ledger, Name, OutOfMemory};
+use cfg_json::{Config, Item, Shelf};
+use indexmap::IndexMap;
+use std::alloc::Global;
+use std::marker::Model;
+
+// What is staged: the boards that go, those that come, and for each name that their items bear the ids of its bearers then.
+#[derive(Drop)]
+struct Staged {
+    gone: Vec<BoardKey>,
+    new: Vec<Shown>,
+    names: Names,
+}
+
+/// What the naming boards of one moment expose, and which of it is live. Boards that go and come are staged, so that taking
+/// them over takes no memory. What either takes follows the items of these boards, and those that bear their names.
+#[derive(Drop)]
+pub struct Stock {
+    boards: Vec<Shown>,
+    names: Names,
+    staged: Option<Staged>,
+}
+
+impl Model for Stock {
+    ghost use Rattle.inventory.specs.Follows.{Stock};
+    ghost use Rattle.inventory.specs.Stocks.{stock_of, IsSound};
+
+    ghost Value = { Stock };
+
+    ghost view = { λ s. stock_of s.boards s.staged };
+
+    ghost invariant = { λ s. IsSound s.boards s.names s.staged };
+}
+
+/// The live items that go and those that come, by board and expose.
+#[derive(Drop)]
+pub struct ItemDifference {
+    /// The items that go.
+    pub gone: ItemList,
+    /// The items that come.
+    pub new: ItemList,
+}
+
+// Copies keys.
+fn copy_keys(alloc: Global, keys: &[BoardKey]) -> Result<Vec<BoardKey>, OutOfMemory>
+    ensures { IfOk result (λ copy. copy.items ≡ keys.now) }
+{
+    let mut copy = Vec::new(alloc);
+    copy.extend_from_slice(keys)?;
+    Ok(copy)
+}
+
+/// Notes the bearers of the names where the boards with these keys go and others come.
+pub(crate) fn note_change(
+    alloc: Global,
+    names: &Names,
+    boards: &[Shown],
+    gone: &[BoardKey],
+    new: &[Shown],
+) -> Result<Names, OutOfMemory>
+    ensures { AreShown boards.now → (test : Held → ItemId → Bool) → AreBorne [] names.now.entries test
+        → IfOk result (λ over. AreBorne over.entries names.now.entries
+        (λ held id. (test held id && not (is_bearer (on gone.now (items_of boards.now)) held id)) || is_bearer (items_of new.now) held id)) }
+{
+    let mut over = IndexMap::new(alloc);
+    forget_boards(alloc, &mut over, names, boards, gone)?;
+    note_boards(alloc, &mut over, names, new)?;
+    Ok(over)
+}
+
+/// Lists the live items that go and those that come, where others take the place of the ids for some names.
+pub(crate) fn compare(
+    alloc: Global,
+    names: &Names,
+    over: &Names,
+    boards: &[Shown],
+    new: &[Shown],
+) -> Result<ItemDifference, OutOfMemory>
+    ensures gone { AreShown boards.now → AreShown new.now → (ids : List ItemId)
+        → Lists ids (leads (ids_in names.now.entries) (ids_over over.now.entries names.now.entries) (keys over.now))
+        → IfOk result (λ difference. difference.gone
+        ≡ filter_map (λ id. option_or (item_of (items_of boards.now) id) (item_of (items_of new.now) id)) ids) }
+    ensures new { AreShown boards.now → AreShown new.now → (ids : List ItemId)
+        → Lists ids (leads (ids_over over.now.entries names.now.entries) (ids_in names.now.entries) (keys over.now))
+        → IfOk result (λ difference. difference.new
+        ≡ filter_map (λ id. option_or (item_of (items_of new.now) id) (item_of (items_of boards.now) id)) ids) }
+{
+    let leads = find_leads(alloc, over, names)?;
+    Ok(ItemDifference {
+        gone: copy_items(alloc, &leads.gone, boards, new)?,
+        new: copy_items(alloc, &leads.new, new, boards)?,
+    })
+}
+
+impl Stock {
+    /// Returns a stock of no items.
+    pub fn new(alloc: Global) -> Result<Stock, OutOfMemory>
+        ensures { IfOk result (λ stock. stock ≡ record { items = []; staged = None }) }
+    {
+        Ok(Stock {
+            boards: Vec::new(alloc),
+            names: IndexMap::new(alloc),
+            staged: None,
+        })
+    }
+
+    /// Stages the boards that go and those that come in place of what is staged, and returns the live items that go and those
+    /// that come. The settings of the sensors that come are valid. Nothing of what is there changes. For want of memory nothing
+    /// is staged.
+    pub fn prepare<L: Ledger>(
+        &mut self,
+        alloc: Global,
+        shelf: &Shelf<L>,
+        plus: Option<&Config<L>>,
+        keep: &IndexKeep,
+        difference: &Difference,
+        after: &Moment<'_>,
+    ) -> Result<ItemDifference, OutOfMemory>
+        requires few { length (shelf.now ++ option_to_list (option_map (λ config. config.now) plus)) ≤ 256 }
+        requires order { AreKeysAscending difference.now.new_boards }
+        requires tie { let all = shelf.now ++ option_to_list (option_map (λ config. config.now) plus) in (next : List Item) ×
+            Follows difference.now.gone_boards difference.now.new_boards self.old.items
+            (naming_items all (kept_with keep.now.kept difference.now.new_boards) (entry_fields after.now.entries) difference.now.new_boards) next }
+        ensures items { self.new.items ≡ self.old.items }
+        ensures staged { let all = shelf.now ++ option_to_list (option_map (λ config. config.now) plus.entry) in (next : List Item)
+            → Follows difference.now.gone_boards difference.now.new_boards self.old.items
+            (naming_items all (kept_with keep.now.kept difference.now.new_boards) (entry_fields after.now.entries) difference.now.new_boards) next
+            → OnOk result (self.new.staged ≡ Some next) }
+        ensures gone { IfOk result (λ difference. IsSomeAnd self.new.staged (λ next. difference.gone ≡ items_less (live self.old.items) (live next))) }
+        ensures new { IfOk result (λ difference. IsSomeAnd self.new.staged (λ next. difference.new ≡ items_less (live next) (live self.old.items))) }
+        ensures valid { IfOk result (λ difference. All IsValidItem difference.new) }
+        ensures err { OnErr result (self.new.staged ≡ None) }
+    {
+        self.staged = None;
+        let gone = copy_keys(alloc, difference.gone_boards.as_slice())?;
+        let keys = difference.new_boards.as_slice();
+        let new = show_coming(alloc, shelf, plus, keep, keys, after)?;
+        let names = note_change(alloc, &self.names, &self.boards, &gone, &new)?;
+        let items = compare(alloc, &self.names, &names, &self.boards, &new)?;
+        self.names.reserve(names.len())?;
+        self.boards.reserve(new.len())?;
+        self.staged = Some(Staged { gone, new, names });
+        Ok(items)
+    }
+
+    /// Takes over what is staged. It takes no memory.
+    pub fn commit(&mut self)
+        requires { IsSomeAnd self.old.staged (λ _. ⊤) }
+        ensures items { self.old.staged ≡ Some self.new.items }
+        ensures staged { self.new.staged ≡ None }
+    {
+        match self.staged.take() {
+            Some(Staged { gone, new, names }) => {
+                remove_boards(&mut self.boards, &gone);
+                insert_boards(&mut self.boards, new);
+                keep_noted(&mut self.names, names);
+            }
+            None => unreachable!(),
+        }
+    }
+
+    /// Borrows the boards that have items, with their items, by configuration and place.
+    pub fn boards(&self) -> &[Shown]
+        ensures { items_of result.now ≡ self.now.items }
+    {
+        &self.boards
+    }
+
+    /// Borrows the item that holds a name in a family, if one does. The name is looked up once.
+    pub fn holder(&self, family: Family, name: &Name) -> Option<&Item>
+        ensures { option_map (λ item. item.now) result ≡ holder self.now.items family name.now }
+    {
+        let held = Held {
+            family,
+            name: name.copied(),
+        };
+        let id = first_of(&self.names, &held)?;
+        item_at(&self.boards, &id)
+    }
+
+    /// Whether an item is live, which is so where it holds its name. The name is looked up once.
+    pub fn is_live(&self, item: &Item) -> bool
+        ensures { result ≡ is_live self.now.items item.now }
+    {
+        let Some(family) = family_of(&item.part) else {
+            return false;
+        };
+        match self.holder(family, &item.name) {
+            Some(first) => first.id == item.id,
+            None => false,
+        }
+    }
+}
