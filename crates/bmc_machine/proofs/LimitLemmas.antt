@@ -125,7 +125,7 @@ keys_fewer configs count few many fewer none =
     (total (fans_of configs) (keys_of count many)) (length (keys_of count few)) (total (sensors_of configs) (keys_of count few))
     (total (zones_of configs) (keys_of count few)) (total (fans_of configs) (keys_of count few)) less_boards
     (total_fewer (sensors_of configs) few many fewer (range_with_len 0 count)) (total_fewer (zones_of configs) few many fewer (range_with_len 0 count))
-        (total_fewer (fans_of configs) few many fewer (range_with_len 0 count))
+    (total_fewer (fans_of configs) few many fewer (range_with_len 0 count))
     (sym (passed_is configs (keys_of count many)) ∙ none)
   where
     less_boards : length (keys_of count few) ≤ length (keys_of count many)
@@ -164,7 +164,7 @@ unfolding board_keys boards
 without_within now place within =
     keys_fewer now.configs (length now.configs) (λ number. boards_in now.configs (sights_of now.configs (without place now.frus)) number)
     (λ number. boards_in now.configs (sights_of now.configs now.frus) number)
-    (λ number. subst (λ (sights : List Sight). length (boards_in now.configs sights number) 
+    (λ number. subst (λ (sights : List Sight). length (boards_in now.configs sights number)
     ≤ length (boards_in now.configs (sights_of now.configs now.frus) number))
     (sym (sights_without now.configs place now.frus))
     (boards_fewer now.configs (λ (sight : Sight). not (is_eq (place_cmp place sight.place))) (sights_of now.configs now.frus) number)) within

@@ -93,12 +93,11 @@ plug_untested is_short view place bytes steps not_so =
 
 -- a plug for which memory is wanting before it is tested
 pub plug_short : (view : WatchView) (place : Place) (bytes : List ℕ) (steps : Counts) → TestsPlug true view place bytes steps steps
-plug_short view place bytes steps =
-    (
-      0,
-      omega arith,
-      within_more (with_matches steps 0) steps 0 (cond (is_tested view place bytes) (most_evals view.configs) 0) (omega arith) (none_tested steps),
-    )
+plug_short view place bytes steps = (
+  0,
+  omega arith,
+  within_more (with_matches steps 0) steps 0 (cond (is_tested view place bytes) (most_evals view.configs) 0) (omega arith) (none_tested steps),
+)
 
 pub plug_failed : {T E : Type 0} (Q : E → Type 0) (result : Result T E) (view : WatchView) (place : Place) (bytes : List ℕ) (steps : Counts)
     → IsErrAnd result Q → TestsPlug (is_err result) view place bytes steps steps

@@ -254,7 +254,7 @@ gone_apart place entry entries found = left entries
         by : (here : Bool) → is_entry_at place each ≡ here
             → AllByRecursion (λ (each : Entry). is_entry_at each.place entry ≡ false) (without_entry place some)
             → AllByRecursion (λ (each : Entry). is_entry_at each.place entry ≡ false) (cond (not here) (each ∷ without_entry place some)
-                (without_entry place some))
+            (without_entry place some))
         by true is rest = rest
         by false is rest = (
           ap is_eq (place_total.antisymm each.place entry.place) ∙ eq_reverse (place_cmp entry.place each.place)

@@ -49,7 +49,7 @@ pub returns : goal.returns
 unfolding chain_behind operand_digits operation_at fixed_number field_of word_of piece_at pieces_of is_template is_single uses_index rendered
     rendered_number body_of encode is_utf8 chars digits hex_on_literals without_return line_item whole_block whole_item cut_most cut block_size
     hex_decoded digits_in number place_named plug_of unplug_of config_command read_of lose_of show_of words_of command_of header area_at first_field walk
-        raw_fields
+    raw_fields
     text_of name_text
     area_fields area_text refusal_name refusal_text quoted field_row fru_row fields_of_area fields_at fields_under record_of kind_text change_text
     text_named serde_json_on_literals config_in config_of without_spaces between found_name term_of_word pattern_in read_from matches board_places boards_in

@@ -134,8 +134,7 @@ stage_items-requires g c =
     let among = plug_among c.args.boxed.value (busy c.self.inside.rows.entries) (busy c.self.inside.rows.entries)
     (busy (with_entry c.args.boxed.value c.self.inside.rows.entries)) refl
     (sym (busy_with c.args.boxed.value c.self.inside.rows.entries order c.requires.busy)) in
-    let apart = busy_apart c.args.boxed.value c.self.inside.rows.entries (free_apart c.args.boxed.value c.self.inside.rows.entries free) in
-    (
+    let apart = busy_apart c.args.boxed.value c.self.inside.rows.entries (free_apart c.args.boxed.value c.self.inside.rows.entries free) in (
       items_with c.self.inside.shelf c.self.inside.keep.kept c.in_ok-difference.difference.new_boards
           (with_entry c.args.boxed.value c.self.inside.rows.entries),
       plug_continues c.self.inside.shelf c.self.inside.keep.kept c.self.inside.rows.entries (with_entry c.args.boxed.value c.self.inside.rows.entries)

@@ -364,7 +364,7 @@ returns-clause-tried g c =
     let follows = settles old new c.in_ok-items.items.gone c.in_ok-items.items.new c.args.sensors.now c.stage_changes.new.sensors c.settle_sensors.new.sensors
     next.goes next.comes c.stage_changes.ensures.sensors c.settle_sensors.ensures in
     subst (λ (view : WatchView). Tries view (Configure c.args.config) None new × Settles view new c.args.sensors.now c.settle_sensors.new.sensors)
-        c.self.view_is (
+    c.self.view_is (
       configured old new c.args.config (ap (λ (view : WatchView). view.plugged) c.self.view_is ∙ c.requires.never) (no_entries c.self.inside.plugged c.self.inside.rows.entries (ap (λ (view : WatchView). view.plugged) c.self.view_is ∙ c.requires.never) c.self.invariant.none)
           (ap (λ (view : WatchView). number_of view.configs c.args.config.name) c.self.view_is ∙ c.requires.new)
           (lt-leb most_configs (length c.self.inside.shelf)

@@ -21,7 +21,7 @@ returns-then-is_some-clause-tried g c =
     × SettlesUnless refusal c.args.self.now c.refuse.new.self c.args.sensors.now c.args.sensors.now) (sym c.refuse.ensures.reason) (
       occupied c.args.self.now c.refuse.new.self c.args.place c.args.bytes.now
           (ap (λ (view : WatchView). holds_place view.entries c.args.place) (sym c.self.view_is) ∙ sym c.entry.ensures.held ∙ sym c.is_some.ensures
-              ∙ c.if-is_some.true)
+          ∙ c.if-is_some.true)
           c.refuse.ensures.left,
       refl,
     )
@@ -33,7 +33,7 @@ returns-then-len-ge-MOST_FRUS-clause-tried g c =
     (sym c.refuse-then-len-ge-MOST_FRUS.ensures.reason) (
       frus_full c.args.self.now c.refuse-then-len-ge-MOST_FRUS.new.self c.args.place c.args.bytes.now c.in-Ok.fru
           (ap (λ (view : WatchView). holds_place view.entries c.args.place) (sym c.self.view_is) ∙ sym c.entry.ensures.held ∙ sym c.is_some.ensures
-              ∙ c.if-is_some.false)
+          ∙ c.if-is_some.false)
           c.in-Ok.ensures
           (ap (λ (view : WatchView). nat_le most_frus (length view.entries)) (sym c.self.view_is)
           ∙ le-leb most_frus (length c.self.inside.rows.entries) (omega (arith, c.len.ensures, c.if-len-ge-MOST_FRUS.true)))
@@ -50,7 +50,7 @@ returns-else-len-ge-MOST_FRUS-clause-tried g c =
     (λ refusal adds. (
       plugged_unless refusal c.args.self.now c.add_fru.new.self c.args.place c.args.bytes.now c.in-Ok.fru
           (ap (λ (view : WatchView). holds_place view.entries c.args.place) (sym c.self.view_is) ∙ sym c.entry.ensures.held ∙ sym c.is_some.ensures
-              ∙ c.if-is_some.false)
+          ∙ c.if-is_some.false)
           c.in-Ok.ensures
           (ap (λ (view : WatchView). nat_le most_frus (length view.entries)) (sym c.self.view_is)
           ∙ lt-leb most_frus (length c.self.inside.rows.entries) (omega (arith, c.len.ensures, c.if-len-ge-MOST_FRUS.false))) adds.0,
@@ -65,7 +65,7 @@ returns-in_ok-refusal-in-Err-clause-tried g c =
     (sym c.refuse-in-Err.ensures.reason) (
       broken c.args.self.now c.refuse-in-Err.new.self c.args.place c.args.bytes.now c.in-Err.rule c.in_ok-refusal-in-Err.refusal
           (ap (λ (view : WatchView). holds_place view.entries c.args.place) (sym c.self.view_is) ∙ sym c.entry.ensures.held ∙ sym c.is_some.ensures
-              ∙ c.if-is_some.false)
+          ∙ c.if-is_some.false)
           c.in-Err.ensures c.in_ok-refusal-in-Err.ensures.refusal c.refuse-in-Err.ensures.left,
       refl,
     )
@@ -77,7 +77,7 @@ returns-then-is_some-clause-counted g c =
     plug_untested false c.args.self.now c.args.place c.args.bytes.now c.args.steps.now
     (untested_held c.args.self.now c.args.place c.args.bytes.now
     (ap (λ (view : WatchView). holds_place view.entries c.args.place) (sym c.self.view_is) ∙ sym c.entry.ensures.held ∙ sym c.is_some.ensures
-        ∙ c.if-is_some.true))
+    ∙ c.if-is_some.true))
 
 pub returns-then-len-ge-MOST_FRUS-clause-counted : goal.returns-then-len-ge-MOST_FRUS-clause-counted
 returns-then-len-ge-MOST_FRUS-clause-counted g c =
@@ -91,7 +91,7 @@ returns-else-len-ge-MOST_FRUS-clause-counted g c =
     plug_tested (is_err c.add_fru.result) c.args.self.now c.args.place c.args.bytes.now c.args.steps.now c.add_fru.new.steps
     (is_tested_then c.args.self.now c.args.place c.args.bytes.now
     (ap (λ (view : WatchView). holds_place view.entries c.args.place) (sym c.self.view_is) ∙ sym c.entry.ensures.held ∙ sym c.is_some.ensures
-        ∙ c.if-is_some.false)
+    ∙ c.if-is_some.false)
     (ap is_ok c.in-Ok.ensures)
     (ap (λ (view : WatchView). nat_le most_frus (length view.entries)) (sym c.self.view_is)
     ∙ lt-leb most_frus (length c.self.inside.rows.entries) (omega (arith, c.len.ensures, c.if-len-ge-MOST_FRUS.false))))
