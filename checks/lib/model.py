@@ -52,15 +52,18 @@ NAMED = {"CHASSIS_TYPE", "BOARD_MANUFACTURE_DATE"} | {f"{front}_{it}" for *_, fr
 CUSTOM = re.compile(r"(?:CHASSIS|BOARD|PRODUCT)_INFO_AM([1-9][0-9]{0,3})")
 MOST_CUSTOM = 2040
 NUMBER = re.compile(r"[0-9]{1,9}|0x[0-9A-Fa-f]{1,4}")
-DECIMAL = re.compile(r"(-?)([0-9]{1,10})(?:\.([0-9]{1,3}))?")
-NOT_READ = ("Pid", "Stepwise")
+DECIMAL = re.compile(r"(-?)([0-9]{1,10})(?:\.([0-9]+))?")
 MILLION, MOST_THRESHOLDS, DIRECTIONS = 1_000_000, 8, ("greater than", "less than")
+MOST_NAMES, MOST_ROWS, CLASSES = 16, 20, ("fan", "temp", "margin")
 LARGEST_RAW, FAILING_LOSSES = 1_000_000_000, 5
-# The families of items that are live: the type of their exposes, their word, how many exposes there are at most over
-# all boards, and the refusal of one more. The limits are tried in this order.
-FAMILIES = [("Sensor", "sensor", 4096, "SensorLimit"), ("Pid.Zone", "zone", 32, "ZoneLimit")]
-FAMILIES += [("Fan", "fan", 128, "FanLimit")]
-FAMILY_WORDS = {kind: word for kind, word, *_ in FAMILIES}
+# The items that may be live: the type of their exposes, their word, how many exposes there are at most over all boards,
+# and the refusal of one more. The limits are tried in this order. Names are given once in each family, and those of
+# controllers in none.
+KINDS = [("Sensor", "sensor", 4096, "SensorLimit"), ("Pid.Zone", "zone", 32, "ZoneLimit")]
+KINDS += [("Fan", "fan", 128, "FanLimit")]
+FAMILIES = [kind for kind, *_ in KINDS]
+KINDS += [("Pid", "controller", 128, "PidLimit"), ("Stepwise", "controller", 64, "StepLimit")]
+KIND_WORDS = {kind: word for kind, word, *_ in KINDS}
 END = 0xC1
 ENGLISH = (0, 25)
 BCD_PLUS = "0123456789 -.:,_"
@@ -71,9 +74,9 @@ ROOTS = 16
 Config = namedtuple("Config", "name words match_one wants opens moves exposes")
 # An expose: the template of its name, its type, its channels, and what its further members say.
 Expose = namedtuple("Expose", "name kind channels members")
-# An item: the board and the position of its expose, which make it the same item, its type, its name, and its bus and
-# its address, where it has them.
-Item = namedtuple("Item", "board at kind name bus address")
+# An item: the board and the position of its expose, which make it the same item, its type, its name, its bus and its
+# address, where it has them, and the name of its zone, which a controller alone has.
+Item = namedtuple("Item", "board at kind name bus address zone")
 
 
 class Broken(Exception):
@@ -334,7 +337,7 @@ def is_word(word):
 
 
 def check_template(text):
-    """A text of 1 to 128 bytes has to be a template."""
+    """A text has to be a template."""
     for word, operations in ((it[1], it[2]) for it in SUBSTITUTION.finditer(text)):
         divides_by_zero = any(sign in "/%" and int(number) == 0 for sign, number in OPERATION.findall(operations))
         demand("TemplateSyntax", is_word(word) and not divides_by_zero)
@@ -409,24 +412,39 @@ def whole_of(value, least, most):
     return value
 
 
-def decimal_of(value, least, most):
-    """The thousandths of a decimal from and to so many units."""
+def decimal_of(value, least, most, places=3):
+    """The thousandths of a decimal from and to so many units, or with six places its millionths."""
     demand("WrongKind", isinstance(value, str) or type(value) is int)
     if isinstance(value, str):
         found = DECIMAL.fullmatch(value)
-        demand("WrongKind", found)
-        size = int(found[2] + (found[3] or "").ljust(3, "0"))
+        demand("WrongKind", found and len(found[3] or "") <= places)
+        size = int(found[2] + (found[3] or "").ljust(places, "0"))
         value = -size if found[1] else size
     else:
-        value *= 1000
-    demand("OutOfRange", 1000 * least <= value <= 1000 * most)
+        value *= 10**places
+    demand("OutOfRange", 10**places * least <= value <= 10**places * most)
     return value
 
 
-def direction_of(value):
-    """The direction of a threshold."""
+def choice_of(value, choices):
+    """One of these texts."""
     demand("WrongKind", isinstance(value, str))
-    demand("OutOfRange", value in DIRECTIONS)
+    demand("OutOfRange", value in choices)
+    return value
+
+
+def list_of(value, least, most, read, *bounds):
+    """A list of so many elements, each of which is read in its turn."""
+    demand("WrongKind", isinstance(value, list))
+    demand("OutOfRange", least <= len(value) <= most)
+    return [read(it, *bounds) for it in value]
+
+
+def template_of(value):
+    """A name that is rendered: a template of 1 to 128 bytes."""
+    demand("WrongKind", isinstance(value, str))
+    demand("OutOfRange", 1 <= len(value.encode()) <= LONGEST_TEMPLATE)
+    check_template(value)
     return value
 
 
@@ -436,23 +454,27 @@ def threshold_of(value):
     return members_of(value, THRESHOLD)
 
 
-def thresholds_of(value):
-    """A list of thresholds."""
-    demand("WrongKind", isinstance(value, list))
-    demand("OutOfRange", len(value) <= MOST_THRESHOLDS)
-    return [threshold_of(it) for it in value]
-
-
 # The members of a threshold, and of exposes by their type, in the order in which they are looked at: the key, whether
 # it has to be there, what reads its value, and the bounds of this.
-THRESHOLD = [("Direction", True, direction_of), ("Severity", True, whole_of, 0, 1)]
+THRESHOLD = [("Direction", True, choice_of, DIRECTIONS), ("Severity", True, whole_of, 0, 1)]
 THRESHOLD += [("Value", True, decimal_of, -MILLION, MILLION), ("Hysteresis", False, decimal_of, 0, MILLION)]
 ZONE = [("MinThermalOutput", True, decimal_of, -MILLION, MILLION), ("FailSafePercent", True, decimal_of, 0, 100)]
 SENSOR = [("Bus", False, number_of, 255), ("Address", False, number_of, 127)]
 SENSOR += [("ScaleNum", False, whole_of, -MILLION, MILLION), ("ScaleDen", False, whole_of, 1, MILLION)]
 SENSOR += [("Offset", False, decimal_of, -MILLION, MILLION), ("Timeout", False, whole_of, 0, MILLION)]
-SENSOR += [("Thresholds", False, thresholds_of)]
-MEMBERS = {"Sensor": SENSOR, "Pid.Zone": ZONE}
+SENSOR += [("Thresholds", False, list_of, 0, MOST_THRESHOLDS, threshold_of)]
+# Those of a controller of any kind, and of a PID controller: of any class, first and last, and of some.
+CONTROL = [("Zones", True, list_of, 1, 1, template_of), ("Inputs", True, list_of, 1, MOST_NAMES, template_of)]
+CLASS = [("Class", True, choice_of, CLASSES)]
+OUTPUTS = [("Outputs", True, list_of, 1, MOST_NAMES, template_of)]
+SET_POINT = [("SetPoint", True, decimal_of, -MILLION, MILLION)]
+COEFFICIENTS = ["PCoefficient", "ICoefficient", "DCoefficient", "FFGainCoefficient"]
+PID = [(key, False, decimal_of, -MILLION, MILLION, 6) for key in COEFFICIENTS]
+PID += [(key, False, decimal_of, -MILLION, MILLION) for key in ("FFOffCoefficient", "ILimitMin", "ILimitMax")]
+PID += [(key, True, decimal_of, -MILLION, MILLION) for key in ("OutLimitMin", "OutLimitMax")]
+PID += [("SlewNeg", False, decimal_of, -MILLION, 0), ("SlewPos", False, decimal_of, 0, MILLION)]
+READINGS = [("Reading", True, list_of, 1, MOST_ROWS, decimal_of, -MILLION, MILLION)]
+HYSTERESES = [(key, False, decimal_of, 0, MILLION) for key in ("PositiveHysteresis", "NegativeHysteresis")]
 
 
 def members_of(value, members):
@@ -465,22 +487,39 @@ def members_of(value, members):
     return found
 
 
-def channels_of(mux):
-    """The channels of a multiplexer."""
-    channels = member(mux, "Channels", list)
-    demand("OutOfRange", 1 <= len(channels) <= MOST_CHANNELS)
-    return [channel_of(it) for it in channels]
+def pid_of(expose):
+    """The members of a PID controller. No least number is above its greatest one, and fans run at 0 to 100 percent."""
+    found = members_of(expose, CLASS)
+    is_fan = found["Class"] == "fan"
+    found |= members_of(expose, CONTROL + (OUTPUTS if is_fan else SET_POINT) + PID)
+    demand("OutOfRange", found.get("ILimitMin", 0) <= found.get("ILimitMax", 0))
+    demand("OutOfRange", found["OutLimitMin"] <= found["OutLimitMax"])
+    demand("OutOfRange", not is_fan or 0 <= found["OutLimitMin"] and found["OutLimitMax"] <= 100_000)
+    return found
+
+
+def stepwise_of(expose):
+    """The members of a stepwise controller, which has as many outputs as readings."""
+    found = members_of(expose, CONTROL + READINGS)
+    count = len(found["Reading"])
+    outputs = [("Output", True, list_of, count, count, decimal_of, -MILLION, MILLION)]
+    return found | members_of(expose, outputs + HYSTERESES)
+
+
+def body_of(expose, kind):
+    """The members of an expose of this type. Those of one of any other type are not read."""
+    members = {"Sensor": SENSOR, "Pid.Zone": ZONE, "Mux": [("Channels", True, list_of, 1, MOST_CHANNELS, channel_of)]}
+    readers = {"Pid": pid_of, "Stepwise": stepwise_of}
+    return readers[kind](expose) if kind in readers else members_of(expose, members.get(kind, []))
 
 
 def expose_of(expose):
     """An expose, of which only a multiplexer has channels."""
     demand("WrongKind", isinstance(expose, dict))
-    name = text_in(expose, "Name", LONGEST_TEMPLATE)
-    check_template(name)
+    name = template_of(member(expose, "Name", str))
     kind = text_in(expose, "Type", 64)
-    demand("ExposeForm", kind not in NOT_READ)
-    channels = channels_of(expose) if kind == "Mux" else []
-    return Expose(name, kind, channels, members_of(expose, MEMBERS.get(kind, [])))
+    members = body_of(expose, kind)
+    return Expose(name, kind, members.get("Channels", []), members)
 
 
 def texts_of(probe):
@@ -635,7 +674,7 @@ def check_limits(boards, machine):
     """The boards and their exposes are limited."""
     demand("BoardLimit", len(boards) <= MOST_BOARDS)
     kinds = [it.kind for number, _ in boards for it in machine.configs[number].exposes]
-    for kind, _, most, rule in FAMILIES:
+    for kind, _, most, rule in KINDS:
         demand(rule, kinds.count(kind) <= most)
 
 
@@ -666,29 +705,33 @@ def texts_of_board(board, machine):
     return {**texts, "index": str(machine.had[number][place])}
 
 
+def item_at(board, at, expose, texts):
+    """The item of an expose where keys have these texts, or None where one of its names gives nothing."""
+    names = [given_by(expose.name, texts)]
+    names += [given_by(it, texts) for key in ("Zones", "Inputs", "Outputs") for it in expose.members.get(key, [])]
+    if None in names:
+        return None
+    bus, address = (expose.members.get(key) for key in ("Bus", "Address"))
+    zone = names[1] if "Zones" in expose.members else None
+    return Item(board, at, expose.kind, names[0], number_by(bus, texts, 255), number_by(address, texts, 127), zone)
+
+
 def items_at(board, kinds, machine):
     """The items of a board in their order, or of these kinds alone."""
-    items = []
     exposes = [(at, it) for at, it in enumerate(machine.configs[board[0]].exposes) if not kinds or it.kind in kinds]
     texts = texts_of_board(board, machine) if exposes else {}
-    for at, expose in exposes:
-        name = given_by(expose.name, texts)
-        bus, address = (expose.members.get(key) for key in ("Bus", "Address"))
-        if name:
-            given = number_by(bus, texts, 255), number_by(address, texts, 127)
-            items.append(Item(board, at, expose.kind, name, *given))
-    return items
+    items = [item_at(board, at, expose, texts) for at, expose in exposes]
+    return [it for it in items if it]
 
 
 def live_of(machine):
-    """The live items in their order: of each family the first with each name."""
-    live, held = [], set()
-    for board in machine.boards:
-        for item in items_at(board, FAMILY_WORDS, machine):
-            if (item.kind, item.name) not in held:
-                held.add((item.kind, item.name))
-                live.append(item)
-    return live
+    """The live items in their order: of each family the first with each name, and the controllers in zones that are
+    held."""
+    items, holders = [it for board in machine.boards for it in items_at(board, KIND_WORDS, machine)], {}
+    for item in items:
+        holders.setdefault((item.kind, item.name), item)
+    holds = lambda item: item.kind in FAMILIES and holders[item.kind, item.name] is item
+    return [it for it in items if holds(it) or ("Pid.Zone", it.zone) in holders]
 
 
 def board_text(board, machine):
@@ -711,7 +754,7 @@ def changed(boards, live, machine):
     turns = [("gone", live, machine.live), ("new", machine.live, live)]
     items = [(change, it) for change, here, there in turns for it in only_in(here, there)]
     lines = [f"0 {change} board {board_text(it, machine)}" for change, it in boards]
-    return lines + [f"0 {change} {FAMILY_WORDS[it.kind]} {quoted(it.name)}" for change, it in items]
+    return lines + [f"0 {change} {KIND_WORDS[it.kind]} {quoted(it.name)}" for change, it in items]
 
 
 def name_of(data):

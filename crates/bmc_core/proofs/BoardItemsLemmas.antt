@@ -11,6 +11,8 @@ use Rattle.cfg_json.specs.Configs.{Config}
 use Rattle.cfg_json.specs.declared.expose.Expose.{Expose}
 use Rattle.cfg_json.specs.declared.item.Item.{Item}
 use Rattle.cfg_json.specs.declared.item.ItemId.{ItemId}
+use Rattle.cfg_json.specs.declared.item.ItemPart.{ItemPart}
+use Rattle.tmpl.specs.Rendering.{rendered}
 use Rattle.inventory.specs.Differences.{key_of}
 use Rattle.inventory.specs.Items.{exposes_of, board_fields, part_of, rendered_item, board_items, items}
 use Rattle.inventory.specs.Lists.{keys_of, board_of, board_list}
@@ -68,18 +70,17 @@ module _ (configs : List Config) (fields_at : Place → Option (List Field)) whe
     id_at position = record { config = board.key.config; place = board.key.place; expose = position }
 
     -- what is rendered of an expose has the id of its position there
-    id_is : (name : Option (List ℕ)) (position : ℕ) (expose : Expose) (item : Item)
-        → option_map (λ name. record {
-          id = id_at position;
-          name = name;
-          part = part_of board.key.place fields board.index expose.body;
-        }) name ≡ Some item → item.id ≡ id_at position
-    id_is None position expose item made = absurd (cc)
-    id_is (Some name) position expose item made = cc
+    id_is : (name : Option (List ℕ)) (part : Option ItemPart) (position : ℕ) (item : Item)
+        → option_and_then (λ name. option_map (λ part. record { id = id_at position; name = name; part = part }) part) name ≡ Some item
+        → item.id ≡ id_at position
+    id_is None part position item made = absurd (cc)
+    id_is (Some name) None position item made = absurd (cc)
+    id_is (Some name) (Some part) position item made = cc
 
     of_expose : (each : ℕ × Expose) → slice_get exposes each.0 ≡ Some each.1 → (item : Item) → rendered_item board fields each ≡ Some item → IsOf board item
     of_expose (position, expose) at item made =
-        let id : item.id ≡ id_at position = id_is _ position expose item made in
+        let id : item.id ≡ id_at position = id_is (rendered board.key.place fields board.index expose.name)
+        (part_of board.key.place fields board.index expose.body) position item made in
         record {
           key = ap exposer id;
           within = subst (λ (id : ItemId). id.expose < length exposes) (sym id) (slice_get_within exposes position expose at);

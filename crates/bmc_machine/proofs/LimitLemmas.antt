@@ -14,7 +14,9 @@ use Rattle.cfg_json.specs.Configs.{Config}
 use Rattle.cfg_json.specs.Shelves.{most_configs, number_of}
 use Rattle.inventory.specs.Boards.{boards_in}
 use Rattle.inventory.specs.Differences.{key_of}
-use Rattle.inventory.specs.Limits.{most_boards, most_sensors, most_zones, most_fans, board_counts, passed_limit}
+use Rattle.inventory.specs.Limits.{most_boards, most_sensors, most_zones, most_fans, most_pids, most_steps, board_counts, totals_of, limit_of, passed_limit}
+use Rattle.inventory.specs.declared.limits.Totals.{Totals}
+use Rattle.cfg_json.specs.declared.counts.Counts.{Counts}
 use Rattle.inventory.specs.Lists.{keys_of}
 use Rattle.inventory.specs.declared.board.BoardKey.{BoardKey}
 use Rattle.inventory.specs.declared.fault.InventoryFault.{InventoryFault}
@@ -25,46 +27,41 @@ use Rattle.bmc_machine.specs.Histories.{Step, Configure, Plug, RefusedPlug, Unpl
 use Rattle.bmc_machine.specs.Refusals.{limit_refusal, refusal_by_limit, ◌or_else◌, IsLegalStep, IsLegal}
 use Rattle.bmc_machine.proofs.FewerLemmas.{boards_fewer}
 
--- the limits, by how many boards, sensors, zones and fans there are
-abbrev passed_by : ℕ → ℕ → ℕ → ℕ → Option InventoryFault
-passed_by boards sensors zones fans =
-    cond (nat_lt most_boards boards) (Some limits.BoardLimit)
-    (cond (nat_lt most_sensors sensors) (Some limits.SensorLimit)
-    (cond (nat_lt most_zones zones) (Some limits.ZoneLimit) (cond (nat_lt most_fans fans) (Some limits.FanLimit) None)))
-
 -- what is no refusal is no limit
 no_limit : (passed : Option InventoryFault) → option_map limit_refusal passed ≡ None → passed ≡ None
 no_limit None none = refl
 no_limit (Some fault) none = absurd (cc)
 
--- with no more of each, no limit is passed that was not
-none_more : (boards sensors zones fans few_boards few_sensors few_zones few_fans : ℕ) → few_boards ≤ boards → few_sensors ≤ sensors
-    → few_zones ≤ zones → few_fans ≤ fans → passed_by boards sensors zones fans ≡ None → passed_by few_boards few_sensors few_zones few_fans ≡ None
-none_more boards sensors zones fans few_boards few_sensors few_zones few_fans fewer_boards fewer_sensors fewer_zones fewer_fans =
-    by (nat_lt most_boards boards) refl (nat_lt most_sensors sensors) refl (nat_lt most_zones zones) refl (nat_lt most_fans fans) refl
+-- a limit that is not passed is not passed with fewer
+link : (most many few : ℕ) (fault : InventoryFault) (later few_later : Option InventoryFault) → few ≤ many → (later ≡ None → few_later ≡ None)
+    → cond (nat_lt most many) (Some fault) later ≡ None → cond (nat_lt most few) (Some fault) few_later ≡ None
+link most many few fault later few_later fewer rest none = by (nat_lt most many) refl none
   where
-    within : (most many few : ℕ) → few ≤ many → nat_lt most many ≡ false → nat_lt most few ≡ false
-    within most many few fewer none = grind (arith, nat_tests, fewer, none)
+    within : nat_lt most many ≡ false → nat_lt most few ≡ false
+    within is = grind (arith, nat_tests, fewer, is)
 
-    of : Bool → Bool → Bool → Bool → Option InventoryFault
-    of board sensor zone fan =
-        cond board (Some limits.BoardLimit)
-        (cond sensor (Some limits.SensorLimit) (cond zone (Some limits.ZoneLimit) (cond fan (Some limits.FanLimit) None)))
+    by : (test : Bool) → nat_lt most many ≡ test → cond test (Some fault) later ≡ None → cond (nat_lt most few) (Some fault) few_later ≡ None
+    by true is none = absurd (cc)
+    by false is none = ap (λ (test : Bool). cond test (Some fault) few_later) (within is) ∙ rest none
 
-    none_passed : nat_lt most_boards few_boards ≡ false → nat_lt most_sensors few_sensors ≡ false → nat_lt most_zones few_zones ≡ false
-        → nat_lt most_fans few_fans ≡ false → passed_by few_boards few_sensors few_zones few_fans ≡ None
-    none_passed board sensor zone fan = λ i. of (board i) (sensor i) (zone i) (fan i)
+-- there are no more of each
+record AreFewer (few many : Totals) : Type 0 where
+  boards : few.boards ≤ many.boards
+  sensors : few.sensors ≤ many.sensors
+  zones : few.zones ≤ many.zones
+  fans : few.fans ≤ many.fans
+  pids : few.pids ≤ many.pids
+  steps : few.steps ≤ many.steps
 
-    by : (board : Bool) → nat_lt most_boards boards ≡ board → (sensor : Bool) → nat_lt most_sensors sensors ≡ sensor
-        → (zone : Bool) → nat_lt most_zones zones ≡ zone → (fan : Bool) → nat_lt most_fans fans ≡ fan → of board sensor zone fan ≡ None
-        → passed_by few_boards few_sensors few_zones few_fans ≡ None
-    by true is_board sensor is_sensor zone is_zone fan is_fan none = absurd (cc)
-    by false is_board true is_sensor zone is_zone fan is_fan none = absurd (cc)
-    by false is_board false is_sensor true is_zone fan is_fan none = absurd (cc)
-    by false is_board false is_sensor false is_zone true is_fan none = absurd (cc)
-    by false is_board false is_sensor false is_zone false is_fan none =
-        none_passed (within most_boards boards few_boards fewer_boards is_board) (within most_sensors sensors few_sensors fewer_sensors is_sensor)
-        (within most_zones zones few_zones fewer_zones is_zone) (within most_fans fans few_fans fewer_fans is_fan)
+-- then no limit is passed that was not
+none_more : (few many : Totals) → AreFewer few many → limit_of many ≡ None → limit_of few ≡ None
+none_more few many fewer =
+    link most_boards many.boards few.boards limits.BoardLimit _ _ fewer.boards
+    (link most_sensors many.sensors few.sensors limits.SensorLimit _ _ fewer.sensors
+    (link most_zones many.zones few.zones limits.ZoneLimit _ _ fewer.zones
+    (link most_fans many.fans few.fans limits.FanLimit _ _ fewer.fans
+    (link most_pids many.pids few.pids limits.PidLimit _ _ fewer.pids
+    (link most_steps many.steps few.steps limits.StepLimit _ _ fewer.steps (λ none. none))))))
 
 -- ---- fewer boards
 
@@ -102,38 +99,32 @@ length_total (key ∷ keys) =
     let more = sum_by-cons (λ (key : BoardKey). 1) key keys in
     omega (arith, rest, more)
 
--- the sensors, the zones and the fans among the exposes of a configuration
-abbrev sensors_of : List Config → ℕ → ℕ
-sensors_of configs number = (board_counts configs (record { config = number; place = None })).sensors
-
-abbrev zones_of : List Config → ℕ → ℕ
-zones_of configs number = (board_counts configs (record { config = number; place = None })).zones
-
-abbrev fans_of : List Config → ℕ → ℕ
-fans_of configs number = (board_counts configs (record { config = number; place = None })).fans
-
-passed_is : (configs : List Config) (keys : List BoardKey)
-    → passed_limit configs keys ≡ passed_by (length keys) (total (sensors_of configs) keys) (total (zones_of configs) keys) (total (fans_of configs) keys)
-unfolding passed_limit
-passed_is configs keys = refl
+-- what the boards of a configuration have
+abbrev counts_at : List Config → ℕ → Counts
+counts_at configs number = board_counts configs (record { config = number; place = None })
 
 pub keys_fewer : (configs : List Config) (count : ℕ) (few many : ℕ → List (Option Place)) → ((number : ℕ) → length (few number) ≤ length (many number))
     → passed_limit configs (keys_of count many) ≡ None → passed_limit configs (keys_of count few) ≡ None
-keys_fewer configs count few many fewer none =
-    passed_is configs (keys_of count few)
-    ∙ none_more (length (keys_of count many)) (total (sensors_of configs) (keys_of count many)) (total (zones_of configs) (keys_of count many))
-    (total (fans_of configs) (keys_of count many)) (length (keys_of count few)) (total (sensors_of configs) (keys_of count few))
-    (total (zones_of configs) (keys_of count few)) (total (fans_of configs) (keys_of count few)) less_boards
-    (total_fewer (sensors_of configs) few many fewer (range_with_len 0 count)) (total_fewer (zones_of configs) few many fewer (range_with_len 0 count))
-    (total_fewer (fans_of configs) few many fewer (range_with_len 0 count))
-    (sym (passed_is configs (keys_of count many)) ∙ none)
+unfolding passed_limit
+keys_fewer configs count few many fewer =
+    none_more (totals_of configs (keys_of count few)) (totals_of configs (keys_of count many)) (record {
+      boards = less_boards;
+      sensors = less (λ number. (counts_at configs number).sensors);
+      zones = less (λ number. (counts_at configs number).zones);
+      fans = less (λ number. (counts_at configs number).fans);
+      pids = less (λ number. (counts_at configs number).pids);
+      steps = less (λ number. (counts_at configs number).steps);
+    })
   where
+    less : (weight : ℕ → ℕ) → total weight (keys_of count few) ≤ total weight (keys_of count many)
+    less weight = total_fewer weight few many fewer (range_with_len 0 count)
+
     less_boards : length (keys_of count few) ≤ length (keys_of count many)
     less_boards =
         let few_are = length_total (keys_of count few) in
         let many_are = length_total (keys_of count many) in
-        let less = total_fewer (λ number. 1) few many fewer (range_with_len 0 count) in
-        omega (arith, few_are, many_are, less)
+        let no_more = less (λ number. 1) in
+        omega (arith, few_are, many_are, no_more)
 
 -- ---- histories
 

@@ -10,6 +10,8 @@ use Rattle.fru_area.specs.declared.field.Field.{Field}
 use Rattle.cfg_json.specs.declared.expose.Expose.{Expose}
 use Rattle.cfg_json.specs.declared.item.Item.{Item}
 use Rattle.cfg_json.specs.declared.item.ItemId.{ItemId}
+use Rattle.cfg_json.specs.declared.item.ItemPart.{ItemPart}
+use Rattle.tmpl.specs.Rendering.{rendered}
 use Rattle.inventory.specs.Boards.{has_board}
 use Rattle.inventory.specs.Differences.{key_of}
 use Rattle.inventory.specs.Items.{exposes_of, board_fields, part_of, rendered_item, board_items, items}
@@ -87,18 +89,17 @@ module _ (past : List Step) where
     id_at position = record { config = board.key.config; place = board.key.place; expose = position }
 
     -- what is rendered of an expose has the id of its position there
-    has_id : (name : Option (List ℕ)) (position : ℕ) (expose : Expose) (item : Item)
-        → option_map (λ name. record {
-          id = id_at position;
-          name = name;
-          part = part_of board.key.place fields board.index expose.body;
-        }) name ≡ Some item → item.id ≡ id_at position
-    has_id None position expose item made = absurd (cc)
-    has_id (Some name) position expose item made = cc
+    has_id : (name : Option (List ℕ)) (part : Option ItemPart) (position : ℕ) (item : Item)
+        → option_and_then (λ name. option_map (λ part. record { id = id_at position; name = name; part = part }) part) name ≡ Some item
+        → item.id ≡ id_at position
+    has_id None part position item made = absurd (cc)
+    has_id (Some name) None position item made = absurd (cc)
+    has_id (Some name) (Some part) position item made = cc
 
     of_expose : (each : ℕ × Expose) → slice_get exposes each.0 ≡ Some each.1 → (item : Item) → rendered_item board fields each ≡ Some item → IsItem past item
     of_expose (position, expose) at item made =
-        let id : item.id ≡ id_at position = has_id _ position expose item made in
+        let id : item.id ≡ id_at position = has_id (rendered board.key.place fields board.index expose.name)
+        (part_of board.key.place fields board.index expose.body) position item made in
         record {
           board = subst (λ (id : ItemId). has_board (boards (standing past) id.config) id.place ≡ true) (sym id) is.1;
           made = subst (λ (id : ItemId). item_at past id ≡ Some item) (sym id)

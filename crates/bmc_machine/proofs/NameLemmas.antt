@@ -1,5 +1,5 @@
 -- Live items of one family have names that differ.
-use Rattle.std.proofs.Common.{◌≡◌, ℕ, List, [], ◌∷◌, Bool, true, false, cond, Option, Some, None, map, filter, refl, sym, ap, ◌∙◌}
+use Rattle.std.proofs.Common.{◌≡◌, ℕ, List, [], ◌∷◌, Bool, true, false, ◌||◌, cond, Option, Some, None, map, filter, refl, sym, ap, ◌∙◌}
 use Rattle.std.specs.Prelude.{bytes_eq}
 use Rattle.std.specs.List.{AllByRecursion, IsDistinct}
 use Rattle.std.specs.Cmp.Lexicographic.{bytes_decides}
@@ -36,19 +36,24 @@ own_ids_left test (first ∷ items) differ = by (test first) (own_ids_left test 
     by true rest = (all_map _ (λ (item : Item). item.id) _ (all_filter _ test items (all_mapped _ (λ (item : Item). item.id) items differ.0)), rest)
     by false rest = rest
 
+or_none : (test : Bool) → (test || false) ≡ test
+or_none true = refl
+or_none false = refl
+
 -- an item of a family is live where it holds its name there
 pub live_is : (family : Family) (items : List Item) (id : ItemId) (name : List ℕ) (part : ItemPart)
     → is_of family (record { id = id; name = name; part = part }) ≡ true
     → is_live items (record { id = id; name = name; part = part }) ≡ is_item id (holder items family name)
-live_is families.Sensor items id name (parts.Sensor sensor) is = refl
-live_is families.Zone items id name (parts.Zone setting) is = refl
-live_is families.Fan items id name parts.Fan is = refl
+live_is families.Sensor items id name (parts.Sensor sensor) is = or_none (is_item id (holder items families.Sensor name))
+live_is families.Zone items id name (parts.Zone setting) is = or_none (is_item id (holder items families.Zone name))
+live_is families.Fan items id name parts.Fan is = or_none (is_item id (holder items families.Fan name))
 live_is families.Sensor items id name (parts.Zone setting) is = absurd (cc)
 live_is families.Sensor items id name parts.Fan is = absurd (cc)
 live_is families.Zone items id name (parts.Sensor sensor) is = absurd (cc)
 live_is families.Zone items id name parts.Fan is = absurd (cc)
 live_is families.Fan items id name (parts.Sensor sensor) is = absurd (cc)
 live_is families.Fan items id name (parts.Zone setting) is = absurd (cc)
+live_is family items id name (parts.Control control) is = absurd (cc)
 live_is family items id name (parts.Mux part) is = absurd (cc)
 live_is family items id name parts.Passive is = absurd (cc)
 

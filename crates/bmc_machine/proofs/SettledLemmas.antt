@@ -97,6 +97,7 @@ pub of_sensors : (part : ItemPart) → option_eq family_eq (family_of part) (Som
 of_sensors (parts.Sensor sensor) = refl
 of_sensors parts.Fan = refl
 of_sensors (parts.Zone setting) = refl
+of_sensors (parts.Control control) = refl
 of_sensors (parts.Mux part) = refl
 of_sensors parts.Passive = refl
 
@@ -127,6 +128,8 @@ started_one_is item name sensor = by item.part (bytes_eq item.name name)
     by parts.Fan false = refl
     by (parts.Zone setting) true = refl
     by (parts.Zone setting) false = refl
+    by (parts.Control control) true = refl
+    by (parts.Control control) false = refl
     by (parts.Mux part) true = refl
     by (parts.Mux part) false = refl
     by parts.Passive true = refl

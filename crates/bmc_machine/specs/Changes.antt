@@ -49,6 +49,7 @@ abbrev pub kind_of : ItemPart → Option LiveKind
 kind_of (parts.Sensor item) = Some kinds.Sensor
 kind_of parts.Fan = Some kinds.Fan
 kind_of (parts.Zone setting) = Some kinds.Zone
+kind_of (parts.Control control) = Some kinds.Controller
 kind_of (parts.Mux part) = None
 kind_of parts.Passive = None
 

@@ -79,12 +79,23 @@ has_sensors =
     codes "{\"Name\":\"F\",\"Probe\":\"xyz.openbmc_project.FruDevice({})\",\"Exposes\":["
     ++ codes "{\"Name\":\"T\",\"Type\":\"Sensor\",\"Bus\":\"$bus\",\"Address\":76}]}"
 
--- one whose probe has no word, one with an expose of a type that is not read, and one with a name that is no template
+-- one with a controller in zone Z, and one with this zone at each FRU
+abbrev pub has_controller : List ℕ
+has_controller =
+    codes "{\"Name\":\"C\",\"Probe\":\"TRUE\",\"Exposes\":[{\"Name\":\"P\",\"Type\":\"Stepwise\","
+    ++ codes "\"Zones\":[\"Z\"],\"Inputs\":[\"T\"],\"Reading\":[0],\"Output\":[20]}]}"
+
+abbrev pub has_zones : List ℕ
+has_zones =
+    codes "{\"Name\":\"F\",\"Probe\":\"xyz.openbmc_project.FruDevice({})\",\"Exposes\":["
+    ++ codes "{\"Name\":\"Z\",\"Type\":\"Pid.Zone\",\"MinThermalOutput\":0,\"FailSafePercent\":80}]}"
+
+-- one whose probe has no word, one with a controller that lacks a member, and one with a name that is no template
 abbrev pub no_word : List ℕ
 no_word = codes "{\"Name\":\"A\",\"Probe\":\"TRU\"}"
 
-abbrev pub unread : List ℕ
-unread = codes "{\"Name\":\"A\",\"Probe\":\"TRUE\",\"Exposes\":[{\"Name\":\"X\",\"Type\":\"Pid\"}]}"
+abbrev pub no_class : List ℕ
+no_class = codes "{\"Name\":\"A\",\"Probe\":\"TRUE\",\"Exposes\":[{\"Name\":\"X\",\"Type\":\"Pid\"}]}"
 
 abbrev pub no_template : List ℕ
 no_template = codes "{\"Name\":\"A\",\"Probe\":\"TRUE\",\"Exposes\":[{\"Name\":\"$foo\",\"Type\":\"Fan\"}]}"

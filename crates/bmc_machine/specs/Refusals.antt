@@ -12,12 +12,12 @@ use Rattle.bmc_script.specs.declared.command.ScriptFault.{ScriptFault}
 use Rattle.bmc_script.specs.declared.command.ScriptFault.TheVariants as lines
 use Rattle.bmc_report.specs.declared.refusal.Refusal.{Refusal}
 use Rattle.bmc_report.specs.declared.refusal.Refusal.TheVariants.{UnknownCommand, BadArguments, PlaceRange, BadHex}
-use Rattle.bmc_report.specs.declared.refusal.Refusal.TheVariants.{NotJson, Fraction, MissingKey, WrongKind, OutOfRange, ProbeSyntax, ExposeForm}
+use Rattle.bmc_report.specs.declared.refusal.Refusal.TheVariants.{NotJson, Fraction, MissingKey, WrongKind, OutOfRange, ProbeSyntax}
 use Rattle.bmc_report.specs.declared.refusal.Refusal.TheVariants.{TemplateSyntax, MuxMatchOne, PatternSyntax, PatternTooLarge, ConfigAfterPlug}
 use Rattle.bmc_report.specs.declared.refusal.Refusal.TheVariants.{DuplicateName, ConfigLimit, Occupied}
 use Rattle.bmc_report.specs.declared.refusal.Refusal.TheVariants.{FruShort, FruTooLong, HeaderVersion, HeaderChecksum, AreaOutside, AreaVersion}
 use Rattle.bmc_report.specs.declared.refusal.Refusal.TheVariants.{AreaLength, AreaChecksum, FieldOutside, NoEnd, FruLimit}
-use Rattle.bmc_report.specs.declared.refusal.Refusal.TheVariants.{BoardLimit, SensorLimit, ZoneLimit, FanLimit, NotPresent}
+use Rattle.bmc_report.specs.declared.refusal.Refusal.TheVariants.{BoardLimit, SensorLimit, ZoneLimit, FanLimit, PidLimit, StepLimit, NotPresent}
 use Rattle.bmc_report.specs.declared.refusal.Refusal.TheVariants.{UnknownSensor, ReadingRange}
 use Rattle.sensor_core.specs.Settings.{most_raw}
 use Rattle.cfg_json.specs.declared.item.Item.{Item}
@@ -61,7 +61,6 @@ config_refusal faults.MissingKey = Some MissingKey
 config_refusal faults.WrongKind = Some WrongKind
 config_refusal faults.OutOfRange = Some OutOfRange
 config_refusal (faults.ProbeSyntax at) = Some ProbeSyntax
-config_refusal faults.ExposeForm = Some ExposeForm
 config_refusal faults.TemplateSyntax = Some TemplateSyntax
 config_refusal faults.MuxMatchOne = Some MuxMatchOne
 config_refusal (faults.PatternSyntax text) = Some PatternSyntax
@@ -83,6 +82,8 @@ limit_refusal limits.BoardLimit = BoardLimit
 limit_refusal limits.SensorLimit = SensorLimit
 limit_refusal limits.ZoneLimit = ZoneLimit
 limit_refusal limits.FanLimit = FanLimit
+limit_refusal limits.PidLimit = PidLimit
+limit_refusal limits.StepLimit = StepLimit
 
 -- the refusal where this would stand: by the first limit that its boards pass
 abbrev pub refusal_by_limit : Standing → Option Refusal

@@ -54,6 +54,7 @@ abbrev pub bus_in : ItemPart → Option ℕ
 bus_in (parts.Sensor sensor) = sensor.bus
 bus_in parts.Fan = None
 bus_in (parts.Zone setting) = None
+bus_in (parts.Control control) = None
 bus_in (parts.Mux part) = None
 bus_in parts.Passive = None
 
@@ -61,6 +62,7 @@ abbrev pub address_in : ItemPart → Option ℕ
 address_in (parts.Sensor sensor) = sensor.address
 address_in parts.Fan = None
 address_in (parts.Zone setting) = None
+address_in (parts.Control control) = None
 address_in (parts.Mux part) = None
 address_in parts.Passive = None
 

@@ -4,7 +4,8 @@ ghost use Rattle.bmc_machine.specs.Meetings.{first_met, met_before};
 ghost use Rattle.bmc_machine.specs.Answers.{answer_of, out};
 ghost use Rattle.bmc_machine.specs.Examples.{riser, riser_fields, chassis, chassis_fields, damaged, bare, plug, unplug, config, fru, refused};
 ghost use Rattle.bmc_machine.specs.Examples.{always_found, never_found, asks_before, asks_behind, finds_any, finds_first, finds_chassis, finds_riser};
-ghost use Rattle.bmc_machine.specs.Examples.{opens_20, opens_below, names_fans, has_sensor, has_alarm, has_sensors, no_word, unread, no_template, three_frus};
+ghost use Rattle.bmc_machine.specs.Examples.{opens_20, opens_below, names_fans, has_sensor, has_alarm, has_sensors};
+ghost use Rattle.bmc_machine.specs.Examples.{has_controller, has_zones, no_word, no_class, no_template, three_frus};
 ghost use Rattle.bmc_machine.specs.Examples.{read, lose, show};
 ghost use Rattle.bmc_machine.specs.Examples.{bus_1_79, bus_1_80, bus_1_81, bus_2_79, bus_20_80, place_1_79, place_1_80, place_1_81};
 
@@ -33,8 +34,8 @@ pub fn scripts_with_configs()
     ensures refused { out [] (config (codes "27") always_found ++ config (codes "27") always_found ++ plug bus_20_80 chassis
         ++ config (codes "55") never_found ++ unplug bus_20_80)
         ≡ codes "0 new board \"A\" 1\n" ++ refused (codes "2") (codes "DuplicateName") ++ refused (codes "4") (codes "ConfigAfterPlug") }
-    ensures broken { out [] (config (codes "26") no_word ++ config (codes "65") unread ++ config (codes "68") no_template)
-        ≡ refused (codes "1") (codes "ProbeSyntax") ++ refused (codes "2") (codes "ExposeForm") ++ refused (codes "3") (codes "TemplateSyntax") }
+    ensures broken { out [] (config (codes "26") no_word ++ config (codes "65") no_class ++ config (codes "68") no_template)
+        ≡ refused (codes "1") (codes "ProbeSyntax") ++ refused (codes "2") (codes "MissingKey") ++ refused (codes "3") (codes "TemplateSyntax") }
     ensures large { out (Accepted ∷ LargePattern (codes "RSR") ∷ []) (config (codes "27") always_found ++ config (codes "83") finds_riser)
         ≡ codes "0 new board \"A\" 1\n" ++ refused (codes "2") (codes "PatternTooLarge") }
 {}
@@ -87,6 +88,16 @@ pub fn scripts_with_sensors()
         ≡ codes "0 new board \"F\" 1 at 1 80\n0 new sensor \"T\"\n0 gone board \"F\" 1 at 1 80\n0 gone sensor \"T\"\nindex \"F\" 1 at 1 80\n"
         ++ codes "0 new board \"F\" 1 at 1 80\n0 new sensor \"T\"\nsensor \"T\" none ok -\n"
         ++ codes "board \"F\" 1 at 1 80\n  \"Sensor\" \"T\" bus 1 address 76 live\n" ++ fru bus_1_80 [] }
+{}
+
+/// What it prints for a script with a controller: it is live once its zone is there, stays while the name of the zone moves to
+/// another board, and goes with the last zone of this name.
+pub fn scripts_with_controllers()
+    ensures { out [] (config (codes "127") has_controller ++ config (codes "141") has_zones ++ plug bus_1_80 bare ++ plug bus_1_79 bare
+        ++ unplug bus_1_80 ++ unplug bus_1_79)
+        ≡ codes "0 new board \"C\" 1\n0 new board \"F\" 1 at 1 80\n0 new controller \"P\"\n0 new zone \"Z\"\n"
+        ++ codes "0 new board \"F\" 2 at 1 79\n0 gone zone \"Z\"\n0 new zone \"Z\"\n0 gone board \"F\" 1 at 1 80\n"
+        ++ codes "0 gone board \"F\" 2 at 1 79\n0 gone controller \"P\"\n0 gone zone \"Z\"\n" }
 {}
 
 /// When boards were first met, of FRUs at three places: the second behind the first, and the third after the second is

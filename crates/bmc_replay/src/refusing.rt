@@ -33,7 +33,6 @@ pub fn config_refused(rule: ConfigFault) -> Result<Refusal, OutOfMemory>
         ConfigFault::WrongKind => Refusal::WrongKind,
         ConfigFault::OutOfRange => Refusal::OutOfRange,
         ConfigFault::ProbeSyntax(_) => Refusal::ProbeSyntax,
-        ConfigFault::ExposeForm => Refusal::ExposeForm,
         ConfigFault::TemplateSyntax => Refusal::TemplateSyntax,
         ConfigFault::MuxMatchOne => Refusal::MuxMatchOne,
         ConfigFault::PatternSyntax(_) => Refusal::PatternSyntax,

@@ -4,7 +4,7 @@ use Rattle.fru_area.specs.declared.fault.Area.{Area}
 use Rattle.fru_area.specs.declared.fault.Area.TheVariants.{Chassis, Board, Product}
 use Rattle.bmc_report.specs.declared.refusal.Refusal.{Refusal}
 use Rattle.bmc_report.specs.declared.refusal.Refusal.TheVariants.{LineTooLong, UnknownCommand, BadArguments, PlaceRange, BadHex, ConfigTooLong, ConfigShort}
-use Rattle.bmc_report.specs.declared.refusal.Refusal.TheVariants.{NotJson, Fraction, MissingKey, WrongKind, OutOfRange, ProbeSyntax, ExposeForm}
+use Rattle.bmc_report.specs.declared.refusal.Refusal.TheVariants.{NotJson, Fraction, MissingKey, WrongKind, OutOfRange, ProbeSyntax}
 use Rattle.bmc_report.specs.declared.refusal.Refusal.TheVariants.{TemplateSyntax, MuxMatchOne, PatternSyntax, PatternTooLarge}
 use Rattle.bmc_report.specs.declared.refusal.Refusal.TheVariants.{ConfigAfterPlug, DuplicateName, ConfigLimit, Occupied}
 use Rattle.bmc_report.specs.declared.refusal.Refusal.TheVariants.{FruShort, FruTooLong, HeaderVersion, HeaderChecksum}
@@ -33,7 +33,6 @@ refusal_name MissingKey = codes "MissingKey"
 refusal_name WrongKind = codes "WrongKind"
 refusal_name OutOfRange = codes "OutOfRange"
 refusal_name ProbeSyntax = codes "ProbeSyntax"
-refusal_name ExposeForm = codes "ExposeForm"
 refusal_name TemplateSyntax = codes "TemplateSyntax"
 refusal_name MuxMatchOne = codes "MuxMatchOne"
 refusal_name PatternSyntax = codes "PatternSyntax"

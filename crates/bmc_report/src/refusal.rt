@@ -36,8 +36,6 @@ pub enum Refusal {
     OutOfRange,
     /// A text of the probe is no word, or stands in a wrong place.
     ProbeSyntax,
-    /// An expose is of a form that is not read.
-    ExposeForm,
     /// A name or a number in the document is no template, or a channel of a multiplexer asks for the index.
     TemplateSyntax,
     /// The probe ends with MATCH_ONE, and a channel of a multiplexer has a substitution.
@@ -116,7 +114,6 @@ impl Refusal {
             Refusal::WrongKind => "WrongKind",
             Refusal::OutOfRange => "OutOfRange",
             Refusal::ProbeSyntax => "ProbeSyntax",
-            Refusal::ExposeForm => "ExposeForm",
             Refusal::TemplateSyntax => "TemplateSyntax",
             Refusal::MuxMatchOne => "MuxMatchOne",
             Refusal::PatternSyntax => "PatternSyntax",

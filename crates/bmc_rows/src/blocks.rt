@@ -175,12 +175,12 @@ const ORDERS: [Row; 16] = [
     (
         &[Config(EXPOSING), Text("\n"), Config(ALWAYS), Text("\n")],
         Refused,
-        "line 1 refused ExposeForm\n0 new board \"A\" 1\n",
+        "line 1 refused MissingKey\n0 new board \"A\" 1\n",
     ),
     (
         &[Config(ALWAYS), Text("\n"), Config(EXPOSING), Text("\n")],
         Refused,
-        "0 new board \"A\" 1\nline 2 refused ExposeForm\n",
+        "0 new board \"A\" 1\nline 2 refused MissingKey\n",
     ),
     (
         &[

@@ -14,6 +14,9 @@ const FOUND: &[Part] = &[
     Config(
         r#"{"Name":"A","Probe":"TRUE","Exposes":[{"Name":"M","Type":"pid.zone"},{"Name":"M","Type":"Pid "},{"Name":"M","Type":"$x"}]}"#,
     ),
+    Config(
+        r#"{"Name":"A","Probe":"TRUE","Exposes":[{"Name":"M","Type":"pid","Class":5},{"Name":"M","Type":"stepwise"},{"Name":"M","Type":"Pids"}]}"#,
+    ),
     Repeats(
         r#"{"Name":"A","Probe":"TRUE","Exposes":[{"Name":"M","Type":""#,
         "é",
@@ -81,6 +84,17 @@ const MISSING_KEYS: &[Part] = &[
     ),
     Config(
         r#"{"Name":"A","Probe":"TRUE","Exposes":[{"Name":"F","Type":"Fan"},{"Name":"F $index","Type":"Fan"},{"Name":"$"}]}"#,
+    ),
+    // a controller: alone, before what is no expose, before a pattern that is bad, and between two sensors, of which one is wrong
+    Config(r#"{"Name":"A","Probe":"TRUE","Exposes":[{"Name":"P","Type":"Pid"}]}"#),
+    Config(
+        r#"{"Name":"A","Probe":"TRUE","Exposes":[{"Name":"F","Type":"Fan"},{"Name":"S","Type":"Stepwise"},5]}"#,
+    ),
+    Config(
+        r#"{"Name":"A","Probe":"xyz.openbmc_project.FruDevice({'BUS': '('})","Exposes":[{"Name":"S","Type":"Stepwise"}]}"#,
+    ),
+    Config(
+        r#"{"Name":"A","Probe":"TRUE","Exposes":[{"Name":"S","Type":"Sensor"},{"Name":"P","Type":"Pid"},{"Name":"S","Type":"Sensor","Bus":256}]}"#,
     ),
 ];
 
@@ -181,7 +195,7 @@ const TEMPLATE_SYNTAX: &[Part] = &[
     Config(r#"{"Name":"A","Probe":"TRUE","Exposes":[{"Name":"$bus / 0","Type":"Fan"}]}"#),
     Config(r#"{"Name":"A","Probe":"TRUE","Exposes":[{"Name":"$bus + 1 % 00000","Type":"Fan"}]}"#),
     Config(r#"{"Name":"A","Probe":"TRUE","Exposes":[{"Name":"$bus / 000001","Type":"Fan"}]}"#),
-    // before a type that is wrong, missing or not read
+    // before a type that is wrong or missing, and before further members that are
     Config(r#"{"Name":"A","Probe":"TRUE","Exposes":[{"Name":"$x","Type":5}]}"#),
     Config(r#"{"Name":"A","Probe":"TRUE","Exposes":[{"Name":"$x"}]}"#),
     Config(r#"{"Name":"A","Probe":"TRUE","Exposes":[{"Name":"$x","Type":"Pid"}]}"#),
@@ -191,25 +205,8 @@ const TEMPLATE_SYNTAX: &[Part] = &[
     ),
 ];
 
-// Documents with an expose of a type that is not read.
-const EXPOSE_FORMS: &[Part] = &[
-    Config(r#"{"Name":"A","Probe":"TRUE","Exposes":[{"Name":"P","Type":"Pid"}]}"#),
-    Config(r#"{"Name":"A","Probe":"TRUE","Exposes":[{"Name":"P $bus","Type":"Pid","Class":5}]}"#),
-    Config(
-        r#"{"Name":"A","Probe":"TRUE","Exposes":[{"Name":"F","Type":"Fan"},{"Name":"S","Type":"Stepwise"},5]}"#,
-    ),
-    // before a pattern that is bad
-    Config(
-        r#"{"Name":"A","Probe":"xyz.openbmc_project.FruDevice({'BUS': '('})","Exposes":[{"Name":"S","Type":"Stepwise"}]}"#,
-    ),
-    // behind a sensor that is right, and before one that is wrong
-    Config(
-        r#"{"Name":"A","Probe":"TRUE","Exposes":[{"Name":"S","Type":"Sensor"},{"Name":"P","Type":"Pid"},{"Name":"S","Type":"Sensor","Bus":256}]}"#,
-    ),
-];
-
 // Documents that are answered alike: how a script of one of them ends, and what is printed.
-const DOCUMENTS: [Row; 8] = [
+const DOCUMENTS: [Row; 7] = [
     (FOUND, Done, ALWAYS_BOARD),
     (FANS, Done, "0 new board \"A\" 1\n0 new fan \"F\"\n"),
     (ZONES, Done, "0 new board \"A\" 1\n0 new zone \"Z\"\n"),
@@ -217,7 +214,6 @@ const DOCUMENTS: [Row; 8] = [
     (WRONG_KINDS, Refused, "line 1 refused WrongKind\n"),
     (OUT_OF_RANGE, Refused, "line 1 refused OutOfRange\n"),
     (TEMPLATE_SYNTAX, Refused, "line 1 refused TemplateSyntax\n"),
-    (EXPOSE_FORMS, Refused, "line 1 refused ExposeForm\n"),
 ];
 
 #[test]

@@ -10,6 +10,10 @@ mod boards;
 #[cfg(test)]
 mod channels;
 #[cfg(test)]
+mod control_limits;
+#[cfg(test)]
+mod controllers;
+#[cfg(test)]
 mod documents;
 #[cfg(test)]
 mod exposes;
@@ -28,6 +32,8 @@ mod muxes;
 #[cfg(test)]
 mod patterns;
 #[cfg(test)]
+mod pids;
+#[cfg(test)]
 mod play;
 #[cfg(test)]
 mod probes;
@@ -39,5 +45,7 @@ mod records;
 mod scripts;
 #[cfg(test)]
 mod sensors;
+#[cfg(test)]
+mod stepwises;
 #[cfg(test)]
 mod words;

@@ -155,7 +155,7 @@ fru 20 80$
 fru 21 80$
 "#,
     ),
-    // one that is refused opens none: its name is taken, its type is another one, its pattern is bad, and it is late
+    // one that is refused opens none: its name is taken, a controller of it is wrong, its pattern is bad, and it is late
     (
         &[
             Config(BOARD),
@@ -176,7 +176,7 @@ fru 21 80$
         ],
         Refused,
         r#"line 2 refused DuplicateName
-line 3 refused ExposeForm
+line 3 refused MissingKey
 line 4 refused PatternSyntax
 line 6 refused ConfigAfterPlug
 fru 20 80$

@@ -98,7 +98,6 @@ const REFUSALS: [Row; 1] = [(
         Config(r#"{"Name":""}"#),
         Config(r#"{"Name":"A","Probe":"TRU"}"#),
         Config(r#"{"Name":"A","Probe":"TRUE","Exposes":[{"Name":"$x","Type":"Fan"}]}"#),
-        Config(r#"{"Name":"A","Probe":"TRUE","Exposes":[{"Name":"x","Type":"Pid"}]}"#),
         Config(
             r#"{"Name":"A","Probe":["TRUE","MATCH_ONE"],"Exposes":[{"Name":"x","Type":"Mux","Channels":["$bus"]}]}"#,
         ),
@@ -137,25 +136,24 @@ line 266 refused MissingKey
 line 267 refused OutOfRange
 line 268 refused ProbeSyntax
 line 269 refused TemplateSyntax
-line 270 refused ExposeForm
-line 271 refused MuxMatchOne
-line 272 refused PatternSyntax
-line 273 refused DuplicateName
-line 274 refused ConfigLimit
-line 275 refused NotPresent
-line 276 refused FruShort
-line 277 refused FruTooLong
-line 278 refused HeaderVersion
-line 279 refused HeaderChecksum
-line 280 refused AreaOutside Chassis
-line 281 refused AreaVersion Board
-line 282 refused AreaLength Product
-line 283 refused AreaChecksum Chassis
-line 284 refused FieldOutside Board
-line 285 refused NoEnd Product
-line 287 refused Occupied
-line 288 refused ConfigAfterPlug
-line 289 refused ConfigShort
+line 270 refused MuxMatchOne
+line 271 refused PatternSyntax
+line 272 refused DuplicateName
+line 273 refused ConfigLimit
+line 274 refused NotPresent
+line 275 refused FruShort
+line 276 refused FruTooLong
+line 277 refused HeaderVersion
+line 278 refused HeaderChecksum
+line 279 refused AreaOutside Chassis
+line 280 refused AreaVersion Board
+line 281 refused AreaLength Product
+line 282 refused AreaChecksum Chassis
+line 283 refused FieldOutside Board
+line 284 refused NoEnd Product
+line 286 refused Occupied
+line 287 refused ConfigAfterPlug
+line 288 refused ConfigShort
 fru 1 80$
 "#,
 )];

@@ -207,12 +207,14 @@ fn read_words(alloc: Global, line: &[u8]) -> Result<Command, ScriptFault>
 
 impl Command {
     /// Reads the command of a line, without its newline. The line may hold any bytes.
-    #[tactic(auto, unfolding(crate::specs::Commands::command_of))]
+    #[tactic(auto, unfolding(crate::specs::Commands::command_of, crate::specs::Commands::words_of))]
     pub fn read(alloc: Global, line: &[u8]) -> Result<Command, ScriptFault>
         ensures { GivesCommand result (command_of line.now) }
     {
         match line {
             [] | [b'#', ..] => Ok(Command::Nothing),
+            // told apart at once, since most lines are readings
+            [b'r', b'e', b'a', b'd', b' ', rest @ ..] => read_read(rest),
             _ => read_words(alloc, line),
         }
     }

@@ -20,7 +20,7 @@ use Rattle.fru_rows.specs.Idle.{busy}
 use Rattle.inventory.specs.Differences.{Moment, key_of, keys_left}
 use Rattle.inventory.specs.Indexes.{except, kept_of}
 use Rattle.inventory.specs.Items.{entry_fields}
-use Rattle.inventory.specs.Limits.{board_counts, totals_of, totals_after, sensors_of, zones_of, fans_of}
+use Rattle.inventory.specs.Limits.{no_counts, board_counts, totals_of, totals_after}
 use Rattle.inventory.specs.Lists.{keys_of}
 use Rattle.inventory.specs.Naming.{naming_items}
 use Rattle.inventory.specs.declared.board.BoardKey.{BoardKey}
@@ -46,7 +46,7 @@ slice_front (config ∷ configs) more (suc number) few = slice_front configs mor
 counts_front : (configs more : List Config) (key : BoardKey) → key.config < length configs
     → board_counts (configs ++ more) key ≡ board_counts configs key
 counts_front configs more key few =
-    ap (λ (found : Option Config). unwrap_or (option_map (λ (config : Config). counts_of config.exposes) found) (record { sensors = 0; zones = 0; fans = 0 }))
+    ap (λ (found : Option Config). unwrap_or (option_map (λ (config : Config). counts_of config.exposes) found) no_counts)
     (slice_front configs more key.config few)
 
 sum_alike : (test other : BoardKey → ℕ) (count : ℕ) (keys : List BoardKey) → AreWithin keys count
@@ -62,25 +62,18 @@ totals_front : (configs more : List Config) (keys : List BoardKey) → AreWithin
     → totals_of configs keys ≡ totals_of (configs ++ more) keys
 totals_front configs more keys within = λ i. record {
   boards = length keys;
-  sensors = sensors_same i;
-  zones = zones_same i;
-  fans = fans_same i;
+  sensors = same (λ counts. counts.sensors) i;
+  zones = same (λ counts. counts.zones) i;
+  fans = same (λ counts. counts.fans) i;
+  pids = same (λ counts. counts.pids) i;
+  steps = same (λ counts. counts.steps) i;
 }
   where
-    sensors_same : sensors_of configs keys ≡ sensors_of (configs ++ more) keys
-    sensors_same =
-        sum_alike (λ key. (board_counts configs key).sensors) (λ key. (board_counts (configs ++ more) key).sensors) (length configs) keys within
-        (λ key few. ap (λ (counts : Counts). counts.sensors) (sym (counts_front configs more key few)))
-
-    zones_same : zones_of configs keys ≡ zones_of (configs ++ more) keys
-    zones_same =
-        sum_alike (λ key. (board_counts configs key).zones) (λ key. (board_counts (configs ++ more) key).zones) (length configs) keys within
-        (λ key few. ap (λ (counts : Counts). counts.zones) (sym (counts_front configs more key few)))
-
-    fans_same : fans_of configs keys ≡ fans_of (configs ++ more) keys
-    fans_same =
-        sum_alike (λ key. (board_counts configs key).fans) (λ key. (board_counts (configs ++ more) key).fans) (length configs) keys within
-        (λ key few. ap (λ (counts : Counts). counts.fans) (sym (counts_front configs more key few)))
+    same : (weight : Counts → ℕ)
+        → sum_by (λ key. weight (board_counts configs key)) keys ≡ sum_by (λ key. weight (board_counts (configs ++ more) key)) keys
+    same weight =
+        sum_alike (λ key. weight (board_counts configs key)) (λ key. weight (board_counts (configs ++ more) key)) (length configs) keys within
+        (λ key few. ap weight (sym (counts_front configs more key few)))
 
 -- a configuration without boards adds no keys
 no_more : (places : ℕ → List (Option Place)) (number : ℕ) → places number ≡ [] → keys_by places 0 (number + 1) ≡ keys_by places 0 number

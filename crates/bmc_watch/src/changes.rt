@@ -159,6 +159,7 @@ fn item_change(gone: bool, item: &Item) -> Option<Change>
         ItemPart::Sensor(_) => LiveKind::Sensor,
         ItemPart::Fan => LiveKind::Fan,
         ItemPart::Zone(_) => LiveKind::Zone,
+        ItemPart::Control(_) => LiveKind::Controller,
         ItemPart::Mux(_) | ItemPart::Passive => return None,
     };
     Some(Change::Item {

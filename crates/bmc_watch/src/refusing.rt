@@ -36,5 +36,7 @@ pub fn limit_refused(fault: InventoryFault) -> Refusal
         InventoryFault::SensorLimit => Refusal::SensorLimit,
         InventoryFault::ZoneLimit => Refusal::ZoneLimit,
         InventoryFault::FanLimit => Refusal::FanLimit,
+        InventoryFault::PidLimit => Refusal::PidLimit,
+        InventoryFault::StepLimit => Refusal::StepLimit,
     }
 }

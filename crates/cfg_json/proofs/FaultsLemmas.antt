@@ -6,7 +6,7 @@ use Rattle.serde_json.specs.Data.{Data}
 use Rattle.serde_json.specs.declared.value.Value.{Value}
 use Rattle.cfg_json.specs.declared.config_fault.ConfigFault.{ConfigFault}
 use Rattle.cfg_json.specs.declared.config_fault.ConfigFault.TheVariants.{NotJson, Fraction, MissingKey, WrongKind, OutOfRange}
-use Rattle.cfg_json.specs.declared.config_fault.ConfigFault.TheVariants.{ProbeSyntax, ExposeForm, TemplateSyntax, MuxMatchOne, PatternSyntax}
+use Rattle.cfg_json.specs.declared.config_fault.ConfigFault.TheVariants.{ProbeSyntax, TemplateSyntax, MuxMatchOne, PatternSyntax}
 use Rattle.cfg_json.specs.declared.config_fault.ConfigFault.TheVariants.{PatternTooLarge, OutOfMemory}
 use Rattle.cfg_json.specs.Readings.{Gives, GivesFault, GivesList}
 
@@ -18,7 +18,6 @@ sure_fault MissingKey part e = e
 sure_fault WrongKind part e = e
 sure_fault OutOfRange part e = e
 sure_fault (ProbeSyntax at) part e = e
-sure_fault ExposeForm part e = e
 sure_fault TemplateSyntax part e = e
 sure_fault MuxMatchOne part e = e
 sure_fault (PatternSyntax text) part e = e

@@ -1,13 +1,17 @@
 pub mod ChannelsLemmas
+pub mod ControlsLemmas
 pub mod DocumentsLemmas
 pub mod FaultsLemmas
 pub mod ListsLemmas
+pub mod PartsLemmas
+pub mod PidsLemmas
 pub mod ProbesLemmas
 pub mod ReadingsLemmas
 pub mod RulesLemmas
 pub mod SensorsLemmas
 pub mod SettingsLemmas
 pub mod ShelvesLemmas
+pub mod StepwisesLemmas
 pub mod UnitsLemmas
 pub mod ValidLemmas
 pub mod VerdictsLemmas

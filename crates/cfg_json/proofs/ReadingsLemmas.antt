@@ -14,11 +14,11 @@ use Rattle.probe_lang.specs.declared.pattern.PatternFault.{PatternFault}
 use Rattle.probe_lang.specs.declared.pattern.PatternFault.TheVariants as faults
 use Rattle.cfg_json.specs.declared.config_fault.ConfigFault.{ConfigFault}
 use Rattle.cfg_json.specs.declared.config_fault.ConfigFault.TheVariants.{NotJson, Fraction, MissingKey, WrongKind, OutOfRange}
-use Rattle.cfg_json.specs.declared.config_fault.ConfigFault.TheVariants.{ProbeSyntax, ExposeForm, TemplateSyntax, MuxMatchOne, PatternSyntax}
+use Rattle.cfg_json.specs.declared.config_fault.ConfigFault.TheVariants.{ProbeSyntax, TemplateSyntax, MuxMatchOne, PatternSyntax}
 use Rattle.cfg_json.specs.declared.config_fault.ConfigFault.TheVariants.{PatternTooLarge, OutOfMemory}
 use Rattle.cfg_json.specs.Configs.{Config}
 use Rattle.cfg_json.specs.Readings.{MakesPatterns, GivesFault, GivesConfig, pattern_rule}
-use Rattle.cfg_json.proofs.RulesLemmas.{NamesNoPattern}
+use Rattle.cfg_json.proofs.PartsLemmas.{NamesNoPattern}
 
 -- a text of one pattern is a text of all
 text_of_all : (patterns : List (List Member)) (number : ℕ) (pattern : List Member) (text : List ℕ) → number < length patterns
@@ -80,7 +80,6 @@ document_refused maker fault read (Err other) rules e gives =
     gives_rule maker WrongKind read rules gives = (gives, refl)
     gives_rule maker OutOfRange read rules gives = (gives, refl)
     gives_rule maker (ProbeSyntax at) read rules gives = (gives, refl)
-    gives_rule maker ExposeForm read rules gives = (gives, refl)
     gives_rule maker TemplateSyntax read rules gives = (gives, refl)
     gives_rule maker MuxMatchOne read rules gives = (gives, refl)
     gives_rule maker (PatternSyntax text) read rules gives = absurd (subst NamesNoPattern gives rules)
@@ -104,7 +103,6 @@ patterns_refused old new config patterns fault read (Err other) reads same makes
     gives_pattern old new config WrongKind makes = absurd makes
     gives_pattern old new config OutOfRange makes = absurd makes
     gives_pattern old new config (ProbeSyntax at) makes = absurd makes
-    gives_pattern old new config ExposeForm makes = absurd makes
     gives_pattern old new config TemplateSyntax makes = absurd makes
     gives_pattern old new config MuxMatchOne makes = absurd makes
     gives_pattern old new config (PatternSyntax text) makes = makes

@@ -1,93 +1,30 @@
 -- Reading a document names no pattern: that is left to compiling them.
-use Rattle.std.specs.Prelude.{⊤}
-use Rattle.std.proofs.Common.{◌&&◌, not, ℕ, Bool, true, false, nat_le, if◌then◌else◌, List, [], ◌∷◌, length, codes, Option, Some, None, Result, Ok, Err}
-use Rattle.std.specs.Prelude.{ℤ, pos, neg_ℤ, ◌*ℤ◌}
-use Rattle.std.specs.Prelude.{bytes_eq, decimal}
+use Rattle.std.specs.Prelude.{pos, neg_ℤ, bytes_eq, decimal}
+use Rattle.std.proofs.Common.{◌&&◌, not, ℕ, true, false, nat_le, List, [], codes, Option, Some, None, Result, Ok, Err}
 use Rattle.std.specs.List.{list_any}
 use Rattle.sensor_core.specs.Settings.{most_limits}
-use Rattle.bmc_base.specs.Names.{longest_name}
 use Rattle.bmc_base.specs.Places.{last_bus, last_address}
 use Rattle.serde_json.specs.Data.{Num, unsigned, negative, float, Data, null, boolean, number, string, array, object}
-use Rattle.serde_json.specs.Find.{get, as_integer}
+use Rattle.serde_json.specs.Find.{get}
 use Rattle.serde_json.specs.Written.{has_float}
-use Rattle.bmc_text.specs.Words.{decimal_units}
 use Rattle.probe_lang.specs.Grammar.{Parsed, probe_of, most_texts}
 use Rattle.tmpl.specs.Numbers.{fixed_number}
-use Rattle.tmpl.specs.Templates.{is_template, is_single, uses_index, longest_template}
-use Rattle.cfg_json.specs.declared.config_fault.ConfigFault.{ConfigFault}
-use Rattle.cfg_json.specs.declared.config_fault.ConfigFault.TheVariants.{Fraction, OutOfRange, ExposeForm, TemplateSyntax}
-use Rattle.cfg_json.specs.declared.config_fault.ConfigFault.TheVariants.{MuxMatchOne, PatternSyntax, PatternTooLarge}
+use Rattle.tmpl.specs.Templates.{is_template, is_single, uses_index}
+use Rattle.cfg_json.specs.declared.config_fault.ConfigFault.TheVariants.{Fraction, OutOfRange, TemplateSyntax, MuxMatchOne}
 use Rattle.cfg_json.specs.declared.channels.Channel.TheVariants.{Fixed, Moving}
-use Rattle.cfg_json.specs.declared.expose.Body.TheVariants.{Passive}
 use Rattle.cfg_json.specs.Values.{◌>>=◌, required, text_only, object_only, list_of, list_only, with_length, short_text, each}
-use Rattle.cfg_json.specs.Values.{kind_only, is_between, int_within, whole_units, decimal_units_within, milli_within, any_milli}
-use Rattle.cfg_json.specs.Values.{whole_number, whole_within, no_units, member_or, optional}
+use Rattle.cfg_json.specs.Values.{milli_within, any_milli, whole_within, no_units, member_or, optional}
+use Rattle.cfg_json.specs.Names.{template_name}
 use Rattle.cfg_json.specs.Probes.{probe_texts, by_grammar, probe_in}
 use Rattle.cfg_json.specs.Channels.{most_channels, to_bus, number_channel, moving_channel, text_channel, channel_of, mux_of}
 use Rattle.cfg_json.specs.Sensors.{fixed_template, whole_template, single_template, text_template, number_template, side_of, limit_of, limits_in}
 use Rattle.cfg_json.specs.Sensors.{setting_of, sensor_of}
-use Rattle.cfg_json.specs.Exposes.{most_exposes, expose_name, zone_of, is_unread, body_of, expose_of, exposes_of, has_moving}
+use Rattle.cfg_json.specs.Controls.{pid_control, stepwise_control}
+use Rattle.cfg_json.specs.Exposes.{most_exposes, zone_of, body_of, expose_of, exposes_of, has_moving}
 use Rattle.cfg_json.specs.Documents.{config_in, config_of}
-
--- a fault that names no pattern
-abbrev IsNoPattern : ConfigFault → Type 0
-IsNoPattern (PatternSyntax text) = ⊥
-IsNoPattern (PatternTooLarge text) = ⊥
-IsNoPattern fault = ⊤
-
-abbrev pub NamesNoPattern : {A : Type 0} → Result A ConfigFault → Type 0
-NamesNoPattern (Ok part) = ⊤
-NamesNoPattern (Err fault) = IsNoPattern fault
-
-then_none : {A B : Type 0} (part : Result A ConfigFault) (next : A → Result B ConfigFault) → NamesNoPattern part → ((value : A) → NamesNoPattern (next value))
-    → NamesNoPattern (part >>= next)
-then_none (Ok value) next none later = later value
-then_none (Err fault) next none later = none
-
-each_none : {A B : Type 0} (read : A → Result B ConfigFault) → ((value : A) → NamesNoPattern (read value)) → (values : List A)
-    → NamesNoPattern (each read values)
-each_none read none [] = tt
-each_none read none (value ∷ values) =
-    then_none (read value) _ (none value) (λ first. then_none (each read values) _ (each_none read none values) (λ later. tt))
-
-where_none : {A : Type 0} (b : Bool) (part other : Result A ConfigFault) → NamesNoPattern part → NamesNoPattern other
-    → NamesNoPattern (if b then part else other)
-where_none true part other none none_else = none
-where_none false part other none none_else = none_else
-
-length_none : {A : Type 0} (least most : ℕ) (items : List A) → NamesNoPattern (with_length least most items)
-length_none least most items = where_none (nat_le least (length items) && nat_le (length items) most) (Ok items) (Err OutOfRange) tt tt
-
-required_none : (found : Option Data) → NamesNoPattern (required found)
-required_none None = tt
-required_none (Some member) = tt
-
-text_none : (value : Data) → NamesNoPattern (text_only value)
-text_none null = tt
-text_none (boolean b) = tt
-text_none (number n) = tt
-text_none (string text) = tt
-text_none (array items) = tt
-text_none (object ms) = tt
-
-object_none : (value : Data) → NamesNoPattern (object_only value)
-object_none null = tt
-object_none (boolean b) = tt
-object_none (number n) = tt
-object_none (string text) = tt
-object_none (array items) = tt
-object_none (object ms) = tt
-
-list_none : (value : Data) → NamesNoPattern (list_only value)
-list_none null = tt
-list_none (boolean b) = tt
-list_none (number n) = tt
-list_none (string text) = tt
-list_none (array items) = tt
-list_none (object ms) = tt
-
-short_none : (value : Data) → NamesNoPattern (short_text value)
-short_none value = then_none (text_only value) _ (text_none value) (length_none 1 longest_name)
+use Rattle.cfg_json.proofs.PartsLemmas.{NamesNoPattern, then_none, each_none, where_none, length_none, required_none, text_none, object_none, list_none}
+use Rattle.cfg_json.proofs.PartsLemmas.{short_none, name_none, milli_none, member_none, optional_none, whole_within_none}
+use Rattle.cfg_json.proofs.ControlsLemmas.{pid_none, stepwise_none}
 
 texts_none : (value : Data) → NamesNoPattern (probe_texts value)
 texts_none null = tt
@@ -103,37 +40,6 @@ grammar_none (Err at) = tt
 
 probe_none : (value : Data) → NamesNoPattern (probe_in value)
 probe_none value = then_none (probe_texts value) _ (texts_none value) (λ texts. grammar_none (probe_of texts))
-
-name_none : (value : Data) → NamesNoPattern (expose_name value)
-name_none value =
-    then_none (text_only value >>= with_length 1 longest_template) _ (then_none (text_only value) _ (text_none value) (length_none 1 longest_template))
-    (λ text. where_none (is_template text) (Ok text) (Err TemplateSyntax) tt tt)
-
-kind_only_none : {A : Type 0} (found : Option A) → NamesNoPattern (kind_only found)
-kind_only_none None = tt
-kind_only_none (Some value) = tt
-
-within_none : (least most value : ℤ) → NamesNoPattern (int_within least most value)
-within_none least most value = where_none (is_between least most value) (Ok value) (Err OutOfRange) tt tt
-
-whole_none : (least most : ℤ) (n : Num) → NamesNoPattern (whole_units least most n)
-whole_none least most n =
-    then_none (kind_only (as_integer n) >>= int_within least most) _
-    (then_none (kind_only (as_integer n)) _ (kind_only_none (as_integer n)) (within_none least most)) (λ units. tt)
-
-decimal_none : (least most : ℤ) (text : List ℕ) → NamesNoPattern (decimal_units_within least most text)
-decimal_none least most text =
-    then_none (kind_only (decimal_units 3 text) >>= int_within (least *ℤ pos 1000) (most *ℤ pos 1000)) _
-    (then_none (kind_only (decimal_units 3 text)) _ (kind_only_none (decimal_units 3 text)) (within_none (least *ℤ pos 1000) (most *ℤ pos 1000)))
-    (λ thousandths. tt)
-
-milli_none : (least most : ℤ) (value : Data) → NamesNoPattern (milli_within least most value)
-milli_none least most null = tt
-milli_none least most (boolean b) = tt
-milli_none least most (number n) = whole_none least most n
-milli_none least most (string text) = decimal_none least most text
-milli_none least most (array items) = tt
-milli_none least most (object ms) = tt
 
 zone_none : (members : Data) → NamesNoPattern (zone_of members)
 zone_none members =
@@ -172,27 +78,6 @@ mux_none value =
     then_none (list_only value >>= with_length 1 most_channels >>= each channel_of) _
     (then_none (list_only value >>= with_length 1 most_channels) _ (then_none (list_only value) _ (list_none value) (length_none 1 most_channels))
     (each_none channel_of channel_none)) (λ channels. tt)
-
-member_none : {A : Type 0} (value : A) (read : Data → Result A ConfigFault) → ((member : Data) → NamesNoPattern (read member)) → (found : Option Data)
-    → NamesNoPattern (member_or value read found)
-member_none value read none None = tt
-member_none value read none (Some member) = none member
-
-optional_none : {A : Type 0} (read : Data → Result A ConfigFault) → ((member : Data) → NamesNoPattern (read member)) → (found : Option Data)
-    → NamesNoPattern (optional read found)
-optional_none read none None = tt
-optional_none read none (Some member) = then_none (read member) _ (none member) (λ value. tt)
-
-whole_number_none : (least most : ℤ) (n : Num) → NamesNoPattern (whole_number least most n)
-whole_number_none least most n = then_none (kind_only (as_integer n)) _ (kind_only_none (as_integer n)) (within_none least most)
-
-whole_within_none : (least most : ℤ) (value : Data) → NamesNoPattern (whole_within least most value)
-whole_within_none least most null = tt
-whole_within_none least most (boolean b) = tt
-whole_within_none least most (number n) = whole_number_none least most n
-whole_within_none least most (string text) = tt
-whole_within_none least most (array items) = tt
-whole_within_none least most (object ms) = tt
 
 fixed_none : (most n : ℕ) → NamesNoPattern (fixed_template most n)
 fixed_none most n = where_none (nat_le n most) (Ok (decimal n)) (Err OutOfRange) tt tt
@@ -268,15 +153,17 @@ body_none members kind =
     where_none (bytes_eq kind (codes "Sensor")) _ _ (then_none (sensor_of members) _ (sensor_none members) (λ part. tt))
     (where_none (bytes_eq kind (codes "Fan")) _ _ tt
     (where_none (bytes_eq kind (codes "Pid.Zone")) _ _ (then_none (zone_of members) _ (zone_none members) (λ setting. tt))
+    (where_none (bytes_eq kind (codes "Pid")) _ _ (then_none (pid_control members) _ (pid_none members) (λ part. tt))
+    (where_none (bytes_eq kind (codes "Stepwise")) _ _ (then_none (stepwise_control members) _ (stepwise_none members) (λ part. tt))
     (where_none (bytes_eq kind (codes "Mux")) _ _
     (then_none (required (get (codes "Channels") members) >>= mux_of) _
     (then_none (required (get (codes "Channels") members)) _ (required_none (get (codes "Channels") members)) mux_none) (λ part. tt))
-    (where_none (is_unread kind) (Err ExposeForm) (Ok Passive) tt tt))))
+    tt)))))
 
 expose_none : (value : Data) → NamesNoPattern (expose_of value)
 expose_none value =
     then_none (object_only value) _ (object_none value) (λ members.
-    then_none (required (get (codes "Name") members) >>= expose_name) _
+    then_none (required (get (codes "Name") members) >>= template_name) _
     (then_none (required (get (codes "Name") members)) _ (required_none (get (codes "Name") members)) name_none) (λ name.
     then_none (required (get (codes "Type") members) >>= short_text) _
     (then_none (required (get (codes "Type") members)) _ (required_none (get (codes "Type") members)) short_none) (λ kind.

@@ -59,7 +59,7 @@ abbrev pub with_rest : ℕ → List Limit → Result (List Limit) ConfigFault �
 with_rest count slots rest = rest >>= λ later. Ok (eight_limits (take count slots ++ later), count + length later)
 
 -- one element more at the seam of a list and what stands for those that are missing
-seam : {A : Type 0} (count spare : ℕ) (front : List A) (element none : A) → length front < count → count ≤ spare
+pub seam : {A : Type 0} (count spare : ℕ) (front : List A) (element none : A) → length front < count → count ≤ spare
     → take count ((front ++ element ∷ []) ++ replicate spare none) ≡ set (take count (front ++ replicate spare none)) (length front) element
 seam zero spare front element none less few = absurd (omega arith)
 seam (suc count) zero [] element none less few = absurd (omega arith)

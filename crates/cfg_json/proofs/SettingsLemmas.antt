@@ -46,7 +46,7 @@ test_is least most n test = by (int_le least n) (int_le n most) refl refl test
     by true false low high both = absurd (cc)
     by false high_is low high both = absurd (cc)
 
-within_is : (least most value n : ℤ) → int_within least most value ≡ Ok n → IsIn least most n
+pub within_is : (least most value n : ℤ) → int_within least most value ≡ Ok n → IsIn least most n
 within_is least most value n e = by (is_between least most value) refl e
   where
     by : (b : Bool) → is_between least most value ≡ b → (if b then Ok value else Err OutOfRange) ≡ Ok n → IsIn least most n
@@ -81,7 +81,7 @@ thousandfold : (least most units : ℤ) → IsIn least most units → IsIn (leas
 thousandfold least most units is = record { low = omega (arith, ints, is.low); high = omega (arith, ints, is.high) }
 
 -- thousandths are between so many units and so many
-milli_in : (least most : ℤ) (value : Data) (m : Milli) → milli_within least most value ≡ Ok m → IsIn (least *ℤ pos 1000) (most *ℤ pos 1000) m.0
+pub milli_in : (least most : ℤ) (value : Data) (m : Milli) → milli_within least most value ≡ Ok m → IsIn (least *ℤ pos 1000) (most *ℤ pos 1000) m.0
 milli_in least most null m e = absurd (cc)
 milli_in least most (boolean b) m e = absurd (cc)
 milli_in least most (number num) m e =
@@ -98,7 +98,7 @@ milli_in least most (string text) m e =
 milli_in least most (array items) m e = absurd (cc)
 milli_in least most (object ms) m e = absurd (cc)
 
-milli_or_in : (least most : ℤ) (found : Option Data) (m : Milli) → IsIn (least *ℤ pos 1000) (most *ℤ pos 1000) (pos 0)
+pub milli_or_in : (least most : ℤ) (found : Option Data) (m : Milli) → IsIn (least *ℤ pos 1000) (most *ℤ pos 1000) (pos 0)
     → member_or no_units (milli_within least most) found ≡ Ok m → IsIn (least *ℤ pos 1000) (most *ℤ pos 1000) m.0
 milli_or_in least most None m is e =
     let same : no_units ≡ m = cc in subst (λ (m : Milli). IsIn (least *ℤ pos 1000) (most *ℤ pos 1000) m.0) same is

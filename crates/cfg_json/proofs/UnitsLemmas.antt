@@ -1,5 +1,5 @@
 -- Decimals in thousandths, from so many units to so many.
-use Rattle.std.proofs.Common.{◌≡◌, ◌∙◌, ℕ, ℤ, pos, ◌*ℤ◌, Bool, true, false, List, Some, Ok, Err, if◌then◌else◌, refl, sym, ap, subst, arith, w32, w64}
+use Rattle.std.proofs.Common.{◌≡◌, ◌∙◌, ℕ, ℤ, pos, ◌*ℤ◌, Bool, true, false, List, Some, Ok, Err, if◌then◌else◌, refl, sym, ap, arith, w32, w64}
 use Rattle.std.proofs.Common.{to_z, of_z}
 use Rattle.std.proofs.Common.{SFits}
 use Rattle.std.proofs.lemmas.Int.{ints, to_z-of_z}

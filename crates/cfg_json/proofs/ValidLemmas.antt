@@ -1,5 +1,5 @@
 -- What is read of a configuration is valid.
-use Rattle.std.proofs.Common.{◌≡◌, ℕ, List, [], ◌∷◌, Bool, true, false, Option, Some, None, Result, Ok, Err, if◌then◌else◌, refl, subst, codes}
+use Rattle.std.proofs.Common.{◌≡◌, ℕ, pos, neg_ℤ, List, [], ◌∷◌, Bool, true, false, Option, Some, None, Result, Ok, Err, if◌then◌else◌, refl, subst, codes}
 use Rattle.std.specs.Prelude.{IfOk, bytes_eq}
 use Rattle.std.specs.List.{All}
 use Rattle.std.proofs.lemmas.List.Elements.{All-nil, All-cons}
@@ -10,12 +10,16 @@ use Rattle.serde_json.specs.Find.{get}
 use Rattle.cfg_json.specs.declared.config_fault.ConfigFault.{ConfigFault}
 use Rattle.cfg_json.specs.declared.expose.Expose.{Expose}
 use Rattle.cfg_json.specs.declared.expose.SensorPart.{SensorPart}
-use Rattle.cfg_json.specs.Configs.{IsValidBody, IsValidExpose}
-use Rattle.cfg_json.specs.Values.{◌>>=◌, required, object_only, short_text, optional, each, list_within}
+use Rattle.cfg_json.specs.declared.expose.ZoneSetting.{ZoneSetting}
+use Rattle.cfg_json.specs.Configs.{IsValidBody, IsValidExpose, IsValidZone, IsValidControl}
+use Rattle.cfg_json.specs.Values.{◌>>=◌, required, object_only, short_text, optional, each, list_within, milli_within, any_milli}
 use Rattle.cfg_json.specs.Sensors.{number_template, setting_of, sensor_of}
+use Rattle.cfg_json.specs.Names.{template_name}
+use Rattle.cfg_json.specs.Controls.{pid_control, stepwise_control}
 use Rattle.cfg_json.specs.Channels.{mux_of}
-use Rattle.cfg_json.specs.Exposes.{most_exposes, expose_name, zone_of, is_unread, body_of, expose_of, exposes_of}
-use Rattle.cfg_json.proofs.SettingsLemmas.{setting_valid}
+use Rattle.cfg_json.specs.Exposes.{most_exposes, zone_of, body_of, expose_of, exposes_of}
+use Rattle.cfg_json.proofs.SettingsLemmas.{then_ok, milli_in, setting_valid}
+use Rattle.cfg_json.proofs.ControlsLemmas.{pid_control_valid, stepwise_control_valid}
 
 -- ---- what holds of all that is read
 
@@ -53,21 +57,42 @@ sensor_valid members =
     then_holds HasValidSetting IsValidSetting (setting_of members) _ (read_holds IsValidSetting (setting_of members) (setting_valid members))
     (λ setting valid. valid)))
 
+-- the numbers of a zone
+zone_numbers : (members : Data) (setting : ZoneSetting) → zone_of members ≡ Ok setting → IsValidZone setting
+zone_numbers members setting e =
+    let least = then_ok (required (get (codes "MinThermalOutput") members) >>= any_milli) _ setting e in
+    let least_read = then_ok (required (get (codes "MinThermalOutput") members)) any_milli least.value least.reads in
+    let duty = then_ok (required (get (codes "FailSafePercent") members) >>= milli_within (pos 0) (pos 100)) _ setting least.later in
+    let duty_read = then_ok (required (get (codes "FailSafePercent") members)) (milli_within (pos 0) (pos 100)) duty.value duty.reads in
+    let wide = milli_in (neg_ℤ (pos 1000000)) (pos 1000000) least_read.value least.value least_read.later in
+    let percent = milli_in (pos 0) (pos 100) duty_read.value duty.value duty_read.later in
+    let same : record { min_thermal = least.value; failsafe = duty.value } ≡ setting = cc (duty.later) in
+    subst IsValidZone same (record { min_thermal = (wide.low, wide.high); failsafe = (percent.low, percent.high) })
+
+zone_valid : (members : Data) → IfOk (zone_of members) IsValidZone
+zone_valid members = read_holds IsValidZone (zone_of members) (zone_numbers members)
+
 body_valid : (members : Data) (kind : List ℕ) → IfOk (body_of members kind) IsValidBody
 unfolding body_of
 body_valid members kind =
     test_holds IsValidBody (bytes_eq kind (codes "Sensor")) _ _
     (then_holds IsValidBody HasValidSetting (sensor_of members) _ (sensor_valid members) (λ part valid. valid))
     (test_holds IsValidBody (bytes_eq kind (codes "Fan")) _ _ tt
-    (test_holds IsValidBody (bytes_eq kind (codes "Pid.Zone")) _ _ (next_holds IsValidBody (zone_of members) _ (λ setting. tt))
+    (test_holds IsValidBody (bytes_eq kind (codes "Pid.Zone")) _ _
+    (then_holds IsValidBody IsValidZone (zone_of members) _ (zone_valid members) (λ setting valid. valid))
+    (test_holds IsValidBody (bytes_eq kind (codes "Pid")) _ _
+    (then_holds IsValidBody IsValidControl (pid_control members) _
+    (read_holds IsValidControl (pid_control members) (pid_control_valid members)) (λ part valid. valid))
+    (test_holds IsValidBody (bytes_eq kind (codes "Stepwise")) _ _
+    (then_holds IsValidBody IsValidControl (stepwise_control members) _
+    (read_holds IsValidControl (stepwise_control members) (stepwise_control_valid members)) (λ part valid. valid))
     (test_holds IsValidBody (bytes_eq kind (codes "Mux")) _ _
-    (next_holds IsValidBody (required (get (codes "Channels") members) >>= mux_of) _ (λ part. tt))
-    (test_holds IsValidBody (is_unread kind) _ _ tt tt))))
+    (next_holds IsValidBody (required (get (codes "Channels") members) >>= mux_of) _ (λ part. tt)) tt)))))
 
 expose_valid : (value : Data) → IfOk (expose_of value) IsValidExpose
 expose_valid value =
     next_holds IsValidExpose (object_only value) _ (λ members.
-    next_holds IsValidExpose (required (get (codes "Name") members) >>= expose_name) _ (λ name.
+    next_holds IsValidExpose (required (get (codes "Name") members) >>= template_name) _ (λ name.
     next_holds IsValidExpose (required (get (codes "Type") members) >>= short_text) _ (λ kind.
     then_holds IsValidExpose IsValidBody (body_of members kind) _ (body_valid members kind) (λ body valid. valid))))
 

@@ -8,7 +8,7 @@ use Rattle.cfg_json.specs.Readings.{GivesConfig, HasText}
 use Rattle.cfg_json.specs.Verdicts.{Accepted, BadPattern, LargePattern, TiedToReading, large_in, verdict_of}
 use Rattle.cfg_json.specs.declared.config_fault.ConfigFault.{ConfigFault}
 use Rattle.cfg_json.specs.declared.config_fault.ConfigFault.TheVariants.{NotJson, Fraction, MissingKey, WrongKind, OutOfRange}
-use Rattle.cfg_json.specs.declared.config_fault.ConfigFault.TheVariants.{ProbeSyntax, ExposeForm, TemplateSyntax, MuxMatchOne, PatternSyntax}
+use Rattle.cfg_json.specs.declared.config_fault.ConfigFault.TheVariants.{ProbeSyntax, TemplateSyntax, MuxMatchOne, PatternSyntax}
 use Rattle.cfg_json.specs.declared.config_fault.ConfigFault.TheVariants.{PatternTooLarge, OutOfMemory}
 
 same_list : (old new : Maker) → new ≡ old → new.refused ≡ old.refused ++ []
@@ -37,7 +37,6 @@ gives_ties old new (Err MissingKey) read gives memory = by_rule old new MissingK
 gives_ties old new (Err WrongKind) read gives memory = by_rule old new WrongKind read gives
 gives_ties old new (Err OutOfRange) read gives memory = by_rule old new OutOfRange read gives
 gives_ties old new (Err (ProbeSyntax at)) read gives memory = by_rule old new (ProbeSyntax at) read gives
-gives_ties old new (Err ExposeForm) read gives memory = by_rule old new ExposeForm read gives
 gives_ties old new (Err TemplateSyntax) read gives memory = by_rule old new TemplateSyntax read gives
 gives_ties old new (Err MuxMatchOne) read gives memory = by_rule old new MuxMatchOne read gives
 gives_ties old new (Err (PatternSyntax text)) read (has, bad, same) memory = (bad_text read text has bad, same_list old new same)

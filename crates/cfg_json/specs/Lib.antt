@@ -3,6 +3,10 @@ pub mod Values
 pub mod Probes
 pub mod Channels
 pub mod Sensors
+pub mod Names
+pub mod Pids
+pub mod Stepwises
+pub mod Controls
 pub mod Exposes
 pub mod Documents
 pub mod Readings

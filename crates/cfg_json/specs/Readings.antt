@@ -1,9 +1,10 @@
 -- What the calls answer that read a document.
-use Rattle.std.specs.Prelude.{ℕ, ◌≡◌, ⊤, List, map, Option, Some, Result, Ok, Err, IsOkAnd}
+use Rattle.std.specs.Prelude.{ℕ, ◌≡◌, ⊤, ℤ, List, map, Option, Some, Result, Ok, Err, IsOkAnd}
 use Rattle.std.specs.List.{All, Contains, flat_map}
 use Rattle.std.specs.Borrow.{Bor}
 use Rattle.std.specs.Global.{Vec}
 use Rattle.arrayvec.specs.ArrayVec.{ArrayVec}
+use Rattle.bmc_base.specs.declared.milli.Milli.{Milli}
 use Rattle.serde_json.specs.Data.{Data}
 use Rattle.serde_json.specs.View.{view}
 use Rattle.serde_json.specs.declared.value.Value.{Value}
@@ -17,6 +18,7 @@ use Rattle.tmpl.specs.declared.template.TmplFault.{TmplFault}
 use Rattle.tmpl.specs.declared.template.TmplFault.TheVariants as templates
 use Rattle.cfg_json.specs.Configs.{Config, pattern_texts}
 use Rattle.cfg_json.specs.Documents.{config_of}
+use Rattle.cfg_json.specs.Stepwises.{in_milli}
 use Rattle.cfg_json.specs.declared.config_fault.ConfigFault.{ConfigFault}
 use Rattle.cfg_json.specs.declared.config_fault.ConfigFault.TheVariants.{TemplateSyntax, PatternSyntax, PatternTooLarge, OutOfMemory}
 
@@ -68,6 +70,11 @@ GivesList (Err fault) found = found ≡ Err fault
 abbrev pub GivesTexts : Result (ArrayVec (Bor (List ℕ))) ConfigFault → Result (List (List ℕ)) ConfigFault → Type 0
 GivesTexts (Ok texts) found = found ≡ Ok (map (λ text. text.now) texts.items)
 GivesTexts (Err fault) found = found ≡ Err fault
+
+-- the thousandths of a list, or why one is none
+abbrev pub GivesColumn : Result (ArrayVec ℤ) ConfigFault → Result (List Milli) ConfigFault → Type 0
+GivesColumn (Ok column) found = found ≡ Ok (map in_milli column.items)
+GivesColumn (Err fault) found = found ≡ Err fault
 
 -- a fault of a template as a configuration's
 abbrev pub template_rule : TmplFault → ConfigFault

@@ -101,6 +101,23 @@ milli_within least most (object ms) = Err WrongKind
 abbrev pub any_milli : Data → Result Milli ConfigFault
 any_milli value = milli_within (neg_ℤ (pos 1000000)) (pos 1000000) value
 
+-- a whole number of units in millionths, within a million units of 0
+abbrev pub whole_micro : Num → Result ℤ ConfigFault
+whole_micro n = whole_number (neg_ℤ (pos 1000000)) (pos 1000000) n >>= λ units. Ok (units *ℤ pos 1000000)
+
+-- the text of a decimal with up to six places in millionths, within a million units of 0
+abbrev pub decimal_micro : List ℕ → Result ℤ ConfigFault
+decimal_micro text = kind_only (decimal_units 6 text) >>= int_within (neg_ℤ (pos 1000000000000)) (pos 1000000000000)
+
+-- millionths, within a million units of 0: a whole number of units, or the text of a decimal
+abbrev pub any_micro : Data → Result ℤ ConfigFault
+any_micro (number n) = whole_micro n
+any_micro (string text) = decimal_micro text
+any_micro null = Err WrongKind
+any_micro (boolean b) = Err WrongKind
+any_micro (array items) = Err WrongKind
+any_micro (object ms) = Err WrongKind
+
 -- no thousandths
 abbrev pub no_units : Milli
 no_units = record { 0 = pos 0 }

@@ -26,10 +26,7 @@ pub enum ConfigFault {
     /// number of its texts, and one operand more was wanted.
     #[error("the text at {0} of the probe is no word, or stands in a wrong place")]
     ProbeSyntax(u32),
-    /// The type of an expose is not read yet: it is `Pid` or `Stepwise`.
-    #[error("an expose is of a type that is not read")]
-    ExposeForm,
-    /// The name of an expose is no template; or a channel is neither a bus nor one substitution, or asks for the
+    /// The name of an expose, or a name that a controller asks for, is no template; or a channel is neither a bus nor one substitution, or asks for the
     /// index; or the bus or the address of a sensor is neither a number nor one substitution.
     #[error("a text is no template")]
     TemplateSyntax,

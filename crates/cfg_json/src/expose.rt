@@ -1,6 +1,7 @@
 ghost use Rattle.std.specs.Prelude.{◌≡◌, ◌∷◌, ◌++◌, [], IfOk, OnOk, OnErr};
 
 use bmc_base::{Bytes, Milli, Name, OutOfMemory};
+use ctl_face::Setting;
 use sensor_core::SensorSetting;
 use std::alloc::Global;
 use std::marker::Model;
@@ -26,6 +27,8 @@ pub enum Body {
     Fan,
     /// A zone of fans (type `Pid.Zone`).
     Zone(ZoneSetting),
+    /// A controller (type `Pid` or `Stepwise`).
+    Control(ControlPart),
     /// A multiplexer (type `Mux`).
     Mux(MuxPart),
     /// An expose of any other type, of which nothing else is read.
@@ -51,6 +54,19 @@ pub struct ZoneSetting {
     pub min_thermal: Milli,
     /// The duty that its fans get in failsafe at the least, 0 to 100 percent.
     pub failsafe: Milli,
+}
+
+/// A controller. Its names are rendered for each board.
+#[derive(Drop)]
+pub struct ControlPart {
+    /// What it computes.
+    pub setting: Setting,
+    /// The name of the zone that it is in.
+    pub zone: Template,
+    /// The names of the sensors that it reads, 1 to 16.
+    pub inputs: Templates,
+    /// The names of the fans that it drives, 1 to 16 for class fan and none for others.
+    pub outputs: Templates,
 }
 
 /// A multiplexer, which leads to further buses. It has 1 to 16 channels.

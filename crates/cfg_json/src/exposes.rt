@@ -1,24 +1,22 @@
 ghost use Rattle.std.specs.Prelude.{◌≡◌, map, option_map};
 ghost use Rattle.std.specs.List.{list_any};
 ghost use Rattle.serde_json.specs.View.{view};
-ghost use Rattle.cfg_json.specs.Exposes.{expose_name, zone_of, is_unread, body_of, expose_of, exposes_of, has_moving};
+ghost use Rattle.cfg_json.specs.Exposes.{zone_of, body_of, expose_of, exposes_of, has_moving};
 ghost use Rattle.cfg_json.specs.Values.{each};
 ghost use Rattle.cfg_json.specs.Readings.{Gives};
 
 use crate::channels::read_mux;
+use crate::controls::{read_pid, read_stepwise};
 use crate::sensors::read_sensor;
-use crate::values::{check_length, list, milli_within, required, short_text, text};
+use crate::template_names::read_name;
+use crate::values::{MOST_UNITS, list, milli_within, required, short_text};
 use crate::{Body, ConfigFault, Expose, Exposes, ZoneSetting};
 use bmc_base::Name;
 use serde_json::Value;
 use std::alloc::Global;
-use tmpl::Template;
 
 // How many exposes a configuration has at the most.
 const MOST_EXPOSES: usize = 256;
-
-// How many bytes the name of an expose has at the most.
-const LONGEST_NAME: usize = 128;
 
 // Reads the exposes of a document, of which there may be none.
 pub(crate) fn read_exposes(alloc: Global, value: Option<&Value>) -> Result<Exposes, ConfigFault>
@@ -54,15 +52,6 @@ fn read_expose(alloc: Global, value: &Value) -> Result<Expose, ConfigFault>
     Ok(Expose { name, kind, body })
 }
 
-// Reads a name, which is a template.
-fn read_name(alloc: Global, value: &Value) -> Result<Template, ConfigFault>
-    ensures { Gives result (expose_name (view value.now)) }
-{
-    let name = text(value)?;
-    check_length(name.len(), 1, LONGEST_NAME)?;
-    Ok(Template::parse(alloc, name)?)
-}
-
 // Reads what the type of an expose asks for.
 #[tactic(auto, unfolding(crate::specs::Exposes::body_of))]
 fn read_body(alloc: Global, members: &Value, kind: &Name) -> Result<Body, ConfigFault>
@@ -72,14 +61,12 @@ fn read_body(alloc: Global, members: &Value, kind: &Name) -> Result<Body, Config
         "Sensor" => Ok(Body::Sensor(read_sensor(alloc, members)?)),
         "Fan" => Ok(Body::Fan),
         "Pid.Zone" => Ok(Body::Zone(read_zone(members)?)),
+        "Pid" => Ok(Body::Control(read_pid(alloc, members)?)),
+        "Stepwise" => Ok(Body::Control(read_stepwise(alloc, members)?)),
         "Mux" => Ok(Body::Mux(read_mux(alloc, required(members, "Channels")?)?)),
-        "Pid" | "Stepwise" => Err(ConfigFault::ExposeForm),
         _ => Ok(Body::Passive),
     }
 }
-
-// How many units a number in the widest range has at the most, to either side of 0.
-const MOST_UNITS: i32 = 1_000_000;
 
 // Reads the setting of a zone.
 fn read_zone(members: &Value) -> Result<ZoneSetting, ConfigFault>

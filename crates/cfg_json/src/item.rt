@@ -1,7 +1,8 @@
 ghost use Rattle.std.specs.Prelude.{◌≡◌, IfOk};
 
-use crate::ZoneSetting;
+use crate::{Boxed, Names, ZoneSetting};
 use bmc_base::{Bytes, Name, OutOfMemory, Place};
+use ctl_face::Setting;
 use sensor_core::SensorSetting;
 use std::alloc::Global;
 
@@ -27,17 +28,19 @@ pub struct Item {
     pub part: ItemPart,
 }
 
-/// What an item has by the type of its expose.
+/// What an item has by the type of its expose. It is small: what is large stands in memory of its own.
 #[derive(Drop)]
 pub enum ItemPart {
     /// A sensor.
-    Sensor(SensorItem),
+    Sensor(Boxed<SensorItem>),
     /// A fan.
     Fan,
     /// A zone of fans.
     Zone(ZoneSetting),
+    /// A controller.
+    Control(Boxed<ControlItem>),
     /// A multiplexer.
-    Mux(MuxItem),
+    Mux(Boxed<MuxItem>),
     /// An item of any other type.
     Passive,
 }
@@ -51,6 +54,19 @@ pub struct SensorItem {
     pub address: Option<u8>,
     /// How its values come of raw numbers, when they are too old, and its limits.
     pub setting: SensorSetting,
+}
+
+/// A controller at a board.
+#[derive(Drop)]
+pub struct ControlItem {
+    /// What it computes.
+    pub setting: Setting,
+    /// The name of the zone that it is in.
+    pub zone: Name,
+    /// The names of the sensors that it reads, 1 to 16.
+    pub inputs: Names,
+    /// The names of the fans that it drives, 1 to 16 for class fan and none for others.
+    pub outputs: Names,
 }
 
 /// A multiplexer at a board.
@@ -81,14 +97,44 @@ impl ItemPart {
         ensures { IfOk result (λ part. part ≡ self.now) }
     {
         match self {
-            ItemPart::Sensor(sensor) => Ok(ItemPart::Sensor(*sensor)),
+            ItemPart::Sensor(sensor) => Ok(ItemPart::Sensor(Boxed::new(alloc, *sensor.get())?)),
             ItemPart::Fan => Ok(ItemPart::Fan),
             ItemPart::Zone(setting) => Ok(ItemPart::Zone(*setting)),
-            ItemPart::Mux(mux) => Ok(ItemPart::Mux(MuxItem {
-                fixed: Bytes::copy(alloc, mux.fixed.as_slice())?,
-                moving: Bytes::copy(alloc, mux.moving.as_slice())?,
-            })),
+            ItemPart::Control(control) => {
+                let copy = control.get().copied(alloc)?;
+                Ok(ItemPart::Control(Boxed::new(alloc, copy)?))
+            }
+            ItemPart::Mux(mux) => {
+                let copy = mux.get().copied(alloc)?;
+                Ok(ItemPart::Mux(Boxed::new(alloc, copy)?))
+            }
             ItemPart::Passive => Ok(ItemPart::Passive),
         }
+    }
+}
+
+impl ControlItem {
+    // Returns an equal controller.
+    fn copied(&self, alloc: Global) -> Result<ControlItem, OutOfMemory>
+        ensures { IfOk result (λ control. control ≡ self.now) }
+    {
+        Ok(ControlItem {
+            setting: self.setting,
+            zone: self.zone.copied(),
+            inputs: self.inputs.copied(alloc)?,
+            outputs: self.outputs.copied(alloc)?,
+        })
+    }
+}
+
+impl MuxItem {
+    // Returns an equal multiplexer.
+    fn copied(&self, alloc: Global) -> Result<MuxItem, OutOfMemory>
+        ensures { IfOk result (λ mux. mux ≡ self.now) }
+    {
+        Ok(MuxItem {
+            fixed: Bytes::copy(alloc, self.fixed.as_slice())?,
+            moving: Bytes::copy(alloc, self.moving.as_slice())?,
+        })
     }
 }

@@ -2,9 +2,11 @@
 //! them in their order.
 #![tactic(auto)]
 
+mod boxed;
 mod channels;
 mod config;
 mod config_fault;
+mod controls;
 mod counts;
 mod document;
 mod draft;
@@ -13,17 +15,23 @@ mod exposes;
 mod fraction;
 mod item;
 mod law;
+mod names;
+mod pids;
 mod probe_texts;
 mod sensors;
 mod shelf;
+mod stepwises;
+mod template_names;
 #[cfg(test)]
 mod tests;
 mod values;
 
+pub use boxed::Boxed;
 pub use config::Config;
 pub use config_fault::ConfigFault;
 pub use counts::Counts;
-pub use expose::{Body, Expose, Exposes, MuxPart, SensorPart, Templates, ZoneSetting};
-pub use item::{Item, ItemId, ItemPart, MuxItem, SensorItem};
-pub use law::{answers_are_verdicts, settings_are_valid};
+pub use expose::{Body, ControlPart, Expose, Exposes, MuxPart, SensorPart, Templates, ZoneSetting};
+pub use item::{ControlItem, Item, ItemId, ItemPart, MuxItem, SensorItem};
+pub use law::{answers_are_verdicts, controls_are_valid, settings_are_valid};
+pub use names::Names;
 pub use shelf::{MOST_CONFIGS, Shelf};

@@ -1,8 +1,8 @@
-ghost use Rattle.std.specs.Prelude.{◌≡◌, ◌&&◌, nat_le, if◌then◌else◌, Ok, Err};
+ghost use Rattle.std.specs.Prelude.{◌≡◌, ◌&&◌, nat_le, if◌then◌else◌, pos, Ok, Err};
 ghost use Rattle.serde_json.specs.View.{view, number_view};
 ghost use Rattle.serde_json.specs.Find.{get};
 ghost use Rattle.cfg_json.specs.Values.{required, text_only, list_within, short_text, is_between, whole_units, decimal_units_within, milli_within};
-ghost use Rattle.cfg_json.specs.Values.{whole_number, whole_within, no_units, member_or};
+ghost use Rattle.cfg_json.specs.Values.{whole_number, whole_within, whole_micro, decimal_micro, any_micro, no_units, member_or};
 ghost use Rattle.cfg_json.specs.declared.config_fault.ConfigFault.TheVariants.{OutOfRange};
 ghost use Rattle.cfg_json.specs.Readings.{GivesMember, GivesText, GivesList};
 
@@ -56,6 +56,9 @@ pub(crate) fn short_text(value: &Value) -> Result<Name, ConfigFault>
 {
     Name::new(text(value)?).map_err(|_| ConfigFault::OutOfRange)
 }
+
+// How many units a number in the widest range has at the most, to either side of 0.
+pub(crate) const MOST_UNITS: i32 = 1_000_000;
 
 // How many thousandths a unit has.
 const THOUSAND: i64 = 1_000;
@@ -119,6 +122,57 @@ pub(crate) fn milli_within(value: &Value, least: i32, most: i32) -> Result<Milli
         Value::Number(number) => whole_units(number, least, most),
         Value::String(text) => decimal_units(text.as_str(), least, most),
         _ => Err(ConfigFault::WrongKind),
+    }
+}
+
+// How many millionths a unit has.
+const MILLION: i64 = 1_000_000;
+
+// How many millionths there are at the most, to either side of 0.
+const MOST_MICRO: i64 = 1_000_000_000_000;
+
+// Reads a whole number of units, in millionths.
+fn whole_micro(number: &Number) -> Result<i64, ConfigFault>
+    ensures { result ≡ whole_micro (number_view number.now) }
+{
+    let units = whole_number(number, -MOST_UNITS, MOST_UNITS)?;
+    Ok(units * MILLION)
+}
+
+// Reads a decimal with up to six places, in millionths.
+fn decimal_micro(text: &str) -> Result<i64, ConfigFault>
+    ensures { result ≡ decimal_micro text.now }
+{
+    match decimal(text, 6) {
+        Some(millionths) => {
+            if is_between(millionths, -MOST_MICRO, MOST_MICRO) {
+                Ok(millionths)
+            } else {
+                Err(ConfigFault::OutOfRange)
+            }
+        }
+        None => Err(ConfigFault::WrongKind),
+    }
+}
+
+// Reads millionths, up to a million units to either side of 0.
+fn any_micro(value: &Value) -> Result<i64, ConfigFault>
+    ensures { result ≡ any_micro (view value.now) }
+{
+    match value {
+        Value::Number(number) => whole_micro(number),
+        Value::String(text) => decimal_micro(text.as_str()),
+        _ => Err(ConfigFault::WrongKind),
+    }
+}
+
+// Reads millionths in a member that may be missing, in whose place 0 stands.
+pub(crate) fn micro_or_none(members: &Value, key: &str) -> Result<i64, ConfigFault>
+    ensures { result ≡ member_or (pos 0) any_micro (get key.now (view members.now)) }
+{
+    match members.get(key) {
+        Some(value) => any_micro(value),
+        None => Ok(0),
     }
 }
 

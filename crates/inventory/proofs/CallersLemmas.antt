@@ -16,9 +16,10 @@ use Rattle.inventory.specs.Differences.{key_of, keys_left, places_of}
 use Rattle.inventory.specs.Follows.{kept_with, key_eq, AreKeysAscending, Follows}
 use Rattle.inventory.specs.Indexes.{index_in, kept_of}
 use Rattle.inventory.specs.Items.{board_items, exposes_of, items, rendered_items}
+use Rattle.inventory.specs.Limits.{no_counts}
 use Rattle.inventory.specs.Lists.{board_list, board_of, keys_of}
 use Rattle.inventory.specs.Moments.{AreAscending}
-use Rattle.inventory.specs.Naming.{has_families, is_naming, naming, naming_items}
+use Rattle.inventory.specs.Naming.{has_naming, is_naming, naming, naming_items}
 use Rattle.inventory.specs.Orders.{exposer, key_cmp}
 use Rattle.inventory.specs.declared.board.BoardKey.{BoardKey}
 use Rattle.inventory.proofs.AscendLemmas.{all_flat_map}
@@ -186,7 +187,7 @@ configs_alike one other kept fields (key ∷ keys) alike =
     naming_first one kept fields key keys
     ∙ ap₂ (λ (front back : List Item). front ++ back)
     (ap (λ (config : Option Config). cond
-    (has_families (unwrap_or (option_map (λ (config : Config). counts_of config.exposes) config) (record { sensors = 0; zones = 0; fans = 0 })))
+    (has_naming (unwrap_or (option_map (λ (config : Config). counts_of config.exposes) config) no_counts))
     (rendered_items (board_of kept key) (option_and_then fields key.place)
     (unwrap_or (option_map (λ (config : Config). config.exposes) config) [])) []) alike.0)
     (configs_alike one other kept fields keys alike.1)

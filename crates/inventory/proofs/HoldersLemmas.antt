@@ -1,19 +1,23 @@
--- Families, names, and the items that hold them.
-use Rattle.std.proofs.Common.{◌≡◌, ◌∙◌, ℕ, Bool, true, false, cond, ◌&&◌, List, [], ◌∷◌, map, filter, Option}
-use Rattle.std.proofs.Common.{Some, None, option_map, refl, sym, ap, ap₂, true≢false}
-use Rattle.std.specs.Prelude.{bytes_eq, filter_map}
-use Rattle.std.specs.Option.{option_eq, unwrap_or}
+-- Families, roles, names, and the items that hold them.
+use Rattle.std.proofs.Common.{◌≡◌, ◌∙◌, ℕ, Bool, true, false, cond, ◌||◌, List, [], ◌∷◌, map, filter, Option}
+use Rattle.std.proofs.Common.{Some, None, option_map, is_some, refl, sym, ap, ap₂, true≢false}
+use Rattle.std.specs.Prelude.{filter_map}
+use Rattle.std.specs.Option.{unwrap_or}
 use Rattle.std.specs.List.{AllByRecursion, IsDistinct, cons_option}
-use Rattle.std.specs.Cmp.Lexicographic.{bytes_decides, nat_list_eq_equiv}
+use Rattle.std.specs.Cmp.Lexicographic.{bytes_decides}
 use denote.Enum.Bare.{sameb}
 use Rattle.cfg_json.specs.declared.item.Item.{Item}
 use Rattle.cfg_json.specs.declared.item.ItemId.{ItemId}
-use Rattle.inventory.specs.contracts.family.Family.{the_type}
+use Rattle.cfg_json.specs.declared.item.ItemPart.{ItemPart}
+use Rattle.cfg_json.specs.declared.item.ItemPart.TheVariants as parts
+use Rattle.inventory.specs.contracts.tag.Role.{the_type as roles_type}
 use Rattle.inventory.specs.declared.family.Family.{Family}
 use Rattle.inventory.specs.declared.family.Family.TheVariants as families
-use Rattle.inventory.specs.Items.{family_of, family_eq, has_name, holder, id_eq, is_item, is_live, live}
+use Rattle.inventory.specs.declared.tag.Role.{Role}
+use Rattle.inventory.specs.declared.tag.Role.TheVariants as roles
+use Rattle.inventory.specs.Bearers.{role_eq}
+use Rattle.inventory.specs.Items.{borne_name, family_of, family_eq, holder, id_eq, is_item, is_live, live, same_name, zone_of}
 use Rattle.inventory.specs.Orders.{HaveOwnIds}
-use Rattle.inventory.specs.Bearers.{held_eq, held_of}
 use Rattle.inventory.specs.Laws.{NamesDiffer}
 use Rattle.inventory.proofs.BoardLemmas.{and_first, and_second}
 use Rattle.inventory.proofs.ListLemmas.{all_filter, all_map, all_mapped, all_passes}
@@ -32,50 +36,85 @@ family_same families.Zone families.Fan same = absurd (cc)
 family_same families.Fan families.Sensor same = absurd (cc)
 family_same families.Fan families.Zone same = absurd (cc)
 
-pub family_swap : (family other : Family) → family_eq family other ≡ family_eq other family
-family_swap families.Sensor families.Sensor = refl
-family_swap families.Zone families.Zone = refl
-family_swap families.Fan families.Fan = refl
-family_swap families.Sensor families.Zone = refl
-family_swap families.Sensor families.Fan = refl
-family_swap families.Zone families.Sensor = refl
-family_swap families.Zone families.Fan = refl
-family_swap families.Fan families.Sensor = refl
-family_swap families.Fan families.Zone = refl
+-- ---- roles
 
--- the derived test of families says the same
-abbrev pub family_test : Family → Family → Bool
-family_test family other = sameb the_type family other
+-- the derived test of roles says the same as theirs
+abbrev pub role_test : Role → Role → Bool
+role_test role other = sameb roles_type role other
 
-pub family_test_is : (family other : Family) → family_test family other ≡ family_eq family other
-family_test_is families.Sensor families.Sensor = refl
-family_test_is families.Zone families.Zone = refl
-family_test_is families.Fan families.Fan = refl
-family_test_is families.Sensor families.Zone = refl
-family_test_is families.Sensor families.Fan = refl
-family_test_is families.Zone families.Sensor = refl
-family_test_is families.Zone families.Fan = refl
-family_test_is families.Fan families.Sensor = refl
-family_test_is families.Fan families.Zone = refl
+pub role_test_is : (role other : Role) → role_test role other ≡ role_eq role other
+role_test_is roles.Sensor roles.Sensor = refl
+role_test_is roles.Sensor roles.Zone = refl
+role_test_is roles.Sensor roles.Fan = refl
+role_test_is roles.Sensor roles.Member = refl
+role_test_is roles.Zone roles.Sensor = refl
+role_test_is roles.Zone roles.Zone = refl
+role_test_is roles.Zone roles.Fan = refl
+role_test_is roles.Zone roles.Member = refl
+role_test_is roles.Fan roles.Sensor = refl
+role_test_is roles.Fan roles.Zone = refl
+role_test_is roles.Fan roles.Fan = refl
+role_test_is roles.Fan roles.Member = refl
+role_test_is roles.Member roles.Sensor = refl
+role_test_is roles.Member roles.Zone = refl
+role_test_is roles.Member roles.Fan = refl
+role_test_is roles.Member roles.Member = refl
 
-module _ (item : Item) (family : Family) (of_family : family_of item.part ≡ Some family) where
-  -- an item of a family has a name in another one exactly if both are one, and the name is its own
-  pub name_is : (other : Family) (name : List ℕ) → has_name other name item ≡ (family_eq family other && bytes_eq item.name name)
-  name_is other name = ap (λ each. option_eq family_eq each (Some other) && bytes_eq item.name name) of_family
+pub role_same : (role other : Role) → role_eq role other ≡ true → role ≡ other
+role_same roles.Sensor roles.Sensor same = refl
+role_same roles.Zone roles.Zone same = refl
+role_same roles.Fan roles.Fan same = refl
+role_same roles.Member roles.Member same = refl
+role_same roles.Sensor roles.Zone same = absurd (cc)
+role_same roles.Sensor roles.Fan same = absurd (cc)
+role_same roles.Sensor roles.Member same = absurd (cc)
+role_same roles.Zone roles.Sensor same = absurd (cc)
+role_same roles.Zone roles.Fan same = absurd (cc)
+role_same roles.Zone roles.Member same = absurd (cc)
+role_same roles.Fan roles.Sensor same = absurd (cc)
+role_same roles.Fan roles.Zone same = absurd (cc)
+role_same roles.Fan roles.Member same = absurd (cc)
+role_same roles.Member roles.Sensor same = absurd (cc)
+role_same roles.Member roles.Zone same = absurd (cc)
+role_same roles.Member roles.Fan same = absurd (cc)
 
-  pub name_by_held : (other : Family) (name : List ℕ)
-      → held_eq (record { family = other; name = name }) (record { family = family; name = item.name }) ≡ has_name other name item
-  name_by_held other name =
-      ap₂ (λ (one same : Bool). one && same) (family_swap other family) (nat_list_eq_equiv.symm name item.name) ∙ sym (name_is other name)
-
-  pub live_is : (items : List Item) → is_live items item ≡ is_item item.id (holder items family item.name)
-  live_is items = ap (λ each. unwrap_or (option_map (λ family. is_item item.id (holder items family item.name)) each) false) of_family
+pub role_itself : (role : Role) → role_eq role role ≡ true
+role_itself roles.Sensor = refl
+role_itself roles.Zone = refl
+role_itself roles.Fan = refl
+role_itself roles.Member = refl
 
 -- ---- items that hold their names
 
+pub or_none : (b : Bool) → (b || false) ≡ b
+or_none true = refl
+or_none false = refl
+
+-- an item of a family is in no zone, so it is live where it holds its name
+pub live_is : (item : Item) (family : Family) → family_of item.part ≡ Some family → (items : List Item)
+    → is_live items item ≡ is_item item.id (holder items family item.name)
+live_is item family of_family items = by item.part refl of_family
+  where
+    its : (part : ItemPart) → item.part ≡ part → zone_of part ≡ None → family_of part ≡ Some family
+        → is_live items item ≡ is_item item.id (holder items family item.name)
+    its part is none of_family =
+        ap₂ (λ (held zoned : Bool). held || zoned)
+        (ap (λ (family : Option Family). unwrap_or (option_map (λ family. is_item item.id (holder items family item.name)) family) false)
+        (ap family_of is ∙ of_family))
+        (ap (λ (zone : Option (List ℕ)). unwrap_or (option_map (λ zone. is_some (holder items families.Zone zone)) zone) false) (ap zone_of is ∙ none))
+        ∙ or_none (is_item item.id (holder items family item.name))
+
+    by : (part : ItemPart) → item.part ≡ part → family_of part ≡ Some family → is_live items item ≡ is_item item.id (holder items family item.name)
+    by (parts.Sensor sensor) is of_family = its (parts.Sensor sensor) is refl of_family
+    by parts.Fan is of_family = its parts.Fan is refl of_family
+    by (parts.Zone setting) is of_family = its (parts.Zone setting) is refl of_family
+    by (parts.Control control) is of_family = absurd (cc)
+    by (parts.Mux mux) is of_family = absurd (cc)
+    by parts.Passive is of_family = absurd (cc)
+
 -- the names of items that hold them
 names_apart : (items these : List Item) → AllByRecursion (λ (each : Item). is_live items each ≡ true) these → HaveOwnIds these
-    → IsDistinct held_eq (filter_map held_of these)
+    → IsDistinct same_name (filter_map borne_name these)
 unfolding IsDistinct
 names_apart items [] live differ = tt
 names_apart items (item ∷ these) live differ = by (family_of item.part) refl (names_apart items these live.1 differ.1)
@@ -86,7 +125,7 @@ names_apart items (item ∷ these) live differ = by (family_of item.part) refl (
 
     apart : (family : Family) → family_of item.part ≡ Some family → (other : Item) → id_eq item.id other.id ≡ false → is_live items other ≡ true
         → (its : Family) → family_of other.part ≡ Some its
-        → (same : Bool) → held_eq (record { family = family; name = item.name }) (record { family = its; name = other.name }) ≡ same → same ≡ false
+        → (same : Bool) → same_name (family, item.name) (its, other.name) ≡ same → same ≡ false
     apart family of_family other differ lives its of_its false is = refl
     apart family of_family other differ lives its of_its true is =
         let held : is_item item.id (holder items family item.name) ≡ true = sym (live_is item family of_family items) ∙ live.0 in
@@ -100,19 +139,19 @@ names_apart items (item ∷ these) live differ = by (family_of item.part) refl (
     rest_apart : (family : Family) → family_of item.part ≡ Some family → (later : List Item)
         → AllByRecursion (λ (id : ItemId). id_eq item.id id ≡ false) (map (λ (item : Item). item.id) later)
         → AllByRecursion (λ (each : Item). is_live items each ≡ true) later
-        → AllByRecursion (λ held. held_eq (record { family = family; name = item.name }) held ≡ false) (filter_map held_of later)
+        → AllByRecursion (λ (name : Family × List ℕ). same_name (family, item.name) name ≡ false) (filter_map borne_name later)
     rest_apart family of_family [] differ lives = tt
     rest_apart family of_family (other ∷ later) differ lives = each (family_of other.part) refl (rest_apart family of_family later differ.1 lives.1)
       where
         each : (its : Option Family) → family_of other.part ≡ its
-            → AllByRecursion (λ held. held_eq (record { family = family; name = item.name }) held ≡ false) (filter_map held_of later)
-            → AllByRecursion (λ held. held_eq (record { family = family; name = item.name }) held ≡ false)
-            (cons_option (option_map (λ (family : Family). record { family = family; name = other.name }) its) (filter_map held_of later))
+            → AllByRecursion (λ (name : Family × List ℕ). same_name (family, item.name) name ≡ false) (filter_map borne_name later)
+            → AllByRecursion (λ (name : Family × List ℕ). same_name (family, item.name) name ≡ false)
+            (cons_option (option_map (λ (family : Family). (family, other.name)) its) (filter_map borne_name later))
         each None of_none rest = rest
         each (Some its) of_its rest = (apart family of_family other differ.0 lives.0 its of_its _ refl, rest)
 
-    by : (family : Option Family) → family_of item.part ≡ family → IsDistinct held_eq (filter_map held_of these)
-        → IsDistinct held_eq (cons_option (option_map (λ (family : Family). record { family = family; name = item.name }) family) (filter_map held_of these))
+    by : (family : Option Family) → family_of item.part ≡ family → IsDistinct same_name (filter_map borne_name these)
+        → IsDistinct same_name (cons_option (option_map (λ (family : Family). (family, item.name)) family) (filter_map borne_name these))
     by None of_none rest = rest
     by (Some family) of_family rest = (rest_apart family of_family these differ.0 live.1, rest)
 

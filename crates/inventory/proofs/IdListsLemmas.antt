@@ -39,7 +39,7 @@ unsorted : (ids : List ItemId) → IsStrictlySortedBy id_cmp (map its_id ids) �
 unsorted ids order = subst (IsStrictlySortedBy id_cmp) (map-id ids) order
 
 -- what is found passes
-any_found : {X : Type 0} (test : X → Bool) (xs : List X) → find test xs ≡ None → list_any test xs ≡ false
+pub any_found : {X : Type 0} (test : X → Bool) (xs : List X) → find test xs ≡ None → list_any test xs ≡ false
 any_found test [] none = refl
 any_found {X} test (first ∷ xs) none = by (test first) none (any_found test xs)
   where
@@ -47,7 +47,7 @@ any_found {X} test (first ∷ xs) none = by (test first) none (any_found test xs
     by true none later = absurd (cc)
     by false none later = later none
 
-any_at : (id : ItemId) (ids : List ItemId) (n : ℕ) → is_id id (slice_get ids n) ≡ true → list_any (id_eq id) ids ≡ true
+pub any_at : (id : ItemId) (ids : List ItemId) (n : ℕ) → is_id id (slice_get ids n) ≡ true → list_any (id_eq id) ids ≡ true
 any_at id [] zero is = absurd (cc)
 any_at id [] (suc n) is = absurd (cc)
 any_at id (first ∷ ids) zero is = ap (λ (b : Bool). b || list_any (id_eq id) ids) is
@@ -305,30 +305,29 @@ pub no_id : (first : Option ItemId) → is_some first ≡ false → first ≡ No
 no_id None none = refl
 no_id (Some first) none = absurd (cc)
 
--- an id that is put in, where another is not the same
-pub unless_some : (ids : List ItemId) (first : ItemId) (id other : Option ItemId) (test : ItemId → Bool) → id ≡ Some first → is_id first other ≡ false
-    → Lists ids (or_id test first) → Lists ids (λ each. test each || (is_id each id && not (is_id each other)))
-unless_some ids first id other test some differs lists = lists_alike ids (or_id test first) _ lists (λ each.
+-- an id that is put in, where others do not have it
+pub unless_some : (ids : List ItemId) (first : ItemId) (id : Option ItemId) (has test : ItemId → Bool) → id ≡ Some first → has first ≡ false
+    → Lists ids (or_id test first) → Lists ids (λ each. test each || (is_id each id && not (has each)))
+unless_some ids first id has test some differs lists = lists_alike ids (or_id test first) _ lists (λ each.
     ap (λ (b : Bool). test each || b) (by each (id_eq each first) refl)
-    ∙ ap (λ (id : Option ItemId). test each || (is_id each id && not (is_id each other))) (sym some))
+    ∙ ap (λ (id : Option ItemId). test each || (is_id each id && not (has each))) (sym some))
   where
-    by : (each : ItemId) (same : Bool) → id_eq each first ≡ same → id_eq each first ≡ (id_eq each first && not (is_id each other))
-    by each true same =
-        same ∙ sym (ap₂ (λ (one two : Bool). one && not two) same (ap (λ (id : ItemId). is_id id other) (id_same each first same) ∙ differs))
-    by each false same = same ∙ sym (ap (λ (b : Bool). b && not (is_id each other)) same)
+    by : (each : ItemId) (same : Bool) → id_eq each first ≡ same → id_eq each first ≡ (id_eq each first && not (has each))
+    by each true same = same ∙ sym (ap₂ (λ (one two : Bool). one && not two) same (ap has (id_same each first same) ∙ differs))
+    by each false same = same ∙ sym (ap (λ (b : Bool). b && not (has each)) same)
 
-pub unless_same : (ids : List ItemId) (first : ItemId) (id other : Option ItemId) (test : ItemId → Bool) → id ≡ Some first → is_id first other ≡ true
-    → Lists ids test → Lists ids (λ each. test each || (is_id each id && not (is_id each other)))
-unless_same ids first id other test some same lists = lists_alike ids test _ lists (λ each.
+pub unless_same : (ids : List ItemId) (first : ItemId) (id : Option ItemId) (has test : ItemId → Bool) → id ≡ Some first → has first ≡ true
+    → Lists ids test → Lists ids (λ each. test each || (is_id each id && not (has each)))
+unless_same ids first id has test some same lists = lists_alike ids test _ lists (λ each.
     by each (id_eq each first) refl (test each)
-    ∙ ap (λ (id : Option ItemId). test each || (is_id each id && not (is_id each other))) (sym some))
+    ∙ ap (λ (id : Option ItemId). test each || (is_id each id && not (has each))) (sym some))
   where
     plain : (b : Bool) → b ≡ (b || false)
     plain true = refl
     plain false = refl
 
-    by : (each : ItemId) (is : Bool) → id_eq each first ≡ is → (b : Bool) → b ≡ (b || (id_eq each first && not (is_id each other)))
+    by : (each : ItemId) (is : Bool) → id_eq each first ≡ is → (b : Bool) → b ≡ (b || (id_eq each first && not (has each)))
     by each true is b =
         plain b ∙ ap (λ (last : Bool). b || last)
-        (sym (ap₂ (λ (one two : Bool). one && not two) is (ap (λ (id : ItemId). is_id id other) (id_same each first is) ∙ same)))
-    by each false is b = plain b ∙ ap (λ (last : Bool). b || last) (sym (ap (λ (one : Bool). one && not (is_id each other)) is))
+        (sym (ap₂ (λ (one two : Bool). one && not two) is (ap has (id_same each first is) ∙ same)))
+    by each false is b = plain b ∙ ap (λ (last : Bool). b || last) (sym (ap (λ (one : Bool). one && not (has each)) is))

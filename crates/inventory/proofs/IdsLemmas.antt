@@ -1,7 +1,7 @@
 -- The order of boards and of items, and lists that ascend by it.
 use Rattle.std.proofs.Common.{◌≡◌, ◌∙◌, ℕ, ◌+◌, ◌≤◌, Bool, true, ◌&&◌, List, [], ◌∷◌, map, Option, Some, None, option_map, refl, sym, ap, subst, arith}
 use mathlib.Core.List.{map-map, map-id}
-use Rattle.std.specs.Prelude.{◌==◌, filter_map}
+use Rattle.std.specs.Prelude.{◌==◌, filter_map, option_and_then}
 use Rattle.std.specs.Option.{option_cmp}
 use Rattle.std.specs.Ordering.{is_eq, nat_cmp, ordering_then}
 use Rattle.std.specs.declared.cmp.Ordering.{Ordering}
@@ -19,6 +19,7 @@ use Rattle.tmpl.specs.Rendering.{rendered}
 use Rattle.cfg_json.specs.declared.expose.Expose.{Expose}
 use Rattle.cfg_json.specs.declared.item.Item.{Item}
 use Rattle.cfg_json.specs.declared.item.ItemId.{ItemId}
+use Rattle.cfg_json.specs.declared.item.ItemPart.{ItemPart}
 use Rattle.match_rows.proofs.PlacesLemmas.{place_total}
 use Rattle.inventory.specs.declared.board.Board.{Board}
 use Rattle.inventory.specs.declared.board.BoardKey.{BoardKey}
@@ -102,12 +103,15 @@ module _ (fields_at : Place → Option (List Field)) (board : Board) where
   fields : Option (List Field)
   fields = board_fields fields_at board
 
-  abbrev made : ℕ → Expose → List ℕ → Item
-  made position expose name = record {
+  abbrev made : ℕ → List ℕ → ItemPart → Item
+  made position name part = record {
     id = record { config = board.key.config; place = board.key.place; expose = position };
     name = name;
-    part = part_of board.key.place (board_fields fields_at board) board.index expose.body;
+    part = part;
   }
+
+  abbrev made_if : ℕ → Option ItemPart → Option (List ℕ) → Option Item
+  made_if position part name = option_and_then (λ name. option_map (made position name) part) name
 
   -- the items of a board from one of its exposes on
   abbrev from : ℕ → List Expose → List Item
@@ -119,34 +123,38 @@ module _ (fields_at : Place → Option (List Field)) (board : Board) where
   items_from position [] = tt
   items_from position (expose ∷ exposes) =
       by (rendered board.key.place (board_fields fields_at board) board.index expose.name)
+      (part_of board.key.place (board_fields fields_at board) board.index expose.body)
       (all_weaker _ _ (λ (item : Item) is. (is.0, omega (arith, is.1))) (from (position + 1) exposes) (items_from (position + 1) exposes))
     where
-      by : (name : Option (List ℕ))
+      by : (name : Option (List ℕ)) (part : Option ItemPart)
           → AllByRecursion (λ (item : Item). (exposer item.id ≡ board.key) × (position ≤ item.id.expose)) (from (position + 1) exposes)
           → AllByRecursion (λ (item : Item). (exposer item.id ≡ board.key) × (position ≤ item.id.expose))
-          (cons_option (option_map (made position expose) name) (from (position + 1) exposes))
-      by None rest = rest
-      by (Some name) rest = ((refl, omega arith), rest)
+          (cons_option (made_if position part name) (from (position + 1) exposes))
+      by None part rest = rest
+      by (Some name) None rest = rest
+      by (Some name) (Some part) rest = ((refl, omega arith), rest)
 
   pub items_ascend_from : (position : ℕ) (exposes : List Expose) → AreById (from position exposes)
   unfolding IsStrictlySortedBy
   items_ascend_from position [] = tt
   items_ascend_from position (expose ∷ exposes) =
-      by (rendered board.key.place (board_fields fields_at board) board.index expose.name) (items_ascend_from (position + 1) exposes)
+      by (rendered board.key.place (board_fields fields_at board) board.index expose.name)
+      (part_of board.key.place (board_fields fields_at board) board.index expose.body) (items_ascend_from (position + 1) exposes)
     where
-      below : (name : List ℕ) (item : Item) → (exposer item.id ≡ board.key) × (position + 1 ≤ item.id.expose)
-          → id_cmp ((made position expose name).id) item.id ≡ Less
-      below name item is =
+      below : (name : List ℕ) (part : ItemPart) (item : Item) → (exposer item.id ≡ board.key) × (position + 1 ≤ item.id.expose)
+          → id_cmp ((made position name part).id) item.id ≡ Less
+      below name part item is =
           ap (λ key. ordering_then (key_cmp board.key key) (nat_cmp position item.id.expose)) is.0
           ∙ ap (λ (order : Ordering). ordering_then order (nat_cmp position item.id.expose)) (tied_itself key_total board.key)
           ∙ number_before position item.id.expose (omega (arith, is.1))
 
-      by : (name : Option (List ℕ)) → AreById (from (position + 1) exposes)
-          → AreById (cons_option (option_map (made position expose) name) (from (position + 1) exposes))
-      by None rest = rest
-      by (Some name) rest = (
+      by : (name : Option (List ℕ)) (part : Option ItemPart) → AreById (from (position + 1) exposes)
+          → AreById (cons_option (made_if position part name) (from (position + 1) exposes))
+      by None part rest = rest
+      by (Some name) None rest = rest
+      by (Some name) (Some part) rest = (
         all_map _ (λ (item : Item). item.id) (from (position + 1) exposes)
-            (all_weaker _ _ (below name) (from (position + 1) exposes) (items_from (position + 1) exposes)),
+            (all_weaker _ _ (below name part) (from (position + 1) exposes) (items_from (position + 1) exposes)),
         rest,
       )
 

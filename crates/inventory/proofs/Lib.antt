@@ -20,10 +20,15 @@ pub mod NamingLemmas
 pub mod ValidLemmas
 pub mod SortedLemmas
 pub mod IdListsLemmas
+pub mod AmongLemmas
 pub mod ShownLemmas
+pub mod BearersLemmas
+pub mod TouchedLemmas
+pub mod ToldLemmas
 pub mod LeadsLemmas
-pub mod NamesLemmas
-pub mod LeadNamesLemmas
+pub mod TagsLemmas
+pub mod NotesLemmas
+pub mod LeadTagsLemmas
 pub mod FollowsLemmas
 pub mod StepLemmas
 pub mod SoundLemmas

@@ -1,7 +1,7 @@
--- The boards whose items hold names.
+-- The boards whose items may be live.
 use Rattle.std.proofs.Common.{◌≡◌, ◌∙◌, ℕ, ◌+◌, Bool, true, false, not, cond, ◌||◌, List, [], ◌∷◌, ◌++◌, length, filter, Option, Some, None}
 use Rattle.std.proofs.Common.{option_map, slice_get, refl, sym, ap, ap₂, subst, arith, inl, inr}
-use Rattle.std.specs.Prelude.{◌==◌, ◌&&◌, bytes_eq, find, filter_map}
+use Rattle.std.specs.Prelude.{◌==◌, ◌&&◌, bytes_eq, find, filter_map, option_and_then, IfSome}
 use Rattle.std.specs.Option.{is_some, option_eq, option_cmp, unwrap_or}
 use Rattle.std.specs.Ordering.{is_eq}
 use Rattle.std.specs.declared.cmp.Ordering.TheVariants.{Less}
@@ -15,25 +15,35 @@ use Rattle.bmc_base.specs.Places.{Place, place_cmp, place_eq}
 use Rattle.fru_area.specs.declared.field.Field.{Field}
 use Rattle.match_rows.proofs.PlacesLemmas.{place_total}
 use Rattle.tmpl.specs.Rendering.{rendered}
-use Rattle.cfg_json.specs.Configs.{Config, counts_of, is_fan, is_sensor, is_zone}
+use Rattle.ctl_face.specs.Kinds.{kind_eq, kind_of}
+use Rattle.ctl_face.specs.declared.kind.Kind.{Kind}
+use Rattle.ctl_face.specs.declared.kind.Kind.TheVariants.{Pid, Stepwise}
+use Rattle.cfg_json.specs.Configs.{Config, counts_of, is_fan, is_pid, is_sensor, is_stepwise, is_zone}
 use Rattle.cfg_json.specs.declared.expose.Body.{Body}
 use Rattle.cfg_json.specs.declared.expose.Body.TheVariants as bodies
 use Rattle.cfg_json.specs.declared.expose.Expose.{Expose}
 use Rattle.cfg_json.specs.declared.item.Item.{Item}
+use Rattle.cfg_json.specs.declared.item.ItemPart.{ItemPart}
 use Rattle.inventory.specs.Boards.{has_board}
 use Rattle.inventory.specs.Items.{board_fields, board_items, family_eq, family_of, holder, is_item, is_live, items, live, part_of}
-use Rattle.inventory.specs.Items.{rendered_item, rendered_items}
+use Rattle.inventory.specs.Items.{rendered_item, rendered_items, zone_of}
+use Rattle.inventory.specs.Limits.{no_counts}
 use Rattle.inventory.specs.Moments.{AreAscending}
-use Rattle.inventory.specs.Naming.{has_families, is_naming, naming}
+use Rattle.inventory.specs.Naming.{has_naming, is_naming, naming}
 use Rattle.inventory.specs.declared.board.Board.{Board}
 use Rattle.inventory.specs.declared.family.Family.{Family}
+use Rattle.inventory.specs.declared.family.Family.TheVariants as families
 use Rattle.inventory.proofs.BoardLemmas.{board_itself, board_same}
 use Rattle.inventory.proofs.BoardsLemmas.{board_cmp_eq}
 
--- ---- items without a family
+-- ---- items that may be live
+
+-- a part of a family, or of a controller
+abbrev has_kin : ItemPart → Bool
+has_kin part = is_some (family_of part) || is_some (zone_of part)
 
 abbrev is_kin : Item → Bool
-is_kin item = is_some (family_of item.part)
+is_kin item = has_kin item.part
 
 -- elements that pass no test of interest are left out
 module _ {X : Type 0} (test keep : X → Bool) (fails : (x : X) → keep x ≡ false → test x ≡ false) where
@@ -55,42 +65,67 @@ module _ {X : Type 0} (test keep : X → Bool) (fails : (x : X) → keep x ≡ f
       by true is rest = ap (λ (later : List X). cond (test first) (first ∷ later) later) rest
       by false is rest = rest ∙ sym (ap (λ (passes : Bool). cond passes (first ∷ filter test xs) (filter test xs)) (fails first is))
 
-no_family : (family : Option Family) → is_some family ≡ false → family ≡ None
-no_family None none = refl
-no_family (Some family) none = absurd (cc)
+-- of no family and in no zone
+record IsNoKin (kin : Option Family) (within : Option (List ℕ)) : Type 0 where
+  family : kin ≡ None
+  zone : within ≡ None
 
--- items without a family hold no name
+no_kin_by : (family : Option Family) (zone : Option (List ℕ)) → (is_some family || is_some zone) ≡ false → IsNoKin family zone
+no_kin_by None None none = record { family = refl; zone = refl }
+no_kin_by None (Some _) none = absurd (cc)
+no_kin_by (Some _) _ none = absurd (cc)
+
+-- whether an item holds its name, where it is of such a family and the holders of names are these
+abbrev holds_by : (Family → List ℕ → Option Item) → Item → Option Family → Bool
+holds_by held item family = unwrap_or (option_map (λ family. is_item item.id (held family item.name)) family) false
+
+-- whether the name of its zone is held, where it is in such a zone
+abbrev zone_by : (Family → List ℕ → Option Item) → Option (List ℕ) → Bool
+zone_by held zone = unwrap_or (option_map (λ zone. is_some (held families.Zone zone)) zone) false
+
+-- other items hold no name, and are in no zone
 module _ (all : List Item) where
   holder_kin : (family : Family) (name : List ℕ) → holder (filter is_kin all) family name ≡ holder all family name
   holder_kin family name =
       find_kept _ is_kin (λ item none.
-      ap (λ (each : Option Family). option_eq family_eq each (Some family) && bytes_eq item.name name) (no_family _ none)) all
+      ap (λ (each : Option Family). option_eq family_eq each (Some family) && bytes_eq item.name name)
+      (no_kin_by (family_of item.part) (zone_of item.part) none).family) all
 
   never_live : (item : Item) → is_kin item ≡ false → is_live all item ≡ false
   never_live item none =
-      ap (λ (each : Option Family). unwrap_or (option_map (λ family. is_item item.id (holder all family item.name)) each) false) (no_family _ none)
+      let no = no_kin_by (family_of item.part) (zone_of item.part) none in
+      λ i. holds_by (holder all) item (no.family i) || zone_by (holder all) (no.zone i)
 
   live_kin : live (filter is_kin all) ≡ live all
   unfolding live
   live_kin =
-      (λ i. filter (λ (item : Item). unwrap_or (option_map (λ family. is_item item.id (holder_kin family item.name i)) (family_of item.part)) false)
-      (filter is_kin all))
+      (λ i. filter (λ (item : Item).
+      holds_by (λ family name. holder_kin family name i) item (family_of item.part)
+      || zone_by (λ family name. holder_kin family name i) (zone_of item.part)) (filter is_kin all))
       ∙ filter_kept (is_live all) is_kin never_live all
 
 -- ---- items of boards that are not naming
 
--- an item is of a family exactly where its expose is a sensor, a zone or a fan
-kin_is : (place : Option Place) (fields : Option (List Field)) (index : ℕ) (expose : Expose)
-    → is_some (family_of (part_of place fields index expose.body)) ≡ (is_sensor expose || (is_zone expose || is_fan expose))
-kin_is place fields index expose = by expose.body
+-- whether an expose is of a family, or a controller
+abbrev is_named : Expose → Bool
+is_named expose = is_sensor expose || (is_zone expose || (is_fan expose || (is_pid expose || is_stepwise expose)))
+
+-- what any other is at a board is not of them
+idle_part : (place : Option Place) (fields : Option (List Field)) (index : ℕ) (expose : Expose) → is_named expose ≡ false
+    → IfSome (part_of place fields index expose.body) (λ part. has_kin part ≡ false)
+idle_part place fields index expose = by expose.body
   where
-    by : (body : Body) → is_some (family_of (part_of place fields index body))
-        ≡ (is_sensor (record expose { body = body }) || (is_zone (record expose { body = body }) || is_fan (record expose { body = body })))
-    by (bodies.Sensor part) = refl
-    by bodies.Fan = refl
-    by (bodies.Zone setting) = refl
-    by (bodies.Mux part) = refl
-    by bodies.Passive = refl
+    no_kind : (kind : Kind) → (kind_eq Pid kind || kind_eq Stepwise kind) ≡ false → ⊥
+    no_kind Pid none = absurd (cc)
+    no_kind Stepwise none = absurd (cc)
+
+    by : (body : Body) → is_named (record expose { body = body }) ≡ false → IfSome (part_of place fields index body) (λ part. has_kin part ≡ false)
+    by (bodies.Sensor part) none = absurd (cc)
+    by bodies.Fan none = absurd (cc)
+    by (bodies.Zone setting) none = absurd (cc)
+    by (bodies.Control part) none = absurd (no_kind (kind_of part.setting) none)
+    by (bodies.Mux part) none = refl
+    by bodies.Passive none = refl
 
 -- where none passes a test, each fails it
 all_fail : {X : Type 0} (test : X → Bool) (xs : List X) → length (filter test xs) ≡ 0 → AllByRecursion (λ (each : X). test each ≡ false) xs
@@ -110,27 +145,28 @@ both_fail one other [] fails also = tt
 both_fail one other (first ∷ xs) fails also = (ap₂ (λ (a b : Bool). a || b) fails.0 also.0, both_fail one other xs fails.1 also.1)
 
 module _ (board : Board) (fields : Option (List Field)) where
-  no_kin : (from : ℕ) (exposes : List Expose) → AllByRecursion (λ (each : Expose). (is_sensor each || (is_zone each || is_fan each)) ≡ false) exposes
+  no_kin : (from : ℕ) (exposes : List Expose) → AllByRecursion (λ (each : Expose). is_named each ≡ false) exposes
       → filter is_kin (filter_map (rendered_item board fields) (enumerate_from from exposes)) ≡ []
   no_kin from [] none = refl
   no_kin from (expose ∷ exposes) none =
-      by (rendered board.key.place fields board.index expose.name) (no_kin (from + 1) exposes none.1)
+      by (rendered board.key.place fields board.index expose.name) (part_of board.key.place fields board.index expose.body)
+      (idle_part board.key.place fields board.index expose none.0) (no_kin (from + 1) exposes none.1)
     where
       rest : List Item
       rest = filter_map (rendered_item board fields) (enumerate_from (from + 1) exposes)
 
-      item : List ℕ → Item
-      item name = record {
+      item : List ℕ → ItemPart → Item
+      item name part = record {
         id = record { config = board.key.config; place = board.key.place; expose = from };
         name = name;
-        part = part_of board.key.place fields board.index expose.body;
+        part = part;
       }
 
-      by : (name : Option (List ℕ)) → filter is_kin rest ≡ [] → filter is_kin (cons_option (option_map item name) rest) ≡ []
-      by None later = later
-      by (Some name) later =
-          ap₂ (λ (kin : Bool) (more : List Item). cond kin (item name ∷ more) more)
-          (kin_is board.key.place fields board.index expose ∙ none.0) later
+      by : (name : Option (List ℕ)) (part : Option ItemPart) → IfSome part (λ part. has_kin part ≡ false) → filter is_kin rest ≡ []
+          → filter is_kin (cons_option (option_and_then (λ name. option_map (item name) part) name) rest) ≡ []
+      by None part idle later = later
+      by (Some name) None idle later = later
+      by (Some name) (Some part) idle later = ap₂ (λ (kin : Bool) (more : List Item). cond kin (item name part ∷ more) more) idle later
 
 no_count : (count : ℕ) → not (count == 0) ≡ false → count ≡ 0
 no_count count none = by (count == 0) refl none
@@ -139,29 +175,32 @@ no_count count none = by (count == 0) refl none
     by true is none = eqb-true count 0 is
     by false is none = absurd (cc)
 
--- an expose of a configuration without families is of none
-none_of_kin : (exposes : List Expose) → has_families (counts_of exposes) ≡ false
-    → AllByRecursion (λ (each : Expose). (is_sensor each || (is_zone each || is_fan each)) ≡ false) exposes
-none_of_kin exposes none =
-    both_fail is_sensor (λ each. is_zone each || is_fan each) exposes (all_fail is_sensor exposes (omega (arith, all)))
-    (both_fail is_zone is_fan exposes (all_fail is_zone exposes (omega (arith, all))) (all_fail is_fan exposes (omega (arith, all))))
+-- where none of a family is counted and no controller, no expose is one
+none_named : (exposes : List Expose) → has_naming (counts_of exposes) ≡ false → AllByRecursion (λ (each : Expose). is_named each ≡ false) exposes
+none_named exposes none =
+    both_fail is_sensor _ exposes (all_fail is_sensor exposes (omega (arith, all)))
+    (both_fail is_zone _ exposes (all_fail is_zone exposes (omega (arith, all)))
+    (both_fail is_fan _ exposes (all_fail is_fan exposes (omega (arith, all)))
+    (both_fail is_pid is_stepwise exposes (all_fail is_pid exposes (omega (arith, all))) (all_fail is_stepwise exposes (omega (arith, all))))))
   where
-    all : length (filter is_sensor exposes) + length (filter is_zone exposes) + length (filter is_fan exposes) ≡ 0
-    all = no_count (length (filter is_sensor exposes) + length (filter is_zone exposes) + length (filter is_fan exposes)) none
+    all : length (filter is_sensor exposes) + length (filter is_zone exposes) + length (filter is_fan exposes) + length (filter is_pid exposes)
+        + length (filter is_stepwise exposes)
+        ≡ 0
+    all = no_count _ none
 
 module _ (configs : List Config) (fields_at : Place → Option (List Field)) where
   idle_items : (board : Board) → is_naming configs board.key ≡ false → filter is_kin (board_items configs fields_at board) ≡ []
   idle_items board idle = by (slice_get configs board.key.config) idle
     where
       by : (config : Option Config)
-          → has_families (unwrap_or (option_map (λ (config : Config). counts_of config.exposes) config) (record { sensors = 0; zones = 0; fans = 0 })) ≡ false
+          → has_naming (unwrap_or (option_map (λ (config : Config). counts_of config.exposes) config) no_counts) ≡ false
           → filter is_kin (rendered_items board (board_fields fields_at board)
           (unwrap_or (option_map (λ (config : Config). config.exposes) config) [])) ≡ []
       by None idle = refl
       by (Some config) idle =
-          no_kin board (board_fields fields_at board) 0 config.exposes (none_of_kin config.exposes idle)
+          no_kin board (board_fields fields_at board) 0 config.exposes (none_named config.exposes idle)
 
-  -- the items of a family are those of the naming boards
+  -- the items that may be live are those of the naming boards
   kin_items : (boards : List Board) → filter is_kin (items configs fields_at (naming configs boards)) ≡ filter is_kin (items configs fields_at boards)
   unfolding items
   kin_items [] = refl
@@ -187,18 +226,20 @@ naming_live configs fields_at boards =
     sym (live_kin (items configs fields_at (naming configs boards))) ∙ ap live (kin_items configs fields_at boards)
     ∙ live_kin (items configs fields_at boards)
 
+-- a name is held among them by the item that holds it among all
+pub naming_holder : (configs : List Config) (fields_at : Place → Option (List Field)) (boards : List Board) (family : Family) (name : List ℕ)
+    → holder (items configs fields_at (naming configs boards)) family name ≡ holder (items configs fields_at boards) family name
+naming_holder configs fields_at boards family name =
+    sym (holder_kin (items configs fields_at (naming configs boards)) family name)
+    ∙ ap (λ (all : List Item). holder all family name) (kin_items configs fields_at boards)
+    ∙ holder_kin (items configs fields_at boards) family name
+
 -- and an item is live among them where it is among all
 pub naming_is_live : (configs : List Config) (fields_at : Place → Option (List Field)) (boards : List Board) (item : Item)
     → is_live (items configs fields_at (naming configs boards)) item ≡ is_live (items configs fields_at boards) item
 naming_is_live configs fields_at boards item =
-    λ i. unwrap_or (option_map (λ family. is_item item.id (holds family i)) (family_of item.part)) false
-  where
-    holds : (family : Family)
-        → holder (items configs fields_at (naming configs boards)) family item.name ≡ holder (items configs fields_at boards) family item.name
-    holds family =
-        sym (holder_kin (items configs fields_at (naming configs boards)) family item.name)
-        ∙ ap (λ (all : List Item). holder all family item.name) (kin_items configs fields_at boards)
-        ∙ holder_kin (items configs fields_at boards) family item.name
+    λ i. unwrap_or (option_map (λ family. is_item item.id (naming_holder configs fields_at boards family item.name i)) (family_of item.part)) false
+    || unwrap_or (option_map (λ zone. is_some (naming_holder configs fields_at boards families.Zone zone i)) (zone_of item.part)) false
 
 -- ---- boards that ascend
 

@@ -4,20 +4,22 @@ use Rattle.std.proofs.Common.{Option, Some, None, refl, sym, ap, ap₂, subst, t
 use Rattle.std.specs.Prelude.{filter_map, find}
 use Rattle.std.specs.Option.{option_or, unwrap_or}
 use Rattle.std.specs.List.{AllByRecursion, list_any}
-use Rattle.std.specs.Map.{lookup}
 use Rattle.cfg_json.specs.declared.item.Item.{Item}
 use Rattle.cfg_json.specs.declared.item.ItemId.{ItemId}
-use Rattle.inventory.specs.Bearers.{bearers, bears, held_eq, ids_in, ids_over, is_bearer, leads, AreBorne, Lists}
+use Rattle.inventory.specs.Bearers.{bearers, bears, tag_eq, ids_in, ids_over, is_bearer, leads, touched, AreBorne, Lists}
 use Rattle.inventory.specs.Follows.{is_on, item_of, key_eq, off, on, Follows}
 use Rattle.inventory.specs.Items.{id_eq, items_less, live}
 use Rattle.inventory.specs.Orders.{exposer, AreById}
 use Rattle.inventory.specs.declared.board.BoardKey.{BoardKey}
-use Rattle.inventory.specs.declared.held.Held.{Held}
+use Rattle.inventory.specs.declared.tag.Tag.{Tag}
 use Rattle.inventory.proofs.IdListsLemmas.{any_by, lists_one}
 use Rattle.inventory.proofs.IdsLemmas.{ascending_ids, id_same}
-use Rattle.inventory.proofs.LeadsLemmas.{bearers_list, less_facts, less_ids, own_found, picked, AreSame}
+use Rattle.inventory.proofs.BearersLemmas.{bearers_list, AreSame}
+use Rattle.inventory.proofs.LeadsLemmas.{less_facts, less_ids, own_found, picked}
 use Rattle.inventory.proofs.ListLemmas.{all_weaker}
-use Rattle.inventory.proofs.NamesLemmas.{borne_alike}
+use Rattle.inventory.proofs.NotesLemmas.{borne_alike}
+use Rattle.inventory.proofs.TagsLemmas.{no_key}
+use Rattle.inventory.proofs.TouchedLemmas.{untouched}
 use Rattle.inventory.proofs.FollowsLemmas.{all_fail}
 use Rattle.inventory.proofs.ShownLemmas.{find_kept, id_of}
 
@@ -36,17 +38,6 @@ find_fails {X} test keep fails (first ∷ xs) = by (keep first) refl (test first
 -- an item with the id of another is on the same board
 on_same : (keys : List BoardKey) (item twin : Item) → id_eq item.id twin.id ≡ true → is_on keys twin ≡ is_on keys item
 on_same keys item twin same = sym (ap (λ (id : ItemId). list_any (key_eq (exposer id)) keys) (id_same item.id twin.id same))
-
-no_key : {X : Type 0} (entries : List (Held × X)) (held : Held) → list_any (held_eq held) (map (λ (entry : Held × X). entry.0) entries) ≡ false
-    → lookup (held_eq held) entries ≡ None
-no_key [] held none = refl
-no_key {X} (entry ∷ entries) held none = by (held_eq held entry.0) none (no_key entries held)
-  where
-    by : (same : Bool) → (same || list_any (held_eq held) (map (λ (entry : Held × X). entry.0) entries)) ≡ false
-        → (list_any (held_eq held) (map (λ (entry : Held × X). entry.0) entries) ≡ false → lookup (held_eq held) entries ≡ None)
-        → cond same (Some entry.1) (lookup (held_eq held) entries) ≡ None
-    by true none later = absurd (cc)
-    by false none later = later none
 
 -- ---- a step
 
@@ -127,25 +118,25 @@ module _ (gone keys : List BoardKey) (old coming next : List Item) (old_order : 
 
   -- ---- the ids that are noted
 
-  pub borne_next : (over names : List (Held × List ItemId))
-      → AreBorne over names (λ held id. (is_bearer old held id && not (is_bearer (on gone old) held id)) || is_bearer coming held id)
-      → AreBorne over names (is_bearer next)
-  borne_next over names borne = borne_alike over names _ (is_bearer next) borne (λ held id.
+  pub borne_next : (over tags : List (Tag × List ItemId))
+      → AreBorne over tags (λ tag id. (is_bearer old tag id && not (is_bearer (on gone old) tag id)) || is_bearer coming tag id)
+      → AreBorne over tags (is_bearer next)
+  borne_next over tags borne = borne_alike over tags _ (is_bearer next) borne (λ tag id.
       ap₂ (λ (one two : Bool). one || two)
-      (ap (λ (b : Bool). is_bearer old held id && not b) (part old held id gone)
-      ∙ but_part (is_bearer old held id) (list_any (key_eq (exposer id)) gone)
-      ∙ sym (off_part old held id gone)
-      ∙ ap (λ (items : List Item). is_bearer items held id) follows.stay ∙ off_part next held id keys)
-      (ap (λ (items : List Item). is_bearer items held id) (sym follows.come) ∙ part next held id keys)
-      ∙ either (is_bearer next held id) (list_any (key_eq (exposer id)) keys))
+      (ap (λ (b : Bool). is_bearer old tag id && not b) (part old tag id gone)
+      ∙ but_part (is_bearer old tag id) (list_any (key_eq (exposer id)) gone)
+      ∙ sym (off_part old tag id gone)
+      ∙ ap (λ (items : List Item). is_bearer items tag id) follows.stay ∙ off_part next tag id keys)
+      (ap (λ (items : List Item). is_bearer items tag id) (sym follows.come) ∙ part next tag id keys)
+      ∙ either (is_bearer next tag id) (list_any (key_eq (exposer id)) keys))
     where
-      part : (items : List Item) (held : Held) (id : ItemId) (keys : List BoardKey)
-          → is_bearer (on keys items) held id ≡ (is_bearer items held id && list_any (key_eq (exposer id)) keys)
-      part items held id keys = any_by id_of (bears held) (λ (id : ItemId). list_any (key_eq (exposer id)) keys) id items
+      part : (items : List Item) (tag : Tag) (id : ItemId) (keys : List BoardKey)
+          → is_bearer (on keys items) tag id ≡ (is_bearer items tag id && list_any (key_eq (exposer id)) keys)
+      part items tag id keys = any_by id_of (bears tag) (λ (id : ItemId). list_any (key_eq (exposer id)) keys) id items
 
-      off_part : (items : List Item) (held : Held) (id : ItemId) (keys : List BoardKey)
-          → is_bearer (off keys items) held id ≡ (is_bearer items held id && not (list_any (key_eq (exposer id)) keys))
-      off_part items held id keys = any_by id_of (bears held) (λ (id : ItemId). not (list_any (key_eq (exposer id)) keys)) id items
+      off_part : (items : List Item) (tag : Tag) (id : ItemId) (keys : List BoardKey)
+          → is_bearer (off keys items) tag id ≡ (is_bearer items tag id && not (list_any (key_eq (exposer id)) keys))
+      off_part items tag id keys = any_by id_of (bears tag) (λ (id : ItemId). not (list_any (key_eq (exposer id)) keys)) id items
 
       but_part : (one two : Bool) → (one && not (one && two)) ≡ (one && not two)
       but_part true two = refl
@@ -156,35 +147,36 @@ module _ (gone keys : List BoardKey) (old coming next : List Item) (old_order : 
       either true false = refl
       either false two = refl
 
-  module _ (over names : List (Held × List ItemId)) (kept : (held : Held) → Lists (ids_in names held) (is_bearer old held))
-      (borne : AreBorne over names (is_bearer next)) where
-    abbrev noted : List Held
-    noted = map (λ (entry : Held × List ItemId). entry.0) over
+  module _ (over tags : List (Tag × List ItemId)) (kept : (tag : Tag) → Lists (ids_in tags tag) (is_bearer old tag))
+      (borne : AreBorne over tags (is_bearer next)) where
+    abbrev noted : List Tag
+    noted = map (λ (entry : Tag × List ItemId). entry.0) over
 
-    old_ids : bearers old ≡ ids_in names
-    old_ids = λ i. λ held. lists_one (bearers old held) (ids_in names held) (is_bearer old held) (bearers_list old held old_order) (kept held) i
+    old_ids : bearers old ≡ ids_in tags
+    old_ids = λ i. λ tag. lists_one (bearers old tag) (ids_in tags tag) (is_bearer old tag) (bearers_list old tag old_order) (kept tag) i
 
-    next_ids : bearers next ≡ ids_over over names
-    next_ids = λ i. λ held. lists_one (bearers next held) (ids_over over names held) (is_bearer next held) (bearers_list next held follows.order) (borne held) i
+    next_ids : bearers next ≡ ids_over over tags
+    next_ids = λ i. λ tag. lists_one (bearers next tag) (ids_over over tags tag) (is_bearer next tag) (bearers_list next tag follows.order) (borne tag) i
 
-    unnoted : (held : Held) → list_any (held_eq held) (map (λ (entry : Held × List ItemId). entry.0) over) ≡ false → bearers old held ≡ bearers next held
-    unnoted held none =
-        (λ i. old_ids i held) ∙ sym (ap (λ (found : Option (List ItemId)). unwrap_or found (ids_in names held)) (no_key over held none))
-        ∙ sym (λ i. next_ids i held)
+    unnoted : (tag : Tag) → list_any (tag_eq tag) (map (λ (entry : Tag × List ItemId). entry.0) over) ≡ false → bearers old tag ≡ bearers next tag
+    unnoted tag none =
+        (λ i. old_ids i tag) ∙ sym (ap (λ (found : Option (List ItemId)). unwrap_or found (ids_in tags tag)) (no_key over tag none))
+        ∙ sym (λ i. next_ids i tag)
 
     pub gone_lists : Lists (map id_of (items_less (live old) (live next)))
-        (leads (ids_in names) (ids_over over names) (map (λ (entry : Held × List ItemId). entry.0) over))
+        (leads (ids_in tags) (ids_over over tags) (touched (map (λ (entry : Tag × List ItemId). entry.0) over)))
     gone_lists =
-        subst (λ (here : Held → List ItemId). Lists (map id_of (items_less (live old) (live next))) (leads here (ids_over over names) noted)) old_ids
-        (subst (λ (there : Held → List ItemId). Lists (map id_of (items_less (live old) (live next))) (leads (bearers old) there noted)) next_ids
-        (less_ids old next old_order same_items noted unnoted))
+        subst (λ (here : Tag → List ItemId). Lists (map id_of (items_less (live old) (live next))) (leads here (ids_over over tags) (touched noted))) old_ids
+        (subst (λ (there : Tag → List ItemId). Lists (map id_of (items_less (live old) (live next))) (leads (bearers old) there (touched noted))) next_ids
+        (less_ids old next old_order same_items (touched noted) (untouched (bearers old) (bearers next) noted unnoted)))
 
     pub new_lists : Lists (map id_of (items_less (live next) (live old)))
-        (leads (ids_over over names) (ids_in names) (map (λ (entry : Held × List ItemId). entry.0) over))
+        (leads (ids_over over tags) (ids_in tags) (touched (map (λ (entry : Tag × List ItemId). entry.0) over)))
     new_lists =
-        subst (λ (there : Held → List ItemId). Lists (map id_of (items_less (live next) (live old))) (leads (ids_over over names) there noted)) old_ids
-        (subst (λ (here : Held → List ItemId). Lists (map id_of (items_less (live next) (live old))) (leads here (bearers old) noted)) next_ids
-        (less_ids next old follows.order turn_same noted (λ held none. sym (unnoted held none))))
+        subst (λ (there : Tag → List ItemId). Lists (map id_of (items_less (live next) (live old))) (leads (ids_over over tags) there (touched noted))) old_ids
+        (subst (λ (here : Tag → List ItemId). Lists (map id_of (items_less (live next) (live old))) (leads here (bearers old) (touched noted))) next_ids
+        (less_ids next old follows.order turn_same (touched noted)
+        (untouched (bearers next) (bearers old) noted (λ tag none. sym (unnoted tag none)))))
 
   pub gone_are : filter_map (λ id. option_or (item_of old id) (item_of coming id)) (map id_of (items_less (live old) (live next)))
       ≡ items_less (live old) (live next)

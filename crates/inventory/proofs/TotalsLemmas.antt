@@ -13,7 +13,7 @@ use Rattle.inventory.specs.declared.board.BoardKey.{BoardKey}
 use Rattle.inventory.specs.Boards.{has_board}
 use Rattle.inventory.specs.Differences.{key_of, keys_left}
 use Rattle.inventory.specs.Indexes.{except}
-use Rattle.inventory.specs.Limits.{board_counts, fans_of, sensors_of, totals_of, totals_after, zones_of}
+use Rattle.inventory.specs.Limits.{board_counts, fans_of, pids_of, sensors_of, steps_of, totals_of, totals_after, zones_of}
 use Rattle.inventory.specs.Lists.{keys_of}
 use Rattle.inventory.specs.Moments.{AreAscending}
 use Rattle.inventory.proofs.BoardLemmas.{board_same, board_swap}
@@ -171,12 +171,19 @@ module _ (configs : List Config) where
   abbrev fans_at : BoardKey → ℕ
   fans_at key = (board_counts configs key).fans
 
+  abbrev pids_at : BoardKey → ℕ
+  pids_at key = (board_counts configs key).pids
+
+  abbrev steps_at : BoardKey → ℕ
+  steps_at key = (board_counts configs key).steps
+
 -- the boards that go taken away and those that come added, they are the totals of the boards behind
 pub totals_add_up : (configs : List Config) (count : ℕ) (before after : ℕ → List (Option Place)) → ((number : ℕ) → AreAscending (before number))
     → ((number : ℕ) → AreAscending (after number))
     → totals_after configs (totals_of configs (keys_of count before)) (keys_left count before after) (keys_left count after before)
     ≡ totals_of configs (keys_of count after)
-totals_add_up configs count before after ascend ascend_after = λ i. record { boards = boards i; sensors = sensors i; zones = zones i; fans = fans i }
+totals_add_up configs count before after ascend ascend_after =
+    λ i. record { boards = boards i; sensors = sensors i; zones = zones i; fans = fans i; pids = pids i; steps = steps i }
   where
     boards : length (keys_of count before) - length (keys_left count before after) + length (keys_left count after before) ≡ length (keys_of count after)
     boards =
@@ -203,3 +210,17 @@ totals_add_up configs count before after ascend ascend_after = λ i. record { bo
         measure_after (fans_of configs) (λ number. fans_at configs (record { config = number; place = None })) refl
         (λ front back. sum_by-append (fans_at configs) front back)
         (sum_block (fans_at configs) _ (λ number place. refl)) before after ascend ascend_after count
+
+    pids : pids_of configs (keys_of count before) - pids_of configs (keys_left count before after) + pids_of configs (keys_left count after before)
+        ≡ pids_of configs (keys_of count after)
+    pids =
+        measure_after (pids_of configs) (λ number. pids_at configs (record { config = number; place = None })) refl
+        (λ front back. sum_by-append (pids_at configs) front back)
+        (sum_block (pids_at configs) _ (λ number place. refl)) before after ascend ascend_after count
+
+    steps : steps_of configs (keys_of count before) - steps_of configs (keys_left count before after) + steps_of configs (keys_left count after before)
+        ≡ steps_of configs (keys_of count after)
+    steps =
+        measure_after (steps_of configs) (λ number. steps_at configs (record { config = number; place = None })) refl
+        (λ front back. sum_by-append (steps_at configs) front back)
+        (sum_block (steps_at configs) _ (λ number place. refl)) before after ascend ascend_after count

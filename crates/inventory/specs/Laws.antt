@@ -12,9 +12,8 @@ use Rattle.inventory.specs.declared.board.Board.{Board}
 use Rattle.inventory.specs.Boards.{has_board, board_places}
 use Rattle.inventory.specs.Indexes.{except, with_boards, index_of}
 use Rattle.inventory.specs.Lists.{keys_of, board_list}
-use Rattle.inventory.specs.Items.{items, live}
+use Rattle.inventory.specs.Items.{items, live, borne_name, same_name}
 use Rattle.inventory.specs.Orders.{AreByKey, AreById, HaveOwnIds}
-use Rattle.inventory.specs.Bearers.{held_eq, held_of}
 
 -- boards that differ are kept behind the others, those alone that are new
 abbrev pub KeepsNew : Type 0
@@ -52,4 +51,4 @@ LiveAscend = (items : List Item) → AreById items → AreById (live items)
 
 -- where no two items have one id, no two live items of one family have one name
 abbrev pub NamesDiffer : Type 0
-NamesDiffer = (items : List Item) → HaveOwnIds items → IsDistinct held_eq (filter_map held_of (live items))
+NamesDiffer = (items : List Item) → HaveOwnIds items → IsDistinct same_name (filter_map borne_name (live items))

@@ -14,3 +14,4 @@ pub mod Bearers
 pub mod Follows
 pub mod Shown
 pub mod Stocks
+pub mod Leads

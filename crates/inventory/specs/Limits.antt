@@ -6,9 +6,9 @@ use Rattle.cfg_json.specs.declared.counts.Counts.{Counts}
 use Rattle.inventory.specs.declared.board.BoardKey.{BoardKey}
 use Rattle.inventory.specs.declared.limits.Totals.{Totals}
 use Rattle.inventory.specs.declared.fault.InventoryFault.{InventoryFault}
-use Rattle.inventory.specs.declared.fault.InventoryFault.TheVariants.{BoardLimit, SensorLimit, ZoneLimit, FanLimit}
+use Rattle.inventory.specs.declared.fault.InventoryFault.TheVariants.{BoardLimit, SensorLimit, ZoneLimit, FanLimit, PidLimit, StepLimit}
 
--- the most boards, and the most exposes of boards that are sensors, that are zones and that are fans
+-- the most boards, and the most exposes of boards of each kind
 abbrev pub most_boards : ℕ
 most_boards = 1024
 
@@ -21,12 +21,22 @@ most_zones = 32
 abbrev pub most_fans : ℕ
 most_fans = 128
 
+abbrev pub most_pids : ℕ
+most_pids = 128
+
+abbrev pub most_steps : ℕ
+most_steps = 64
+
+-- the counts of no exposes
+abbrev pub no_counts : Counts
+no_counts = record { sensors = 0; zones = 0; fans = 0; pids = 0; steps = 0 }
+
 -- how many exposes of each kind a board has, whether they are rendered or not
 abbrev pub board_counts : List Config → BoardKey → Counts
 board_counts configs key =
-    unwrap_or (option_map (λ (config : Config). counts_of config.exposes) (slice_get configs key.config)) (record { sensors = 0; zones = 0; fans = 0 })
+    unwrap_or (option_map (λ (config : Config). counts_of config.exposes) (slice_get configs key.config)) no_counts
 
--- how many of the exposes of boards are sensors, how many are zones, and how many are fans
+-- how many of the exposes of boards are of each kind
 abbrev pub sensors_of : List Config → List BoardKey → ℕ
 sensors_of configs keys = sum_by (λ key. (board_counts configs key).sensors) keys
 
@@ -36,6 +46,12 @@ zones_of configs keys = sum_by (λ key. (board_counts configs key).zones) keys
 abbrev pub fans_of : List Config → List BoardKey → ℕ
 fans_of configs keys = sum_by (λ key. (board_counts configs key).fans) keys
 
+abbrev pub pids_of : List Config → List BoardKey → ℕ
+pids_of configs keys = sum_by (λ key. (board_counts configs key).pids) keys
+
+abbrev pub steps_of : List Config → List BoardKey → ℕ
+steps_of configs keys = sum_by (λ key. (board_counts configs key).steps) keys
+
 -- the totals of boards
 abbrev pub totals_of : List Config → List BoardKey → Totals
 totals_of configs keys = record {
@@ -43,11 +59,13 @@ totals_of configs keys = record {
   sensors = sensors_of configs keys;
   zones = zones_of configs keys;
   fans = fans_of configs keys;
+  pids = pids_of configs keys;
+  steps = steps_of configs keys;
 }
 
 -- the totals of no boards
 abbrev pub no_totals : Totals
-no_totals = record { boards = 0; sensors = 0; zones = 0; fans = 0 }
+no_totals = record { boards = 0; sensors = 0; zones = 0; fans = 0; pids = 0; steps = 0 }
 
 -- totals where some boards go and others come
 abbrev pub totals_after : List Config → Totals → List BoardKey → List BoardKey → Totals
@@ -56,6 +74,8 @@ totals_after configs totals gone new = record {
   sensors = totals.sensors - sensors_of configs gone + sensors_of configs new;
   zones = totals.zones - zones_of configs gone + zones_of configs new;
   fans = totals.fans - fans_of configs gone + fans_of configs new;
+  pids = totals.pids - pids_of configs gone + pids_of configs new;
+  steps = totals.steps - steps_of configs gone + steps_of configs new;
 }
 
 -- the first limit that totals pass
@@ -65,6 +85,8 @@ limit_of totals =
     else if nat_lt most_sensors totals.sensors then Some SensorLimit
     else if nat_lt most_zones totals.zones then Some ZoneLimit
     else if nat_lt most_fans totals.fans then Some FanLimit
+    else if nat_lt most_pids totals.pids then Some PidLimit
+    else if nat_lt most_steps totals.steps then Some StepLimit
     else None
 
 -- the first limit that these boards pass

@@ -1,4 +1,4 @@
--- The boards whose items hold names.
+-- The boards whose items may be live.
 use Rattle.std.specs.Prelude.{ℕ, ◌+◌, ◌==◌, Bool, not, List, filter, Option}
 use Rattle.bmc_base.specs.Places.{Place}
 use Rattle.fru_area.specs.declared.field.Field.{Field}
@@ -11,13 +11,13 @@ use Rattle.inventory.specs.Items.{items}
 use Rattle.inventory.specs.Limits.{board_counts}
 use Rattle.inventory.specs.Lists.{board_list}
 
--- whether there are exposes among these that are of a family
-abbrev pub has_families : Counts → Bool
-has_families counts = not (counts.sensors + counts.zones + counts.fans == 0)
+-- whether there are exposes among these that are of a family, or controllers
+abbrev pub has_naming : Counts → Bool
+has_naming counts = not (counts.sensors + counts.zones + counts.fans + counts.pids + counts.steps == 0)
 
 -- whether a board is naming: it has such exposes
 abbrev pub is_naming : List Config → BoardKey → Bool
-is_naming configs key = has_families (board_counts configs key)
+is_naming configs key = has_naming (board_counts configs key)
 
 -- the boards that are naming
 abbrev pub naming : List Config → List Board → List Board

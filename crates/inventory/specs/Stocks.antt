@@ -1,13 +1,15 @@
 -- What holds inside a stock.
-use Rattle.std.specs.Prelude.{◌+◌, ◌≤◌, ⊤, List, length, Option, Some, None, option_map}
+use Rattle.std.specs.Prelude.{◌+◌, ◌≤◌, ⊤, Bool, List, length, Option, Some, None, option_map}
 use Rattle.std.specs.Global.{Vec}
 use Rattle.std.specs.Vec.{vec_len, vec_capacity}
 use Rattle.indexmap.specs.IndexMap.{IndexMap, spare}
 use Rattle.cfg_json.specs.declared.item.ItemId.{ItemId}
 use Rattle.inventory.specs.Bearers.{ids_in, is_bearer, AreBorne, Lists}
 use Rattle.inventory.specs.Follows.{Stock}
+use Rattle.inventory.specs.Leads.{AreFirst}
 use Rattle.inventory.specs.Shown.{items_of, boards_after, AreShown}
-use Rattle.inventory.specs.declared.held.Held.{Held}
+use Rattle.inventory.specs.declared.tag.Tag.{Tag}
+use Rattle.inventory.specs.declared.tags.Notes.{Notes}
 use Rattle.inventory.specs.declared.shown.Shown.{Shown}
 use Rattle.inventory.specs.declared.stock.Staged.{Staged}
 
@@ -20,23 +22,28 @@ abbrev pub stock_of : Vec Shown → Option Staged → Stock
 stock_of boards staged =
     record { items = items_of boards.items; staged = option_map (λ (staged : Staged). items_of (boards_behind boards.items staged)) staged }
 
--- the ids that are kept for each name are those of its bearers
-abbrev pub AreKept : List (Held × List ItemId) → List Shown → Type 0
-AreKept names boards = (held : Held) → Lists (ids_in names held) (is_bearer (items_of boards) held)
+-- the ids that are kept for each tag are those of its bearers
+abbrev pub AreKept : List (Tag × List ItemId) → List Shown → Type 0
+AreKept tags boards = (tag : Tag) → Lists (ids_in tags tag) (is_bearer (items_of boards) tag)
+
+-- the ids that are noted for tags, so that those for each tag pass its test, and beside each noted tag the first id that is kept for it
+pub record AreNoted (notes : Notes) (tags : List (Tag × List ItemId)) (test : Tag → ItemId → Bool) : Type 0 where
+  pub borne : AreBorne notes.over.entries tags test
+  pub firsts : AreFirst notes tags
 
 -- there is room for what is staged, which leaves all as it should be
-pub record IsReady {S : Type 0} (boards : Vec Shown) (names : IndexMap Held (List ItemId) S) (staged : Staged) : Type 0 where
+pub record IsReady {S : Type 0} (boards : Vec Shown) (tags : IndexMap Tag (List ItemId) S) (staged : Staged) : Type 0 where
   pub room : vec_len boards + vec_len staged.new ≤ vec_capacity boards
-  pub room_names : length staged.names.entries ≤ spare names
+  pub room_tags : length staged.tags.entries ≤ spare tags
   pub shown : AreShown (boards_behind boards.items staged)
-  pub borne : AreBorne staged.names.entries names.entries (is_bearer (items_of (boards_behind boards.items staged)))
+  pub borne : AreBorne staged.tags.entries tags.entries (is_bearer (items_of (boards_behind boards.items staged)))
 
-abbrev pub IsReadyIf : {S : Type 0} → Vec Shown → IndexMap Held (List ItemId) S → Option Staged → Type 0
-IsReadyIf boards names None = ⊤
-IsReadyIf boards names (Some staged) = IsReady boards names staged
+abbrev pub IsReadyIf : {S : Type 0} → Vec Shown → IndexMap Tag (List ItemId) S → Option Staged → Type 0
+IsReadyIf boards tags None = ⊤
+IsReadyIf boards tags (Some staged) = IsReady boards tags staged
 
 -- what holds inside a stock
-pub record IsSound {S : Type 0} (boards : Vec Shown) (names : IndexMap Held (List ItemId) S) (staged : Option Staged) : Type 0 where
+pub record IsSound {S : Type 0} (boards : Vec Shown) (tags : IndexMap Tag (List ItemId) S) (staged : Option Staged) : Type 0 where
   pub shown : AreShown boards.items
-  pub kept : AreKept names.entries boards.items
-  pub ready : IsReadyIf boards names staged
+  pub kept : AreKept tags.entries boards.items
+  pub ready : IsReadyIf boards tags staged

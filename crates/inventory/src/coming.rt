@@ -15,12 +15,12 @@ use bmc_base::{Ledger, OutOfMemory};
 use cfg_json::{Config, Shelf};
 use std::alloc::Global;
 
-// Whether a board is naming: it has exposes that are of a family.
+// Whether a board is naming: it has exposes that are of a family, or controllers.
 fn is_naming<L: Ledger>(shelf: &Shelf<L>, plus: Option<&Config<L>>, key: &BoardKey) -> bool
     ensures { result ≡ is_naming (shelf.now ++ option_to_list (option_map (λ config. config.now) plus.entry)) key.now }
 {
     let counts = counts_at(shelf, plus, key);
-    counts.sensors > 0 || counts.zones > 0 || counts.fans > 0
+    counts.sensors > 0 || counts.zones > 0 || counts.fans > 0 || counts.pids > 0 || counts.steps > 0
 }
 
 // Returns the last index that was given to a board of a configuration, where this is the last of the one with this number.

@@ -15,4 +15,10 @@ pub enum InventoryFault {
     /// The boards would have more than 128 exposes that are fans, whether they are rendered or not.
     #[error("too many fans")]
     FanLimit,
+    /// The boards would have more than 128 exposes that are PID controllers, whether they are rendered or not.
+    #[error("too many PID controllers")]
+    PidLimit,
+    /// The boards would have more than 64 exposes that are stepwise controllers, whether they are rendered or not.
+    #[error("too many stepwise controllers")]
+    StepLimit,
 }

@@ -1,10 +1,12 @@
 ghost use Rattle.std.specs.Prelude.{◌≡◌, ◌==◌, ◌+◌, ◌<◌, ◌≤◌, ◌++◌, [], Bool, if◌then◌else◌, None, length, option_to_list, slice_get, vec_len};
-ghost use Rattle.std.specs.Prelude.{vec_capacity, IfOk, OnOk};
-ghost use Rattle.std.specs.List.{prefix_len};
+ghost use Rattle.std.specs.Prelude.{not, ◌&&◌, vec_capacity, IfOk, OnOk};
+ghost use Rattle.std.specs.List.{list_any, prefix_len};
 ghost use Rattle.std.specs.List.Sorted.{IsStrictlySortedBy};
 ghost use Rattle.std.specs.Ordering.{is_lt};
 ghost use Rattle.cfg_json.specs.declared.item.ItemId.{ItemId};
-ghost use Rattle.inventory.specs.Bearers.{but_id, is_id, or_id, Lists};
+ghost use Rattle.inventory.specs.Bearers.{but_id, ids_or_none, is_id, or_id, Lists};
+ghost use Rattle.inventory.specs.Items.{id_eq};
+ghost use Rattle.inventory.specs.Leads.{ListsMore};
 ghost use Rattle.inventory.specs.Orders.{id_cmp};
 
 use bmc_base::OutOfMemory;
@@ -52,6 +54,16 @@ fn is_at(ids: &[ItemId], number: usize, id: &ItemId) -> bool
     ensures { result ≡ is_id id.now (slice_get ids.now number) }
 {
     number < ids.len() && *id == ids[number]
+}
+
+/// Whether an id is the other, if there is one.
+pub(crate) fn is_same(id: &ItemId, other: Option<ItemId>) -> bool
+    ensures { result ≡ is_id id.now other }
+{
+    match other {
+        Some(other) => *id == other,
+        None => false,
+    }
 }
 
 /// Puts an id among others, if it is not there. There is room for it.
@@ -114,6 +126,47 @@ fn other_than(first: Option<ItemId>, id: &ItemId) -> Option<ItemId>
     if first == Some(*id) { None } else { first }
 }
 
+// Puts an id in a list, if there is one and others, which ascend, do not have it.
+fn list_unless(
+    list: &mut Vec<ItemId>,
+    id: Option<ItemId>,
+    others: Option<&Ids>,
+) -> Result<(), OutOfMemory>
+    ensures { IsStrictlySortedBy id_cmp (ids_or_none others.entry) → OnOk result (ListsMore list.old.items list.new.items
+        (λ each. is_id each id && not (list_any (id_eq each) (ids_or_none others.entry)))) }
+{
+    let Some(id) = id else {
+        return Ok(());
+    };
+    if has_id(others, &id) {
+        return Ok(());
+    }
+    list.reserve(1)?;
+    add_id(list, id);
+    Ok(())
+}
+
+// Puts ids in a list, those that others, which ascend, do not have.
+fn list_all(list: &mut Vec<ItemId>, ids: &[ItemId], others: Option<&Ids>) -> Result<(), OutOfMemory>
+    ensures { IsStrictlySortedBy id_cmp (ids_or_none others.entry) → OnOk result (ListsMore list.old.items list.new.items
+        (λ each. list_any (id_eq each) ids.now && not (list_any (id_eq each) (ids_or_none others.entry)))) }
+{
+    for id in ids {
+        list_unless(list, Some(*id), others)?;
+    }
+    Ok(())
+}
+
+// Whether an id is among these, which ascend, if there are some.
+fn has_id(ids: Option<&Ids>, id: &ItemId) -> bool
+    ensures { IsStrictlySortedBy id_cmp (ids_or_none ids.entry) → result ≡ list_any (id_eq id.now) (ids_or_none ids.entry) }
+{
+    match ids {
+        Some(ids) => ids.has(id),
+        None => false,
+    }
+}
+
 impl Ids {
     /// Returns no ids, which takes no memory.
     pub(crate) fn none(alloc: Global) -> Ids
@@ -154,6 +207,16 @@ impl Ids {
         }
     }
 
+    /// Whether an id is among these, which ascend.
+    pub(crate) fn has(&self, id: &ItemId) -> bool
+        ensures { IsStrictlySortedBy id_cmp self.now → result ≡ list_any (id_eq id.now) self.now }
+    {
+        if is_same(id, self.first) {
+            return true;
+        }
+        is_at(&self.rest, count_before(&self.rest, id), id)
+    }
+
     /// Puts an id among the others, if it is not there.
     pub(crate) fn add(&mut self, id: ItemId) -> Result<(), OutOfMemory>
         ensures { (test : ItemId → Bool) → Lists self.old test → OnOk result (Lists self.new (or_id test id)) }
@@ -174,5 +237,18 @@ impl Ids {
     {
         self.first = other_than(self.first, id);
         remove_id(&mut self.rest, id);
+    }
+    /// Puts those of these ids in a list that others, which ascend, do not have.
+    pub(crate) fn list_less(
+        &self,
+        others: Option<&Ids>,
+        list: &mut Vec<ItemId>,
+    ) -> Result<(), OutOfMemory>
+        ensures { IsStrictlySortedBy id_cmp (ids_or_none others.entry) → OnOk result (ListsMore list.old.items list.new.items
+            (λ each. list_any (id_eq each) self.now && not (list_any (id_eq each) (ids_or_none others.entry)))) }
+    {
+        list_unless(list, self.first, others)?;
+        list_all(list, &self.rest, others)?;
+        Ok(())
     }
 }

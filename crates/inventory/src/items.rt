@@ -3,14 +3,15 @@ ghost use Rattle.std.specs.List.{All};
 ghost use Rattle.bmc_base.specs.Places.{last_bus};
 ghost use Rattle.tmpl.specs.Rendering.{fields_of, rendered_number};
 ghost use Rattle.cfg_json.specs.Configs.{IsValidExpose};
-ghost use Rattle.inventory.specs.Items.{number_at, sensor_at, part_of};
+ghost use Rattle.inventory.specs.Items.{control_at, mux_at, names_at, number_at, part_of, sensor_at};
 ghost use Rattle.inventory.specs.Items.{board_fields, entry_fields, exposes_of, items, rendered_item, rendered_items};
 
 use crate::configs::config_at;
 use crate::{Board, Moment};
 use bmc_base::{Bytes, Ledger, OutOfMemory};
 use cfg_json::{
-    Body, Config, Expose, Item, ItemId, ItemPart, MuxItem, MuxPart, SensorItem, SensorPart, Shelf,
+    Body, Boxed, Config, ControlItem, ControlPart, Expose, Item, ItemId, ItemPart, MuxItem,
+    MuxPart, Names, SensorItem, SensorPart, Shelf,
 };
 use fru_record::FruRecord;
 use std::alloc::Global;
@@ -50,9 +51,7 @@ fn render_buses(
 
 // Renders a multiplexer at a spot.
 fn render_mux(alloc: Global, part: &MuxPart, spot: &Spot<'_>) -> Result<MuxItem, OutOfMemory>
-    ensures fixed { IfOk result (λ mux. mux.fixed ≡ part.now.fixed) }
-    ensures moving { IfOk result (λ mux. mux.moving ≡ filter_map
-        (λ template. rendered_number spot.now.place (fields_of spot.now.fru) spot.now.index template last_bus) part.now.moving) }
+    ensures { IfOk result (λ mux. mux ≡ mux_at spot.now.place (fields_of spot.now.fru) spot.now.index part.now) }
 {
     Ok(MuxItem {
         fixed: Bytes::copy(alloc, part.fixed.as_slice())?,
@@ -71,21 +70,74 @@ fn render_sensor(part: &SensorPart, spot: &Spot<'_>) -> SensorItem
     }
 }
 
-// Renders the body of an expose at a spot.
-fn render_part(alloc: Global, body: &Body, spot: &Spot<'_>) -> Result<ItemPart, OutOfMemory>
+// Renders names at a spot. There are none where one of them has no rendering.
+fn render_names(
+    alloc: Global,
+    templates: &[Template],
+    spot: &Spot<'_>,
+) -> Result<Option<Names>, OutOfMemory>
+    ensures { IfOk result (λ names. names ≡ names_at spot.now.place (fields_of spot.now.fru) spot.now.index templates.now) }
+{
+    let mut names = Names::new(alloc);
+    for template in templates {
+        let Rendered::Given(name) = template.render(spot) else {
+            return Ok(None);
+        };
+        names.push(alloc, name)?;
+    }
+    Ok(Some(names))
+}
+
+// Renders a controller at a spot. There is none where one of its names has no rendering.
+fn render_control(
+    alloc: Global,
+    part: &ControlPart,
+    spot: &Spot<'_>,
+) -> Result<Option<ControlItem>, OutOfMemory>
+    ensures { IfOk result (λ control. control ≡ control_at spot.now.place (fields_of spot.now.fru) spot.now.index part.now) }
+{
+    let Rendered::Given(zone) = part.zone.render(spot) else {
+        return Ok(None);
+    };
+    let Some(inputs) = render_names(alloc, part.inputs.as_slice(), spot)? else {
+        return Ok(None);
+    };
+    let Some(outputs) = render_names(alloc, part.outputs.as_slice(), spot)? else {
+        return Ok(None);
+    };
+    Ok(Some(ControlItem {
+        setting: part.setting,
+        zone,
+        inputs,
+        outputs,
+    }))
+}
+
+// Renders the body of an expose at a spot. There is nothing where a name that it asks for has no rendering.
+fn render_part(alloc: Global, body: &Body, spot: &Spot<'_>) -> Result<Option<ItemPart>, OutOfMemory>
     ensures { IfOk result (λ part. part ≡ part_of spot.now.place (fields_of spot.now.fru) spot.now.index body.now) }
 {
     match body {
-        Body::Sensor(part) => Ok(ItemPart::Sensor(render_sensor(part, spot))),
-        Body::Fan => Ok(ItemPart::Fan),
-        Body::Zone(setting) => Ok(ItemPart::Zone(*setting)),
-        Body::Mux(part) => Ok(ItemPart::Mux(render_mux(alloc, part, spot)?)),
-        Body::Passive => Ok(ItemPart::Passive),
+        Body::Sensor(part) => {
+            let sensor = Boxed::new(alloc, render_sensor(part, spot))?;
+            Ok(Some(ItemPart::Sensor(sensor)))
+        }
+        Body::Fan => Ok(Some(ItemPart::Fan)),
+        Body::Zone(setting) => Ok(Some(ItemPart::Zone(*setting))),
+        Body::Control(part) => match render_control(alloc, part, spot)? {
+            Some(control) => Ok(Some(ItemPart::Control(Boxed::new(alloc, control)?))),
+            None => Ok(None),
+        },
+        Body::Mux(part) => {
+            let mux = Boxed::new(alloc, render_mux(alloc, part, spot)?)?;
+            Ok(Some(ItemPart::Mux(mux)))
+        }
+        Body::Passive => Ok(Some(ItemPart::Passive)),
     }
 }
 
 // Renders an expose, with its position among those of its configuration, at a board with this record. There is no item
-// where its name has no rendering.
+// where its name, or a name that it asks for, has no rendering.
 fn render_item(
     alloc: Global,
     board: &Board,
@@ -103,7 +155,9 @@ fn render_item(
     let Rendered::Given(name) = expose.name.render(&spot) else {
         return Ok(None);
     };
-    let part = render_part(alloc, &expose.body, &spot)?;
+    let Some(part) = render_part(alloc, &expose.body, &spot)? else {
+        return Ok(None);
+    };
     let id = ItemId {
         config: board.key.config,
         place: board.key.place,
@@ -160,9 +214,9 @@ pub(crate) fn record_at<'m>(moment: &'m Moment<'_>, board: &Board) -> Option<&'m
     moment.fru(board.key.place?)
 }
 
-/// Lists the items of boards at a moment, by board and then in the order of the exposes: each expose whose name has a
-/// rendering at the board. The shelf has the configurations; one more may be accepted now, with their count for its
-/// number. A board of any other configuration has no items.
+/// Lists the items of boards at a moment, by board and then in the order of the exposes: each expose of which the name,
+/// and every name that it asks for, has a rendering at the board. The shelf has the configurations; one more may be
+/// accepted now, with their count for its number. A board of any other configuration has no items.
 pub fn list_items<L: Ledger>(
     alloc: Global,
     shelf: &Shelf<L>,

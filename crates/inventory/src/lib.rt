@@ -10,7 +10,6 @@ mod compare;
 mod configs;
 mod family;
 mod fault;
-mod held;
 mod hits;
 mod ids;
 mod index_keep;
@@ -24,9 +23,10 @@ mod listing;
 mod live_tests;
 mod lone;
 mod moment;
-mod names;
 mod shown;
 mod stock;
+mod tag;
+mod tags;
 #[cfg(test)]
 mod tests;
 

@@ -4,7 +4,9 @@ ghost use Rattle.inventory.specs.Limits.{
   fans_of,
   limit_of,
   no_totals,
+  pids_of,
   sensors_of,
+  steps_of,
   totals_after,
   totals_of,
   zones_of,
@@ -16,7 +18,7 @@ use crate::{Board, BoardKey, Difference, InventoryFault};
 use bmc_base::Ledger;
 use cfg_json::{Config, Counts, Shelf};
 
-// The most boards, and the most exposes of boards that are sensors, that are zones and that are fans.
+// The most boards, and the most exposes of boards of each kind.
 const MOST_BOARDS: usize = 1024;
 
 const MOST_SENSORS: usize = 4096;
@@ -24,6 +26,10 @@ const MOST_SENSORS: usize = 4096;
 const MOST_ZONES: usize = 32;
 
 const MOST_FANS: usize = 128;
+
+const MOST_PIDS: usize = 128;
+
+const MOST_STEPS: usize = 64;
 
 /// How many boards there are, and how many of their exposes are of each kind, whether they are rendered or not.
 #[derive(Clone, Copy, Debug, PartialEq, Eq)]
@@ -36,6 +42,10 @@ pub struct Totals {
     pub zones: usize,
     /// The fans, at most 128.
     pub fans: usize,
+    /// The PID controllers, at most 128.
+    pub pids: usize,
+    /// The stepwise controllers, at most 64.
+    pub steps: usize,
 }
 
 // The counts of no exposes.
@@ -43,6 +53,8 @@ const NO_COUNTS: Counts = Counts {
     sensors: 0,
     zones: 0,
     fans: 0,
+    pids: 0,
+    steps: 0,
 };
 
 // Counts the exposes of a board; there are none where no configuration has its number.
@@ -64,11 +76,15 @@ fn add_counts(sums: Counts, counts: Counts) -> Counts
     ensures sensors { result.sensors ≡ min (sums.sensors + counts.sensors) usize.MAX }
     ensures zones { result.zones ≡ min (sums.zones + counts.zones) usize.MAX }
     ensures fans { result.fans ≡ min (sums.fans + counts.fans) usize.MAX }
+    ensures pids { result.pids ≡ min (sums.pids + counts.pids) usize.MAX }
+    ensures steps { result.steps ≡ min (sums.steps + counts.steps) usize.MAX }
 {
     Counts {
         sensors: sums.sensors.saturating_add(counts.sensors),
         zones: sums.zones.saturating_add(counts.zones),
         fans: sums.fans.saturating_add(counts.fans),
+        pids: sums.pids.saturating_add(counts.pids),
+        steps: sums.steps.saturating_add(counts.steps),
     }
 }
 
@@ -77,6 +93,8 @@ fn sum_counts<L: Ledger>(shelf: &Shelf<L>, plus: Option<&Config<L>>, keys: &[Boa
     ensures sensors { result.sensors ≡ min (sensors_of (shelf.now ++ option_to_list (option_map (λ config. config.now) plus.entry)) keys.now) usize.MAX }
     ensures zones { result.zones ≡ min (zones_of (shelf.now ++ option_to_list (option_map (λ config. config.now) plus.entry)) keys.now) usize.MAX }
     ensures fans { result.fans ≡ min (fans_of (shelf.now ++ option_to_list (option_map (λ config. config.now) plus.entry)) keys.now) usize.MAX }
+    ensures pids { result.pids ≡ min (pids_of (shelf.now ++ option_to_list (option_map (λ config. config.now) plus.entry)) keys.now) usize.MAX }
+    ensures steps { result.steps ≡ min (steps_of (shelf.now ++ option_to_list (option_map (λ config. config.now) plus.entry)) keys.now) usize.MAX }
 {
     let mut sums = NO_COUNTS;
     for key in keys {
@@ -102,6 +120,8 @@ impl Totals {
             sensors: 0,
             zones: 0,
             fans: 0,
+            pids: 0,
+            steps: 0,
         }
     }
 
@@ -117,6 +137,10 @@ impl Totals {
             Some(InventoryFault::ZoneLimit)
         } else if self.fans > MOST_FANS {
             Some(InventoryFault::FanLimit)
+        } else if self.pids > MOST_PIDS {
+            Some(InventoryFault::PidLimit)
+        } else if self.steps > MOST_STEPS {
+            Some(InventoryFault::StepLimit)
         } else {
             None
         }
@@ -153,6 +177,8 @@ impl Totals {
             sensors: replaced(self.sensors, gone.sensors, new.sensors),
             zones: replaced(self.zones, gone.zones, new.zones),
             fans: replaced(self.fans, gone.fans, new.fans),
+            pids: replaced(self.pids, gone.pids, new.pids),
+            steps: replaced(self.steps, gone.steps, new.steps),
         };
         totals.checked()
     }

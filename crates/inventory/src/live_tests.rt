@@ -1,23 +1,27 @@
-use crate::held::Held;
-use crate::names::{Names, first_of, keep_noted};
 use crate::stock::{compare, note_change};
-use crate::{BoardKey, Family, Shown};
+use crate::tag::{Role, Tag};
+use crate::tags::{Tags, first_of, keep_noted};
+use crate::tests::IDLE;
+use crate::{BoardKey, Shown};
 use bmc_base::{Milli, Name, Place};
-use cfg_json::{Item, ItemId, ItemPart, SensorItem, ZoneSetting};
+use cfg_json::{Boxed, ControlItem, Item, ItemId, ItemPart, Names, SensorItem, ZoneSetting};
 use indexmap::IndexMap;
 use sensor_core::{Limit, SensorSetting};
 use std::alloc::Global;
 use std::process::Abort;
 use std::test::Fail;
 
-// An item: its configuration, its bus, the position of its expose, its name, and its family, if it is of one.
-type Row<'r> = (u32, u32, u32, &'r str, Option<Family>);
+// An item: its configuration, its bus, the position of its expose, its name, and as what it is noted, if it is.
+type Row<'r> = (u32, u32, u32, &'r str, Option<Role>);
 
-const SENSOR: Option<Family> = Some(Family::Sensor);
+const SENSOR: Option<Role> = Some(Role::Sensor);
 
-const ZONE: Option<Family> = Some(Family::Zone);
+const ZONE: Option<Role> = Some(Role::Zone);
 
-const FAN: Option<Family> = Some(Family::Fan);
+const FAN: Option<Role> = Some(Role::Fan);
+
+// A controller, which is in zone 1.
+const MEMBER: Option<Role> = Some(Role::Member);
 
 const UNUSED: Limit = Limit {
     above: false,
@@ -49,15 +53,26 @@ fn id(row: Row<'_>) -> ItemId {
     }
 }
 
-fn item(row: Row<'_>) -> Result<Item, Fail> {
-    let (_, _, _, name, family) = row;
-    let part = match family {
-        Some(Family::Sensor) => ItemPart::Sensor(PLAIN),
-        Some(Family::Zone) => ItemPart::Zone(ZoneSetting {
+// A controller in zone 1.
+fn control(alloc: Global) -> Result<ControlItem, Fail> {
+    Ok(ControlItem {
+        setting: IDLE,
+        zone: Name::new("Zone 1")?,
+        inputs: Names::new(alloc),
+        outputs: Names::new(alloc),
+    })
+}
+
+fn item(alloc: Global, row: Row<'_>) -> Result<Item, Fail> {
+    let (_, _, _, name, role) = row;
+    let part = match role {
+        Some(Role::Sensor) => ItemPart::Sensor(Boxed::new(alloc, PLAIN)?),
+        Some(Role::Zone) => ItemPart::Zone(ZoneSetting {
             min_thermal: Milli(0),
             failsafe: Milli(100_000),
         }),
-        Some(Family::Fan) => ItemPart::Fan,
+        Some(Role::Fan) => ItemPart::Fan,
+        Some(Role::Member) => ItemPart::Control(Boxed::new(alloc, control(alloc)?)?),
         None => ItemPart::Passive,
     };
     Ok(Item {
@@ -75,10 +90,10 @@ fn boards(alloc: Global, rows: &[Row<'_>]) -> Result<Vec<Shown>, Fail> {
         let key = BoardKey { config, place };
         let count = boards.len();
         if count > 0 && boards[count - 1].key == key {
-            boards[count - 1].items.push(item(*row)?)?;
+            boards[count - 1].items.push(item(alloc, *row)?)?;
         } else {
             let mut items = Vec::new(alloc);
-            items.push(item(*row)?)?;
+            items.push(item(alloc, *row)?)?;
             boards.push(Shown { key, items })?;
         }
     }
@@ -94,13 +109,13 @@ fn keys(alloc: Global, boards: &[Shown]) -> Result<Vec<BoardKey>, Fail> {
     Ok(keys)
 }
 
-// The names that the items of boards bear.
-fn names(alloc: Global, boards: &[Shown]) -> Result<Names, Fail> {
-    Ok(note_change(alloc, &IndexMap::new(alloc), &[], &[], boards)?)
+// The ids of the items of boards, by what they are noted under.
+fn tags(alloc: Global, boards: &[Shown]) -> Result<Tags, Fail> {
+    Ok(note_change(alloc, &IndexMap::new(alloc), &[], &[], boards)?.over)
 }
 
-// Names that occur twice: in one family, in several, and at an item of no family.
-const ROWS: [Row<'static>; 7] = [
+// Names that occur twice: in one family, in several, and at an item of no family. Two controllers are in zone 1.
+const ROWS: [Row<'static>; 9] = [
     (0, 1, 0, "Fan 1", FAN),
     (0, 1, 1, "Zone 1", ZONE),
     (0, 2, 0, "Fan 1", FAN),
@@ -108,38 +123,35 @@ const ROWS: [Row<'static>; 7] = [
     (1, 1, 1, "Fan 1", None),
     (1, 2, 0, "Fan 2", FAN),
     (1, 2, 1, "Fan 2", SENSOR),
+    (2, 1, 0, "Fan 1", MEMBER),
+    (2, 2, 0, "Fan 1", MEMBER),
 ];
 
-// The names are held by the rows at these positions.
-fn assert_held(
+// These are noted first, by what they are noted under: the rows at these positions.
+fn assert_first(
     rt: &impl Abort,
-    names: &Names,
-    held: &[(Family, &str, Option<usize>)],
+    tags: &Tags,
+    first: &[(Role, &str, Option<usize>)],
 ) -> Result<(), Fail> {
-    for (family, name, position) in held {
-        let held = Held {
-            family: *family,
+    for (role, name, position) in first {
+        let tag = Tag {
+            role: *role,
             name: Name::new(name)?,
         };
         let row = match position {
             Some(position) => ROWS.get(*position),
             None => None,
         };
-        assert_eq!(rt; first_of(names, &held), row.map(|row| id(*row)));
+        assert_eq!(rt; first_of(tags, &tag), row.map(|row| id(*row)));
     }
     Ok(())
 }
 
 // Takes these boards out.
-fn forget(
-    alloc: Global,
-    names: &mut Names,
-    boards: &[Shown],
-    gone: &[BoardKey],
-) -> Result<(), Fail> {
-    let over = note_change(alloc, names, boards, gone, &[])?;
-    names.reserve(over.len())?;
-    keep_noted(names, over);
+fn forget(alloc: Global, tags: &mut Tags, boards: &[Shown], gone: &[BoardKey]) -> Result<(), Fail> {
+    let notes = note_change(alloc, tags, boards, gone, &[])?;
+    tags.reserve(notes.over.len())?;
+    keep_noted(tags, notes.over);
     Ok(())
 }
 
@@ -147,27 +159,31 @@ fn forget(
 fn the_first_bearer_holds_its_name(rt: HostRuntime) -> Result<(), Fail> {
     let alloc = rt.alloc();
     let all = boards(alloc, &ROWS)?;
-    let mut names = names(alloc, &all)?;
-    let held = [
-        (Family::Fan, "Fan 1", Some(0)),
-        (Family::Zone, "Fan 1", None),
-        (Family::Zone, "Zone 1", Some(1)),
-        (Family::Fan, "Zone 1", Some(3)),
-        (Family::Fan, "Fan 2", Some(5)),
-        (Family::Fan, "Fan 3", None),
-        (Family::Sensor, "Fan 2", Some(6)),
-        (Family::Sensor, "Fan 1", None),
+    let mut tags = tags(alloc, &all)?;
+    let first = [
+        (Role::Fan, "Fan 1", Some(0)),
+        (Role::Zone, "Fan 1", None),
+        (Role::Zone, "Zone 1", Some(1)),
+        (Role::Fan, "Zone 1", Some(3)),
+        (Role::Fan, "Fan 2", Some(5)),
+        (Role::Fan, "Fan 3", None),
+        (Role::Sensor, "Fan 2", Some(6)),
+        (Role::Sensor, "Fan 1", None),
+        // a controller is noted by its zone, and not by its name
+        (Role::Member, "Zone 1", Some(7)),
+        (Role::Member, "Fan 1", None),
     ];
-    assert_held(&rt, &names, &held)?;
+    assert_first(&rt, &tags, &first)?;
     // the board of the first holder goes, and the next item has the name
     let gone = keys(alloc, &boards(alloc, &ROWS[..2])?)?;
-    forget(alloc, &mut names, &all, &gone)?;
-    let held = [
-        (Family::Fan, "Fan 1", Some(2)),
-        (Family::Zone, "Zone 1", None),
-        (Family::Fan, "Zone 1", Some(3)),
+    forget(alloc, &mut tags, &all, &gone)?;
+    let first = [
+        (Role::Fan, "Fan 1", Some(2)),
+        (Role::Zone, "Zone 1", None),
+        (Role::Fan, "Zone 1", Some(3)),
+        (Role::Member, "Zone 1", Some(7)),
     ];
-    assert_held(&rt, &names, &held)
+    assert_first(&rt, &tags, &first)
 }
 
 // The items are those of these rows.
@@ -191,11 +207,22 @@ fn assert_change(
 ) -> Result<(), Fail> {
     let here = boards(alloc, before)?;
     let there = boards(alloc, after)?;
-    let names = names(alloc, &here)?;
-    let over = note_change(alloc, &names, &here, &keys(alloc, &here)?, &there)?;
-    let told = compare(alloc, &names, &over, &here, &there)?;
+    let tags = tags(alloc, &here)?;
+    let notes = note_change(alloc, &tags, &here, &keys(alloc, &here)?, &there)?;
+    let told = compare(alloc, &tags, &notes, &here, &there)?;
     assert_rows(rt, told.gone.as_slice(), gone)?;
     assert_rows(rt, told.new.as_slice(), new)
+}
+
+// The rows at these positions.
+fn rows_at(alloc: Global, positions: &[usize]) -> Result<Vec<Row<'static>>, Fail> {
+    let mut rows = Vec::new(alloc);
+    for position in positions {
+        if let Some(row) = ROWS.get(*position) {
+            rows.push(*row)?;
+        }
+    }
+    Ok(rows)
 }
 
 #[test]
@@ -203,7 +230,7 @@ fn live_items_go_and_come(rt: HostRuntime) -> Result<(), Fail> {
     // what is before and after, and of what is live what goes and what comes
     let rows = [
         (&ROWS[..], &ROWS[..], &[][..], &[][..]),
-        (&[], &ROWS[2..], &[], &[ROWS[2], ROWS[3], ROWS[5], ROWS[6]]),
+        (&[], &ROWS[2..7], &[], &[ROWS[2], ROWS[3], ROWS[5], ROWS[6]]),
         // a name goes with its holder, and comes with the next item
         (&ROWS, &ROWS[1..], &[ROWS[0]], &[ROWS[2]]),
         // an item that holds no name goes
@@ -213,6 +240,28 @@ fn live_items_go_and_come(rt: HostRuntime) -> Result<(), Fail> {
     for (before, after, gone, new) in rows {
         assert_change(&rt, rt.alloc(), before, after, gone, new)?;
         assert_change(&rt, rt.alloc(), after, before, new, gone)?;
+    }
+    Ok(())
+}
+
+#[test]
+fn controllers_are_live_where_their_zone_is_held(rt: HostRuntime) -> Result<(), Fail> {
+    // what is before and after, and of what is live what goes and what comes
+    let rows = [
+        // their zone comes
+        (&ROWS[7..], &ROWS[1..], &[][..], &[1, 2, 3, 5, 6, 7, 8][..]),
+        // no zone has this name
+        (&ROWS[..0], &ROWS[3..], &[], &[3, 5, 6]),
+        // their zone goes, and they with it
+        (&ROWS[1..], &ROWS[2..], &[1, 7, 8], &[]),
+        // one goes, and its zone stays
+        (&ROWS[1..], &ROWS[1..8], &[8], &[]),
+    ];
+    for (before, after, gone, new) in rows {
+        let gone = rows_at(rt.alloc(), gone)?;
+        let new = rows_at(rt.alloc(), new)?;
+        assert_change(&rt, rt.alloc(), before, after, &gone, &new)?;
+        assert_change(&rt, rt.alloc(), after, before, &new, &gone)?;
     }
     Ok(())
 }

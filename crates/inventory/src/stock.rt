@@ -5,39 +5,42 @@ ghost use Rattle.std.specs.Option.{option_or};
 ghost use Rattle.indexmap.specs.IndexMap.{keys};
 ghost use Rattle.cfg_json.specs.declared.item.Item.{Item};
 ghost use Rattle.cfg_json.specs.declared.item.ItemId.{ItemId};
-ghost use Rattle.inventory.specs.Bearers.{ids_in, ids_over, is_bearer, leads, AreBorne, Lists};
+ghost use Rattle.inventory.specs.Bearers.{ids_in, ids_over, is_bearer, leads, touched, AreBorne, Lists};
 ghost use Rattle.inventory.specs.Follows.{item_of, kept_with, on, AreKeysAscending, Follows};
-ghost use Rattle.inventory.specs.Items.{entry_fields, holder, is_live, items_less, live, IsValidItem};
+ghost use Rattle.inventory.specs.Items.{entry_fields, holder, is_item, is_live, items_less, live, IsValidItem};
+ghost use Rattle.inventory.specs.Leads.{AreInOrder};
 ghost use Rattle.inventory.specs.Naming.{naming_items};
 ghost use Rattle.inventory.specs.Shown.{items_of, AreShown};
-ghost use Rattle.inventory.specs.declared.held.Held.{Held};
+ghost use Rattle.inventory.specs.Stocks.{AreNoted};
+ghost use Rattle.inventory.specs.declared.tag.Tag.{Tag};
 
 use crate::coming::show_coming;
-use crate::held::{Held, family_of};
 use crate::leads::{copy_items, find_leads};
-use crate::names::{Names, first_of, forget_boards, keep_noted, note_boards};
 use crate::shown::{Shown, insert_boards, item_at, remove_boards};
+use crate::tag::name_tag;
+use crate::tags::{Notes, Tags, first_of, forget_boards, keep_noted, note_boards};
 use crate::{BoardKey, Difference, Family, IndexKeep, ItemList, Moment};
 use bmc_base::{Ledger, Name, OutOfMemory};
-use cfg_json::{Config, Item, Shelf};
+use cfg_json::{Config, Item, ItemPart, Shelf};
 use indexmap::IndexMap;
 use std::alloc::Global;
 use std::marker::Model;
 
-// What is staged: the boards that go, those that come, and for each name that their items bear the ids of its bearers then.
+// What is staged: the boards that go, those that come, and for each tag of their items the ids that are kept for it then.
 #[derive(Drop)]
 struct Staged {
     gone: Vec<BoardKey>,
     new: Vec<Shown>,
-    names: Names,
+    tags: Tags,
 }
 
 /// What the naming boards of one moment expose, and which of it is live. Boards that go and come are staged, so that taking
-/// them over takes no memory. What either takes follows the items of these boards, and those that bear their names.
+/// them over takes no memory. What either takes follows the items of these boards, those that
+/// bear their names, and the controllers in the zones whose names become held or free or that these boards have controllers in.
 #[derive(Drop)]
 pub struct Stock {
     boards: Vec<Shown>,
-    names: Names,
+    tags: Tags,
     staged: Option<Staged>,
 }
 
@@ -49,7 +52,7 @@ impl Model for Stock {
 
     ghost view = { λ s. stock_of s.boards s.staged };
 
-    ghost invariant = { λ s. IsSound s.boards s.names s.staged };
+    ghost invariant = { λ s. IsSound s.boards s.tags s.staged };
 }
 
 /// The live items that go and those that come, by board and expose.
@@ -70,42 +73,45 @@ fn copy_keys(alloc: Global, keys: &[BoardKey]) -> Result<Vec<BoardKey>, OutOfMem
     Ok(copy)
 }
 
-/// Notes the bearers of the names where the boards with these keys go and others come.
+/// Notes the ids for the tags of the items where the boards with these keys go and others come.
 pub(crate) fn note_change(
     alloc: Global,
-    names: &Names,
+    tags: &Tags,
     boards: &[Shown],
     gone: &[BoardKey],
     new: &[Shown],
-) -> Result<Names, OutOfMemory>
-    ensures { AreShown boards.now → (test : Held → ItemId → Bool) → AreBorne [] names.now.entries test
-        → IfOk result (λ over. AreBorne over.entries names.now.entries
-        (λ held id. (test held id && not (is_bearer (on gone.now (items_of boards.now)) held id)) || is_bearer (items_of new.now) held id)) }
+) -> Result<Notes, OutOfMemory>
+    ensures { AreShown boards.now → (test : Tag → ItemId → Bool) → AreBorne [] tags.now.entries test
+        → IfOk result (λ notes. AreNoted notes tags.now.entries
+        (λ tag id. (test tag id && not (is_bearer (on gone.now (items_of boards.now)) tag id)) || is_bearer (items_of new.now) tag id)) }
 {
-    let mut over = IndexMap::new(alloc);
-    forget_boards(alloc, &mut over, names, boards, gone)?;
-    note_boards(alloc, &mut over, names, new)?;
-    Ok(over)
+    let mut notes = Notes {
+        over: IndexMap::new(alloc),
+        firsts: Vec::new(alloc),
+    };
+    forget_boards(alloc, &mut notes, tags, boards, gone)?;
+    note_boards(alloc, &mut notes, tags, new)?;
+    Ok(notes)
 }
 
-/// Lists the live items that go and those that come, where others take the place of the ids for some names.
+/// Lists the live items that go and those that come, where others take the place of the ids for some tags.
 pub(crate) fn compare(
     alloc: Global,
-    names: &Names,
-    over: &Names,
+    tags: &Tags,
+    notes: &Notes,
     boards: &[Shown],
     new: &[Shown],
 ) -> Result<ItemDifference, OutOfMemory>
-    ensures gone { AreShown boards.now → AreShown new.now → (ids : List ItemId)
-        → Lists ids (leads (ids_in names.now.entries) (ids_over over.now.entries names.now.entries) (keys over.now))
+    ensures gone { AreShown boards.now → AreShown new.now → AreInOrder notes.now tags.now.entries → (ids : List ItemId)
+        → Lists ids (leads (ids_in tags.now.entries) (ids_over notes.now.over.entries tags.now.entries) (touched (keys notes.now.over)))
         → IfOk result (λ difference. difference.gone
         ≡ filter_map (λ id. option_or (item_of (items_of boards.now) id) (item_of (items_of new.now) id)) ids) }
-    ensures new { AreShown boards.now → AreShown new.now → (ids : List ItemId)
-        → Lists ids (leads (ids_over over.now.entries names.now.entries) (ids_in names.now.entries) (keys over.now))
+    ensures new { AreShown boards.now → AreShown new.now → AreInOrder notes.now tags.now.entries → (ids : List ItemId)
+        → Lists ids (leads (ids_over notes.now.over.entries tags.now.entries) (ids_in tags.now.entries) (touched (keys notes.now.over)))
         → IfOk result (λ difference. difference.new
         ≡ filter_map (λ id. option_or (item_of (items_of new.now) id) (item_of (items_of boards.now) id)) ids) }
 {
-    let leads = find_leads(alloc, over, names)?;
+    let leads = find_leads(alloc, notes, tags)?;
     Ok(ItemDifference {
         gone: copy_items(alloc, &leads.gone, boards, new)?,
         new: copy_items(alloc, &leads.new, new, boards)?,
@@ -119,7 +125,7 @@ impl Stock {
     {
         Ok(Stock {
             boards: Vec::new(alloc),
-            names: IndexMap::new(alloc),
+            tags: IndexMap::new(alloc),
             staged: None,
         })
     }
@@ -155,11 +161,12 @@ impl Stock {
         let gone = copy_keys(alloc, difference.gone_boards.as_slice())?;
         let keys = difference.new_boards.as_slice();
         let new = show_coming(alloc, shelf, plus, keep, keys, after)?;
-        let names = note_change(alloc, &self.names, &self.boards, &gone, &new)?;
-        let items = compare(alloc, &self.names, &names, &self.boards, &new)?;
-        self.names.reserve(names.len())?;
+        let notes = note_change(alloc, &self.tags, &self.boards, &gone, &new)?;
+        let items = compare(alloc, &self.tags, &notes, &self.boards, &new)?;
+        let Notes { over: tags, .. } = notes;
+        self.tags.reserve(tags.len())?;
         self.boards.reserve(new.len())?;
-        self.staged = Some(Staged { gone, new, names });
+        self.staged = Some(Staged { gone, new, tags });
         Ok(items)
     }
 
@@ -170,10 +177,10 @@ impl Stock {
         ensures staged { self.new.staged ≡ None }
     {
         match self.staged.take() {
-            Some(Staged { gone, new, names }) => {
+            Some(Staged { gone, new, tags }) => {
                 remove_boards(&mut self.boards, &gone);
                 insert_boards(&mut self.boards, new);
-                keep_noted(&mut self.names, names);
+                keep_noted(&mut self.tags, tags);
             }
             None => unreachable!(),
         }
@@ -190,24 +197,32 @@ impl Stock {
     pub fn holder(&self, family: Family, name: &Name) -> Option<&Item>
         ensures { option_map (λ item. item.now) result ≡ holder self.now.items family name.now }
     {
-        let held = Held {
-            family,
-            name: name.copied(),
-        };
-        let id = first_of(&self.names, &held)?;
+        let tag = name_tag(family, name);
+        let id = first_of(&self.tags, &tag)?;
         item_at(&self.boards, &id)
     }
 
-    /// Whether an item is live, which is so where it holds its name. The name is looked up once.
-    pub fn is_live(&self, item: &Item) -> bool
-        ensures { result ≡ is_live self.now.items item.now }
+    // Whether an item holds its name in a family. The name is looked up once.
+    fn holds(&self, family: Family, item: &Item) -> bool
+        ensures { result ≡ is_item item.now.id (holder self.now.items family item.now.name) }
     {
-        let Some(family) = family_of(&item.part) else {
-            return false;
-        };
         match self.holder(family, &item.name) {
             Some(first) => first.id == item.id,
             None => false,
+        }
+    }
+
+    /// Whether an item is live, which is so where it holds its name, and for a controller where the name of its zone is held.
+    /// One name is looked up.
+    pub fn is_live(&self, item: &Item) -> bool
+        ensures { result ≡ is_live self.now.items item.now }
+    {
+        match &item.part {
+            ItemPart::Sensor(_) => self.holds(Family::Sensor, item),
+            ItemPart::Zone(_) => self.holds(Family::Zone, item),
+            ItemPart::Fan => self.holds(Family::Fan, item),
+            ItemPart::Control(control) => self.holder(Family::Zone, &control.get().zone).is_some(),
+            ItemPart::Mux(_) | ItemPart::Passive => false,
         }
     }
 }

@@ -1,7 +1,11 @@
+use crate::items::append_items;
 use crate::lone::{push_key, swap_beside};
 use crate::{Board, BoardKey, BoardKeys, IndexKeep, Moment, list_items};
-use bmc_base::{Name, Place, Silent, Steps};
-use cfg_json::{Config, Item, ItemPart, Shelf};
+use bmc_base::{Milli, Name, Place, Silent, Steps};
+use cfg_json::{
+    Body, Config, ControlItem, ControlPart, Expose, Item, ItemPart, Names, Shelf, Templates,
+};
+use ctl_face::{PidClass, PidSetting, Setting};
 use found_set::{Facts, FoundSet};
 use fru_record::FruRecord;
 use match_rows::{Rows, make};
@@ -10,6 +14,7 @@ use probe_lang::Probe;
 use std::alloc::Global;
 use std::process::Abort;
 use std::test::Fail;
+use tmpl::Template;
 
 // No bus, so that a key has no place.
 const NOWHERE: u32 = 256;
@@ -215,10 +220,28 @@ const ITEMS: [&str; 12] = [
     "0 None 4 Sensor sensor None None -2",
 ];
 
+// Appends names, with a space before each.
+fn push_names(text: &mut String, names: &Names) -> Result<(), Fail> {
+    for name in names.as_slice() {
+        text.push_str(" ")?;
+        text.push_str(name.as_str())?;
+    }
+    Ok(())
+}
+
+fn control_text(alloc: Global, control: &ControlItem) -> Result<String, Fail> {
+    let mut text = format!(in alloc; "control {} |", control.zone.as_str())?;
+    push_names(&mut text, &control.inputs)?;
+    text.push_str(" |")?;
+    push_names(&mut text, &control.outputs)?;
+    Ok(text)
+}
+
 // What an item has by its type.
 fn part_text(alloc: Global, part: &ItemPart) -> Result<String, Fail> {
     Ok(match part {
         ItemPart::Sensor(sensor) => {
+            let sensor = sensor.get();
             format!(in alloc;
                 "sensor {:?} {:?} {}",
                 sensor.bus, sensor.address, sensor.setting.num
@@ -228,7 +251,9 @@ fn part_text(alloc: Global, part: &ItemPart) -> Result<String, Fail> {
         ItemPart::Zone(setting) => {
             format!(in alloc; "zone {} {}", setting.min_thermal, setting.failsafe)?
         }
+        ItemPart::Control(control) => control_text(alloc, control.get())?,
         ItemPart::Mux(mux) => {
+            let mux = mux.get();
             format!(in alloc;
                 "mux {:?} {:?}",
                 mux.fixed.as_slice(),
@@ -294,4 +319,90 @@ fn boards_have_items(rt: HostRuntime) -> Result<(), Fail> {
     let rows = one_row(alloc)?;
     let items = items_of(alloc, &rows, first_found(alloc)?)?;
     assert_items(&rt, alloc, &items)
+}
+
+// The setting of a controller that does nothing.
+pub(crate) const IDLE: Setting = Setting::Pid(PidSetting {
+    class: PidClass::Fan,
+    setpoint: Milli(0),
+    p: 0,
+    i: 0,
+    d: 0,
+    ff_gain: 0,
+    ff_off: Milli(0),
+    i_min: Milli(0),
+    i_max: Milli(0),
+    out_min: Milli(0),
+    out_max: Milli(0),
+    slew_neg: Milli(0),
+    slew_pos: Milli(0),
+});
+
+// The templates of a controller: of its name, of its zone, of its inputs and of its outputs.
+type Texts<'t> = (&'t str, &'t str, &'t [&'t str], &'t [&'t str]);
+
+// Controllers, and as what each is rendered on bus 5, at index 3 and without a record; nothing where it is no item.
+const CONTROLS: [(Texts<'static>, &str); 6] = [
+    (
+        (
+            "Pid $index",
+            "Zone $bus",
+            &["In $bus", "In"],
+            &["Fan $index"],
+        ),
+        "0 Some(5) 0 Pid 3 control Zone 5 | In 5 In | Fan 3",
+    ),
+    (
+        ("Pid", "Zone", &["In"], &[]),
+        "0 Some(5) 0 Pid control Zone | In |",
+    ),
+    // its own name has no rendering, that of its zone, that of an input, and that of an output
+    (("$BOARD_PRODUCT_NAME", "Zone", &["In"], &["Fan"]), ""),
+    (("Pid", "$BOARD_PRODUCT_NAME", &["In"], &["Fan"]), ""),
+    (
+        ("Pid", "Zone", &["In", "$BOARD_PRODUCT_NAME"], &["Fan"]),
+        "",
+    ),
+    (
+        ("Pid", "Zone", &["In"], &["$BOARD_PRODUCT_NAME", "Fan"]),
+        "",
+    ),
+];
+
+fn templates(alloc: Global, texts: &[&str]) -> Result<Templates, Fail> {
+    let mut templates = Templates::new(alloc);
+    for text in texts {
+        templates.push(alloc, Template::parse(alloc, text)?)?;
+    }
+    Ok(templates)
+}
+
+fn control(alloc: Global, texts: Texts<'_>) -> Result<Expose, Fail> {
+    let (name, zone, inputs, outputs) = texts;
+    Ok(Expose {
+        name: Template::parse(alloc, name)?,
+        kind: Name::new("Pid")?,
+        body: Body::Control(ControlPart {
+            setting: IDLE,
+            zone: Template::parse(alloc, zone)?,
+            inputs: templates(alloc, inputs)?,
+            outputs: templates(alloc, outputs)?,
+        }),
+    })
+}
+
+#[test]
+fn a_controller_has_all_its_names(rt: HostRuntime) -> Result<(), Fail> {
+    let alloc = rt.alloc();
+    for (texts, wanted) in CONTROLS {
+        let exposes = [control(alloc, texts)?];
+        let mut items = Vec::new(alloc);
+        append_items(alloc, &mut items, &board(0, 5, 3), &exposes, None)?;
+        let text = match items.first() {
+            Some(item) => item_text(alloc, item)?,
+            None => String::new(alloc),
+        };
+        assert_eq!(rt; text.as_str(), wanted);
+    }
+    Ok(())
 }

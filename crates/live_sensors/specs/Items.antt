@@ -12,6 +12,7 @@ abbrev pub setting_in : ItemPart → Option SensorSetting
 setting_in (parts.Sensor sensor) = Some sensor.setting
 setting_in parts.Fan = None
 setting_in (parts.Zone setting) = None
+setting_in (parts.Control control) = None
 setting_in (parts.Mux part) = None
 setting_in parts.Passive = None
 

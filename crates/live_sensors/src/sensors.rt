@@ -40,7 +40,7 @@ fn setting_in(part: &ItemPart) -> Option<SensorSetting>
     ensures { result ≡ setting_in part.now }
 {
     match part {
-        ItemPart::Sensor(sensor) => Some(sensor.setting),
+        ItemPart::Sensor(sensor) => Some(sensor.get().setting),
         _ => None,
     }
 }

@@ -3,7 +3,7 @@ ghost use Rattle.inventory.specs.Items.{IsValidPart};
 
 use crate::LiveSensors;
 use bmc_base::{Milli, Name};
-use cfg_json::{Item, ItemId, ItemPart, SensorItem};
+use cfg_json::{Boxed, Item, ItemId, ItemPart, SensorItem};
 use sensor_core::{Limit, SensorSetting};
 use std::alloc::Global;
 use std::test::Fail;
@@ -29,18 +29,19 @@ fn setting() -> SensorSetting {
 }
 
 // A sensor.
-fn sensor() -> Result<ItemPart, Fail>
+fn sensor(alloc: Global) -> Result<ItemPart, Fail>
     ensures { IfOk result IsValidPart }
 {
     let setting = setting();
     if !setting.is_valid() {
         return Err(Fail::from("the setting is not valid"));
     }
-    Ok(ItemPart::Sensor(SensorItem {
+    let sensor = SensorItem {
         bus: None,
         address: None,
         setting,
-    }))
+    };
+    Ok(ItemPart::Sensor(Boxed::new(alloc, sensor)?))
 }
 
 // An item of this name.
@@ -71,9 +72,9 @@ fn tell(sensors: &mut LiveSensors, alloc: Global, name: &str, act: Act) -> Resul
     match act {
         Act::Come => {
             sensors.reserve(alloc, 1)?;
-            sensors.settle(&[], &[item(name, sensor()?)?]);
+            sensors.settle(&[], &[item(name, sensor(alloc)?)?]);
         }
-        Act::Go => sensors.settle(&[item(name, sensor()?)?], &[]),
+        Act::Go => sensors.settle(&[item(name, sensor(alloc)?)?], &[]),
         Act::FanGoes => sensors.settle(&[item(name, ItemPart::Fan)?], &[]),
         Act::Read(raw) => {
             if let Some(slot) = sensors.slot(&Name::new(name)?) {

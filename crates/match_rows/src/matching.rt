@@ -63,7 +63,7 @@ fn append_moving(
 {
     match body {
         Body::Mux(part) => append_buses(alloc, spot, number, part.moving.as_slice(), channels),
-        Body::Sensor(_) | Body::Fan | Body::Zone(_) | Body::Passive => Ok(()),
+        Body::Sensor(_) | Body::Fan | Body::Zone(_) | Body::Control(_) | Body::Passive => Ok(()),
     }
 }
 

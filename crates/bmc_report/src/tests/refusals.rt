@@ -19,7 +19,6 @@ fn lines_of_refusals(rt: HostRuntime) -> Result<(), Fail> {
         (Refusal::WrongKind, "WrongKind"),
         (Refusal::OutOfRange, "OutOfRange"),
         (Refusal::ProbeSyntax, "ProbeSyntax"),
-        (Refusal::ExposeForm, "ExposeForm"),
         (Refusal::TemplateSyntax, "TemplateSyntax"),
         (Refusal::MuxMatchOne, "MuxMatchOne"),
         (Refusal::PatternSyntax, "PatternSyntax"),

@@ -6,7 +6,7 @@ use Rattle.cfg_json.specs.declared.item.Item.{Item}
 use Rattle.cfg_json.specs.declared.item.ItemId.{ItemId}
 use Rattle.inventory.specs.Follows.{item_of}
 use Rattle.inventory.specs.Shown.{items_of}
-use Rattle.inventory.proofs.LeadNamesLemmas.{picked_more}
+use Rattle.inventory.proofs.LeadTagsLemmas.{picked_more}
 use Rattle.inventory.proofs.leads.copy_items.Goals as goal
 
 pub loop-id-preserved : goal.loop-id-preserved

@@ -2,24 +2,24 @@ use Rattle.std.proofs.Common.{◌≡◌, ◌∙◌, List, Option, Some, slice_ge
 use Rattle.std.specs.Option.{unwrap_or}
 use Rattle.std.specs.Map.{lookup}
 use Rattle.cfg_json.specs.declared.item.ItemId.{ItemId}
-use Rattle.inventory.specs.Bearers.{held_eq, ids_in, ids_over}
-use Rattle.inventory.specs.declared.held.Held.{Held}
-use Rattle.inventory.proofs.LeadNamesLemmas.{key_at}
-use Rattle.inventory.proofs.NamesLemmas.{found_as}
+use Rattle.inventory.specs.Bearers.{ids_in, ids_over, tag_eq}
+use Rattle.inventory.specs.declared.tag.Tag.{Tag}
+use Rattle.inventory.proofs.LeadTagsLemmas.{firsts_at, key_at}
+use Rattle.inventory.proofs.TagsLemmas.{found_as}
 use Rattle.inventory.proofs.leads.lead_at.Goals as goal
 
-pub returns-clause-before : goal.returns-clause-before
-returns-clause-before c held at =
-    c.first_of.ensures
-    ∙ ap (λ (held : Held). slice_get (ids_in c.args.names.now.entries held) 0)
-    (key_at c.args.over.now.entries c.args.number held c.in-Some.held.now c.in-Some.ids.now at c.in-Some.ensures.entry)
-
-pub returns-clause-after : goal.returns-clause-after
-returns-clause-after c held at =
-    let over = c.args.over.now.entries in
-    let names = c.args.names.now.entries in
-    let its : lookup (held_eq c.in-Some.held.now) over ≡ Some c.in-Some.ids.now = sym (found_as over c.in-Some.held.now) ∙ c.in-Some.ensures.value in
-    c.first.ensures
-    ∙ ap (λ (found : Option (List ItemId)). slice_get (unwrap_or found (ids_in names c.in-Some.held.now)) 0) (sym its)
-    ∙ ap (λ (held : Held). slice_get (ids_over over names held) 0)
-    (key_at over c.args.number held c.in-Some.held.now c.in-Some.ids.now at c.in-Some.ensures.entry)
+pub returns : goal.returns
+returns c tag at tags firsts =
+    let notes = c.args.notes.now in
+    let over = notes.over.entries in
+    let key = c.in-Some.field-0-0.now in
+    let ids = c.in-Some.ids.now in
+    let its : lookup (tag_eq key) over ≡ Some ids = sym (found_as over key) ∙ c.in-Some.ensures.value in
+    record {
+      before = c.first_at-before.ensures (slice_get (ids_in tags tag) 0)
+          (ap (λ (firsts : List (Option ItemId)). slice_get firsts c.args.number) c.deref.ensures.value
+          ∙ firsts_at notes tags c.args.number tag key ids firsts at c.in-Some.ensures.entry);
+      after = c.first.ensures
+          ∙ ap (λ (found : Option (List ItemId)). slice_get (unwrap_or found (ids_in tags key)) 0) (sym its)
+          ∙ ap (λ (tag : Tag). slice_get (ids_over over tags tag) 0) (key_at over c.args.number tag key ids at c.in-Some.ensures.entry);
+    }

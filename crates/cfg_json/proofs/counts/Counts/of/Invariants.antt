@@ -9,4 +9,6 @@ invariant-loop-expose l = record {
   sensors : l.counts.sensors ≤ l.expose-index;
   zones : l.counts.zones ≤ l.expose-index;
   fans : l.counts.fans ≤ l.expose-index;
+  pids : l.counts.pids ≤ l.expose-index;
+  steps : l.counts.steps ≤ l.expose-index;
 }
