@@ -1,0 +1,139 @@
+use Rattle.std.proofs.Common.{◌≡◌, ap, sym, ◌∙◌, subst, arith, length}
+use Rattle.fan_zone.specs.Ticks.{ZonesView}
+use Rattle.fan_zone.specs.Sound.{IsSound}
+use Rattle.fan_zone.specs.Settings.{CanSet, set_to}
+use Rattle.fan_zone.specs.IsSets.{IsSet}
+use Rattle.fan_zone.proofs.SetMeaning.{set_means}
+use Rattle.fan_zone.proofs.SetLaw.{roomy_start}
+use Rattle.fan_zone.proofs.SetView.{Renews, set_is, length_renewed}
+use Rattle.fan_zone.proofs.NewSound.{set_sound}
+use Rattle.fan_zone.proofs.zones.Zones.set.Goals as goal
+
+pub renew_seats-requires-clause-roomy : goal.renew_seats-requires-clause-roomy
+renew_seats-requires-clause-roomy g c =
+    let i = c.self.inside in
+    let live = c.args.live.now in
+    let old : ZonesView = record {
+      bank = i.bank;
+      held = i.held.items;
+      zone_plans = i.zone_plans.items;
+      zone_rows = i.zone_rows.items;
+      fan_plans =
+          i.fan_plans.items;
+      fan_rows = i.fan_rows.items;
+    } in
+    roomy_start old live c.self.invariant.0 (subst (λ (v : ZonesView). CanSet v live) (sym c.self.view_is) c.requires)
+
+pub invariant_of-self : goal.invariant_of-self
+invariant_of-self g c =
+    let i = c.self.inside in
+    let live = c.args.live.now in
+    let sensors = c.args.sensors.now in
+    let old : ZonesView = record {
+      bank = i.bank;
+      held = i.held.items;
+      zone_plans = i.zone_plans.items;
+      zone_rows = i.zone_rows.items;
+      fan_plans =
+          i.fan_plans.items;
+      fan_rows = i.fan_rows.items;
+    } in
+    let new : ZonesView = record {
+      bank = c.renew_seats.new.bank;
+      held = c.renew_seats.new.held.items;
+      zone_plans = c.renew_zones.new.plans.items;
+      zone_rows = c.renew_zones.new.rows.items;
+      fan_plans = c.renew_fans.new.plans.items;
+      fan_rows = c.renew_fans.new.rows.items;
+    } in
+    let renews : Renews live sensors old new = record {
+      zone_plans = c.renew_zones.ensures.plans;
+      zone_rows = c.renew_zones.ensures.rows;
+      fan_plans = c.renew_fans.ensures.plans;
+      fan_rows = c.renew_fans.ensures.rows;
+      bank = cc (c.renew_seats.ensures.bank, c.deref.ensures.value);
+      held = cc (c.renew_seats.ensures.held, c.deref.ensures.value);
+    } in
+    let can = subst (λ (v : ZonesView). CanSet v live) (sym c.self.view_is) c.requires in
+    let boxes : length c.renew_seats.new.bank ≡ length i.bank = ap length c.renew_seats.ensures.bank
+    ∙ length_renewed c.deref.result.now sensors i.held.items i.bank live in
+    let held = c.self.invariant.1 in
+    let taken = c.self.invariant.2 in
+    let zone_plans = c.self.invariant.3 in
+    let zone_rows = c.self.invariant.4 in
+    let fan_plans = c.self.invariant.5 in
+    let fan_rows = c.self.invariant.6 in (
+      subst IsSound (sym (set_is live sensors old new renews)) (set_sound live sensors old c.self.invariant.0 can),
+      record {
+        empty = c.renew_seats.ensures.next_empty;
+        now = omega (arith, held.next, boxes, c.renew_seats.ensures.held_room);
+        next =
+            omega (arith, held.now, boxes, c.renew_seats.ensures.next_room);
+      },
+      record {
+        empty = c.renew_seats.ensures.taken_empty;
+        now = omega (arith, taken.now, boxes, c.renew_seats.ensures.taken_room);
+        next =
+            omega (arith, taken.now, boxes, c.renew_seats.ensures.taken_room);
+      },
+      record {
+        empty = c.renew_zones.ensures.plans_empty;
+        now = omega (arith, zone_plans.next, c.renew_zones.ensures.plans_room);
+        next =
+            omega (arith, zone_plans.now, c.renew_zones.ensures.spare_plans);
+      },
+      record {
+        empty = c.renew_zones.ensures.rows_empty;
+        now = omega (arith, zone_rows.next, c.renew_zones.ensures.rows_room);
+        next =
+            omega (arith, zone_rows.now, c.renew_zones.ensures.spare_rows);
+      },
+      record {
+        empty = c.renew_fans.ensures.plans_empty;
+        now = omega (arith, fan_plans.next, c.renew_fans.ensures.plans_room);
+        next =
+            omega (arith, fan_plans.now, c.renew_fans.ensures.spare_plans);
+      },
+      record {
+        empty = c.renew_fans.ensures.rows_empty;
+        now = omega (arith, fan_rows.next, c.renew_fans.ensures.rows_room);
+        next =
+            omega (arith, fan_rows.now, c.renew_fans.ensures.spare_rows);
+      },
+    )
+
+pub returns : goal.returns
+returns g c =
+    let i = c.self.inside in
+    let live = c.args.live.now in
+    let sensors = c.args.sensors.now in
+    let old : ZonesView = record {
+      bank = i.bank;
+      held = i.held.items;
+      zone_plans = i.zone_plans.items;
+      zone_rows = i.zone_rows.items;
+      fan_plans =
+          i.fan_plans.items;
+      fan_rows = i.fan_rows.items;
+    } in
+    let new : ZonesView = record {
+      bank = c.renew_seats.new.bank;
+      held = c.renew_seats.new.held.items;
+      zone_plans = c.renew_zones.new.plans.items;
+      zone_rows = c.renew_zones.new.rows.items;
+      fan_plans = c.renew_fans.new.plans.items;
+      fan_rows = c.renew_fans.new.rows.items;
+    } in
+    let renews : Renews live sensors old new = record {
+      zone_plans = c.renew_zones.ensures.plans;
+      zone_rows = c.renew_zones.ensures.rows;
+      fan_plans = c.renew_fans.ensures.plans;
+      fan_rows = c.renew_fans.ensures.rows;
+      bank = cc (c.renew_seats.ensures.bank, c.deref.ensures.value);
+      held = cc (c.renew_seats.ensures.held, c.deref.ensures.value);
+    } in
+    let exact = set_is live sensors old new renews ∙ ap (set_to live sensors) c.self.view_is in
+    let can = subst (λ (v : ZonesView). CanSet v live) (sym c.self.view_is) c.requires in
+    let means : IsSet old live sensors new = subst (IsSet old live sensors) (sym (set_is live sensors old new renews))
+    (set_means live sensors old c.self.invariant.0 can) in
+    record { means = subst (λ (v : ZonesView). IsSet v live sensors new) c.self.view_is means; exact = exact }

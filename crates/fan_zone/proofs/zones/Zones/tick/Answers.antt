@@ -1,0 +1,137 @@
+use Rattle.std.proofs.Common.{arith, ◌≡◌, ap, sym, ◌∙◌, subst, List, length, map}
+use Rattle.std.specs.Vec.{with_items}
+use Rattle.std.proofs.lemmas.List.{with_items_is}
+use Rattle.fan_zone.specs.Ticks.{ZonesView, ticked, aged}
+use Rattle.fan_zone.specs.Failsafe.{IsFailsafe}
+use Rattle.fan_zone.specs.Sound.{IsSound, AreSeated, IsTyped, HasSmallSetpoint, AreSmallRows}
+use Rattle.fan_zone.specs.declared.rows.ZoneRow.{ZoneRow}
+use Rattle.fan_zone.specs.declared.held.Held.{Held}
+use Rattle.fan_zone.specs.IsTicks.{StepsOwnBoxes}
+use Rattle.fan_zone.proofs.OwnBoxes.{ticked_own}
+use Rattle.fan_zone.proofs.TickLaw.{Calls, calls_tick}
+use Rattle.fan_zone.proofs.SoundLaw.{sound_aged, typed_pass, length-pass}
+use Rattle.std.specs.List.{All}
+use Rattle.ctl_face.specs.Seen.{Seen}
+use Rattle.fan_zone.specs.Passes.{thermal_sample, fan_sample}
+use Rattle.fan_zone.proofs.FailsafeLaw.{ticked_failsafe}
+use Rattle.fan_zone.proofs.zones.Zones.tick.Goals as goal
+
+pub returns : goal.returns
+returns g c =
+    let i = c.self.inside in
+    let sensors = c.args.sensors.now in
+    let now = c.args.now in
+    let strict = c.args.strict in
+    let old : ZonesView = record {
+      bank = i.bank;
+      held = i.held.items;
+      zone_plans = i.zone_plans.items;
+      zone_rows = i.zone_rows.items;
+      fan_plans =
+          i.fan_plans.items;
+      fan_rows = i.fan_rows.items;
+    } in
+    let rows_is : (with_items i.zone_rows c.show_zones.new.rows).items ≡ c.show_zones.new.rows =
+    with_items_is i.zone_rows c.show_zones.new.rows (c.show_zones.auto.rows ∙ c.deref_mut.ensures.len) in
+    let fans_is : (with_items i.fan_rows c.show_fans.new.fans).items ≡ c.show_fans.new.fans =
+    with_items_is i.fan_rows c.show_fans.new.fans (c.show_fans.auto.fans ∙ c.deref_mut-2.ensures.len) in
+    let held_is : (with_items i.held c.grow_ages.new.held).items ≡ c.grow_ages.new.held =
+    with_items_is i.held c.grow_ages.new.held (c.grow_ages.auto.held ∙ c.deref_mut-3.ensures.len) in
+    let calls : Calls sensors now strict old c.step_thermals.new.bank (with_items i.zone_rows c.show_zones.new.rows).items c.step_fans.new.bank
+    (with_items i.fan_rows c.show_fans.new.fans).items (with_items i.held c.grow_ages.new.held).items =
+    record {
+      thermals = cc (c.step_thermals.ensures.state, c.deref.ensures.value);
+      zones = cc (rows_is, c.show_zones.ensures.rows, c.deref-2.ensures.value, c.deref-3.ensures.value, c.deref_mut.ensures.value);
+      fans_step = cc (c.step_fans.ensures.state, c.deref-4.ensures.value, c.deref-5.ensures.value);
+      fans_shown = cc (
+        fans_is,
+        c.show_fans.ensures,
+        c.deref-6.ensures.value,
+        c.deref-7.ensures.value,
+        c.deref-8.ensures.value,
+        c.deref-9.ensures.value,
+        c.deref_mut-2.ensures.value,
+      );
+      ages = cc (held_is, c.grow_ages.ensures, c.deref_mut-3.ensures.value);
+    } in
+    let new : ZonesView = record {
+      bank = c.step_fans.new.bank;
+      held = (with_items i.held c.grow_ages.new.held).items;
+      zone_plans =
+          i.zone_plans.items;
+      zone_rows = (with_items i.zone_rows c.show_zones.new.rows).items;
+      fan_plans = i.fan_plans.items;
+      fan_rows =
+          (with_items i.fan_rows c.show_fans.new.fans).items;
+    } in
+    let is = calls_tick sensors now strict old _ _ _ _ _ calls in
+    record {
+      ticked = is ∙ ap (ticked sensors now strict) c.self.view_is;
+      failsafe = subst (IsFailsafe sensors now strict) (sym is) (ticked_failsafe sensors now strict old c.self.invariant.0.zones c.self.invariant.0.fans);
+      steps = subst (λ (v : ZonesView). StepsOwnBoxes sensors now v new) c.self.view_is
+          (subst (StepsOwnBoxes sensors now old) (sym is) (ticked_own sensors now strict old c.self.invariant.0));
+    }
+
+pub invariant_of-self : goal.invariant_of-self
+invariant_of-self g c =
+    let i = c.self.inside in
+    let old : ZonesView = record {
+      bank = i.bank;
+      held = i.held.items;
+      zone_plans = i.zone_plans.items;
+      zone_rows = i.zone_rows.items;
+      fan_plans =
+          i.fan_plans.items;
+      fan_rows = i.fan_rows.items;
+    } in
+    let rows = (with_items i.zone_rows c.show_zones.new.rows).items in
+    let fans = (with_items i.fan_rows c.show_fans.new.fans).items in
+    let held = (with_items i.held c.grow_ages.new.held).items in
+    let rows_is : rows ≡ c.show_zones.new.rows =
+    with_items_is i.zone_rows c.show_zones.new.rows (c.show_zones.auto.rows ∙ c.deref_mut.ensures.len) in
+    let fans_is : fans ≡ c.show_fans.new.fans =
+    with_items_is i.fan_rows c.show_fans.new.fans (c.show_fans.auto.fans ∙ c.deref_mut-2.ensures.len) in
+    let held_is : held ≡ c.grow_ages.new.held =
+    with_items_is i.held c.grow_ages.new.held (c.grow_ages.auto.held ∙ c.deref_mut-3.ensures.len) in
+    let ages : held ≡ map aged old.held = cc (held_is, c.grow_ages.ensures, c.deref_mut-3.ensures.value) in
+    let seats : AreSeated c.step_fans.new.bank old.held = subst (λ (h : List Held). AreSeated c.step_fans.new.bank h) c.deref-4.ensures.value
+    c.step_fans.ensures.seats in
+    let zones : length rows ≡ length old.zone_rows = ap length rows_is ∙ (c.show_zones.auto.rows ∙ ap length c.deref_mut.ensures.value) in
+    let fan : length fans ≡ length old.fan_rows = ap length fans_is ∙ (c.show_fans.auto.fans ∙ ap length c.deref_mut-2.ensures.value) in
+    let typed_thermal : All IsTyped c.step_thermals.new.bank = subst (λ (b : List Seen). All IsTyped b) (sym c.step_thermals.ensures.state)
+    (typed_pass (thermal_sample c.args.sensors.now c.args.now) c.deref.result.now i.bank c.self.invariant.0.typed) in
+    let typed : All IsTyped c.step_fans.new.bank = subst (λ (b : List Seen). All IsTyped b) (sym c.step_fans.ensures.state)
+    (typed_pass (fan_sample c.args.sensors.now c.args.now c.deref-5.result.now) c.deref-4.result.now c.step_thermals.new.bank typed_thermal) in
+    let family = λ (h : List Held). IsSound (record {
+      bank = c.step_fans.new.bank;
+      held = h;
+      zone_plans = old.zone_plans;
+      zone_rows = rows;
+      fan_plans =
+          old.fan_plans;
+      fan_rows = fans;
+    }) in
+    let sound = subst family (sym ages) (sound_aged old c.step_fans.new.bank rows fans c.self.invariant.0 seats c.step_fans.ensures.small typed zones fan) in
+    let boxes : length c.step_fans.new.bank ≡ length i.bank =
+    ap length c.step_fans.ensures.state ∙ (length-pass (fan_sample c.args.sensors.now c.args.now c.deref-5.result.now) c.deref-4.result.now
+    c.step_thermals.new.bank
+    ∙ (ap length c.step_thermals.ensures.state ∙ length-pass (thermal_sample c.args.sensors.now c.args.now) c.deref.result.now i.bank)) in
+    let next = c.self.invariant.1 in
+    let taken = c.self.invariant.2 in (
+      sound,
+      record { empty = next.empty; now = omega (arith, next.now, boxes); next = omega (arith, next.next, boxes) },
+      record { empty = taken.empty; now = omega (arith, taken.now, boxes); next = omega (arith, taken.next, boxes) },
+      c.self.invariant.3,
+      c.self.invariant.4,
+      c.self.invariant.5,
+      c.self.invariant.6,
+    )
+
+pub step_thermals-requires-clause-setpoints : goal.step_thermals-requires-clause-setpoints
+step_thermals-requires-clause-setpoints g c = subst (λ (h : List Held). All HasSmallSetpoint h) (sym c.deref.ensures.value) c.self.invariant.0.setpoints
+
+pub step_fans-requires-clause-rows : goal.step_fans-requires-clause-rows
+step_fans-requires-clause-rows g c =
+    let rows_is : (with_items c.self.inside.zone_rows c.show_zones.new.rows).items ≡ c.show_zones.new.rows =
+    with_items_is c.self.inside.zone_rows c.show_zones.new.rows (c.show_zones.auto.rows ∙ c.deref_mut.ensures.len) in
+    subst (λ (r : List ZoneRow). AreSmallRows r) (sym (c.deref-5.ensures.value ∙ rows_is)) c.show_zones.ensures.small

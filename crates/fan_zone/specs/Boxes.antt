@@ -1,0 +1,13 @@
+-- The boxes of the bank, each by its number from 0 on.
+use Rattle.std.specs.Prelude.{ℕ, List, map, slice_index_or}
+use Rattle.ctl_face.specs.declared.kind.Kind.{Kind}
+use Rattle.ctl_face.specs.declared.kind.Kind.TheVariants.{Pid}
+use Rattle.ctl_face.specs.Seen.{Seen, unloaded}
+
+-- the box with a number; behind the last one any box will do
+abbrev pub box_at : List Seen → ℕ → Seen
+box_at bank number = slice_index_or bank number (unloaded Pid)
+
+-- the kinds of boxes
+abbrev pub kinds_of : List Seen → List Kind
+kinds_of bank = map (λ (seen : Seen). seen.kind) bank

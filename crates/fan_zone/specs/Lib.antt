@@ -1,0 +1,17 @@
+pub mod Boxes
+pub mod Inputs
+pub mod Best
+pub mod Passes
+pub mod Rows
+pub mod Ticks
+pub mod Failsafe
+pub mod Sound
+pub mod Live
+pub mod Sets
+pub mod SetRows
+pub mod Seats
+pub mod Settings
+pub mod IsSets
+pub mod IsTicks
+pub mod Laws
+pub mod Machine

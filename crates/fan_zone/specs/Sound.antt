@@ -1,0 +1,68 @@
+-- What is true of all zones.
+use Rattle.std.specs.Prelude.{◌≡◌, ◌<◌, length, IsSome, List, false, [], ◌∷◌, map, ℕ}
+use Rattle.fan_zone.specs.Sets.{is_taken}
+use Rattle.std.specs.List.{All}
+use Rattle.std.specs.Option.{ForSome}
+use Rattle.ctl_face.specs.Ranges.{IsMilli}
+use Rattle.ctl_face.specs.Seen.{Seen}
+use Rattle.ctl_face.specs.Kinds.{kind_of}
+use Rattle.fan_zone.specs.Boxes.{box_at}
+use Rattle.fan_zone.specs.declared.held.Held.{Held}
+use Rattle.fan_zone.specs.declared.rows.ZonePlan.{ZonePlan}
+use Rattle.fan_zone.specs.declared.rows.ZoneRow.{ZoneRow}
+use Rattle.fan_zone.specs.Passes.{thermal_setpoint}
+use Rattle.fan_zone.specs.Ticks.{ZonesView}
+
+-- a controller has a box, which is loaded
+pub record IsSeated (bank : List Seen) (held : Held) : Type 0 where
+  pub within : held.number < length bank
+  pub loaded : IsSome (box_at bank held.number).setting
+
+abbrev pub AreSeated : List Seen → List Held → Type 0
+AreSeated bank held = All (λ (one : Held). IsSeated bank one) held
+
+-- the last output of a box is in range
+abbrev pub HasSmallOutput : Seen → Type 0
+HasSmallOutput seen = ForSome seen.state.output IsMilli
+
+abbrev pub AreSmall : List Seen → Type 0
+AreSmall bank = All HasSmallOutput bank
+
+abbrev pub HasSmallSetpoint : Held → Type 0
+HasSmallSetpoint held = ForSome (thermal_setpoint held.role) (λ setpoint. IsMilli setpoint.0)
+
+abbrev pub AreInZones : List ZoneRow → List Held → Type 0
+AreInZones rows held = All (λ (one : Held). one.zone < length rows) held
+
+abbrev pub AreSmallPlans : List ZonePlan → Type 0
+AreSmallPlans plans = All (λ (plan : ZonePlan). IsMilli plan.setting.min_thermal.0) plans
+
+-- a loaded box is of the kind of its setting
+abbrev pub IsTyped : Seen → Type 0
+IsTyped seen = ForSome seen.setting (λ setting. kind_of setting ≡ seen.kind)
+
+abbrev pub number_of : Held → ℕ
+number_of held = held.number
+
+-- no number twice
+abbrev pub Differ : List ℕ → Type 0
+Differ [] = Unit {0}
+Differ (number ∷ more) = (is_taken more number ≡ false) × Differ more
+
+pub record IsSound (view : ZonesView) : Type 0 where
+  pub seats : AreSeated view.bank view.held
+  pub outputs : AreSmall view.bank
+  pub typed : All IsTyped view.bank
+  pub setpoints : All HasSmallSetpoint view.held
+  pub apart : Differ (map number_of view.held)
+  pub zones : AreInZones view.zone_rows view.held
+  pub plans : length view.zone_plans ≡ length view.zone_rows
+  pub lows : AreSmallPlans view.zone_plans
+  pub fans : length view.fan_plans ≡ length view.fan_rows
+
+-- the setpoint that is shown is in range
+abbrev pub HasSmallRow : ZoneRow → Type 0
+HasSmallRow row = ForSome row.setpoint (λ setpoint. IsMilli setpoint.0)
+
+abbrev pub AreSmallRows : List ZoneRow → Type 0
+AreSmallRows rows = All HasSmallRow rows

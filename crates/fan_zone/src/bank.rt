@@ -1,0 +1,127 @@
+ghost use Rattle.std.specs.Prelude.{◌≡◌, ◌<◌, length, map, slice_set, IsSome, Some, option_map};
+ghost use Rattle.ctl_face.specs.Ranges.{IsMilli, IsValid, IsValidSample};
+ghost use Rattle.ctl_face.specs.Seen.{Seen, loaded, stepped, unloaded};
+ghost use Rattle.ctl_face.specs.Kinds.{kind_of};
+ghost use Rattle.fan_zone.specs.Boxes.{box_at};
+ghost use Rattle.fan_zone.specs.Sets.{cleared, cleared_box, free, is_taken};
+ghost use Rattle.fan_zone.specs.Sound.{HasSmallOutput};
+
+use ctl_face::{Controller, Kind, Sample, Setting};
+use std::marker::Model;
+
+/// The boxes, each under its number from 0 on.
+#[derive(Drop)]
+pub(crate) struct Bank<C: Controller> {
+    boxes: Vec<C>,
+}
+
+impl<C: Controller> Model for Bank<C> {
+    ghost use Rattle.std.specs.Prelude.{List, map};
+    ghost use Rattle.ctl_face.specs.Seen.{Seen};
+
+    ghost Value = { List Seen };
+
+    ghost view = { λ b. map C.seen b.boxes.items };
+}
+
+impl<C: Controller> Bank<C> {
+    pub(crate) fn new(boxes: Vec<C>) -> Bank<C>
+        ensures { result ≡ map C.seen boxes.items }
+    {
+        Bank { boxes }
+    }
+
+    pub(crate) fn len(&self) -> usize
+        ensures { result ≡ length self.now }
+    {
+        self.boxes.len()
+    }
+
+    /// Steps one box.
+    pub(crate) fn step(&mut self, number: usize, sample: Sample)
+        requires within { number < length self.old }
+        requires loaded { IsSome (box_at self.old number).setting }
+        requires valid { IsValidSample sample }
+        ensures state { self.new ≡ slice_set self.old number (stepped (box_at self.old number) sample) }
+        ensures small { HasSmallOutput (stepped (box_at self.old number) sample) }
+    {
+        let controller = &mut self.boxes[number];
+        controller.step(sample);
+    }
+
+    /// The last output of a box, in thousandths.
+    pub(crate) fn output(&self, number: usize) -> Option<i64>
+        requires { number < length self.now }
+        ensures { result ≡ (box_at self.now number).state.output }
+    {
+        let controller = &self.boxes[number];
+        controller.state().output
+    }
+
+    // The kind of a box.
+    fn kind(&self, number: usize) -> Kind
+        requires { number < length self.now }
+        ensures { result ≡ (box_at self.now number).kind }
+    {
+        let controller = &self.boxes[number];
+        controller.kind()
+    }
+
+    /// Loads one box.
+    pub(crate) fn load(&mut self, number: usize, setting: &Setting)
+        requires within { number < length self.old }
+        requires kind { kind_of setting.now ≡ (box_at self.old number).kind }
+        requires valid { IsValid setting.now }
+        ensures { self.new ≡ slice_set self.old number (loaded (box_at self.old number) setting.now) }
+    {
+        let controller = &mut self.boxes[number];
+        controller.load(setting);
+    }
+
+    // Unloads one box.
+    fn clear(&mut self, number: usize)
+        requires { number < length self.old }
+        ensures { self.new ≡ slice_set self.old number (unloaded (box_at self.old number).kind) }
+    {
+        let controller = &mut self.boxes[number];
+        controller.clear();
+    }
+
+    // Unloads one box, unless it is taken.
+    fn clear_unless_taken(&mut self, number: usize, taken: &[usize])
+        requires { number < length self.old }
+        ensures { self.new ≡ slice_set self.old number (cleared_box taken.now number (box_at self.old number)) }
+    {
+        if !is_taken(taken, number) {
+            self.clear(number);
+        }
+    }
+
+    /// Unloads each box that is not taken.
+    pub(crate) fn clear_others(&mut self, taken: &[usize])
+        ensures { self.new ≡ cleared taken.now self.old }
+    {
+        for number in 0..self.len() {
+            self.clear_unless_taken(number, taken);
+        }
+    }
+
+    /// The first box of a kind that is not taken.
+    pub(crate) fn free(&self, kind: Kind, taken: &[usize]) -> Option<usize>
+        ensures { result ≡ free kind taken.now 0 self.now }
+    {
+        for number in 0..self.len() {
+            if self.kind(number).is(kind) && !is_taken(taken, number) {
+                return Some(number);
+            }
+        }
+        None
+    }
+}
+
+/// Whether a box is taken.
+pub(crate) fn is_taken(taken: &[usize], number: usize) -> bool
+    ensures { result ≡ is_taken taken.now number }
+{
+    taken.iter().any(|one| *one == number)
+}

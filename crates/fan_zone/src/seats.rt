@@ -1,0 +1,197 @@
+ghost use Rattle.fan_zone.specs.Live.{LiveControl, controls};
+ghost use Rattle.fan_zone.specs.Settings.{before};
+ghost use Rattle.std.specs.Prelude.{◌≡◌, ◌+◌, ◌≤◌, ◌<◌, ◌++◌, [], ◌∷◌, None, Some, IsSome, length, slice_set, count_by};
+ghost use Rattle.std.specs.List.{All, fold};
+ghost use Rattle.std.specs.Vec.{vec_capacity, vec_len};
+ghost use Rattle.ctl_face.specs.Ranges.{IsValid};
+ghost use Rattle.ctl_face.specs.Seen.{loaded};
+ghost use Rattle.ctl_face.specs.Kinds.{kind_of};
+ghost use Rattle.fan_zone.specs.Boxes.{box_at};
+ghost use Rattle.fan_zone.specs.Sets.{seating, free, held_of, kept_numbers, kept_seat, seat_all, seat_next};
+ghost use Rattle.fan_zone.specs.Seats.{is_new, IsReady, IsRoomy};
+
+use crate::bank::Bank;
+use crate::held::{Held, Seat};
+use crate::holder::Holder;
+use crate::resolve::{held_of, kept_seat};
+use crate::rows::ZoneRow;
+use cfg_json::{ControlItem, Item, ItemId, ItemPart};
+use ctl_face::{Controller, Setting};
+use std::mem::swap;
+
+/// One more element, where there is room.
+pub(crate) fn put<T: Drop>(list: &mut Vec<T>, element: T)
+    requires { length list.old.items < vec_capacity list.old }
+    ensures items { list.new.items ≡ list.old.items ++ element ∷ [] }
+    ensures room { vec_capacity list.old ≤ vec_capacity list.new }
+{
+    let _ = list.push(element);
+}
+
+// Notes the box of an item, if it is a controller that keeps one.
+fn keep_item(taken: &mut Vec<usize>, old: &[Held], item: &Item)
+    requires { length taken.old.items + length (controls (item.now ∷ [])) ≤ vec_capacity taken.old }
+    ensures items { taken.new.items ≡ taken.old.items ++ kept_numbers old.now (controls (item.now ∷ [])) }
+    ensures room { vec_capacity taken.old ≤ vec_capacity taken.new }
+{
+    if let ItemPart::Control(_) = &item.part {
+        if let Some(seat) = kept_seat(old, &item.id) {
+            put(taken, seat.number);
+        }
+    }
+}
+
+/// Notes the boxes that are kept.
+pub(crate) fn keep_all(taken: &mut Vec<usize>, old: &[Held], live: &[Item])
+    requires { length taken.old.items + length (controls live.now) ≤ vec_capacity taken.old }
+    ensures items { taken.new.items ≡ taken.old.items ++ kept_numbers old.now (controls live.now) }
+    ensures room { vec_capacity taken.old ≤ vec_capacity taken.new }
+{
+    for item in live {
+        keep_item(taken, old, item);
+    }
+}
+
+// Loads a free box of the kind.
+fn seat_new<C: Controller>(bank: &mut Bank<C>, taken: &mut Vec<usize>, setting: &Setting) -> Seat
+    requires room { length taken.old.items < vec_capacity taken.old }
+    requires valid { IsValid setting.now }
+    requires free { IsSome (free (kind_of setting.now) taken.old.items 0 bank.old) }
+    ensures number { free (kind_of setting.now) taken.old.items 0 bank.old ≡ Some result.number }
+    ensures age { result.age ≡ 0 }
+    ensures taken { taken.new.items ≡ taken.old.items ++ result.number ∷ [] }
+    ensures room { vec_capacity taken.old ≤ vec_capacity taken.new }
+    ensures bank { bank.new ≡ slice_set bank.old result.number (loaded (box_at bank.old result.number) setting.now) }
+{
+    match bank.free(setting.kind(), taken) {
+        None => unreachable!(),
+        Some(number) => {
+            bank.load(number, setting);
+            put(taken, number);
+            Seat { number, age: 0 }
+        }
+    }
+}
+
+// One controller takes its seat.
+fn seat_control<C: Controller>(
+    bank: &mut Bank<C>,
+    taken: &mut Vec<usize>,
+    next: &mut Vec<Held>,
+    old: &[Held],
+    rows: &[ZoneRow],
+    sensors: &[Holder],
+    id: &ItemId,
+    control: &ControlItem,
+)
+    requires next { length next.old.items < vec_capacity next.old }
+    requires taken { kept_seat old.now id.now ≡ None → length taken.old.items < vec_capacity taken.old }
+    requires ready { IsReady old.now (seating next.old.items taken.old.items bank.old) (record { id = id.now; item = control.now }) }
+    ensures seating { seating next.new.items taken.new.items bank.new
+        ≡ seat_next rows.now sensors.now old.now (seating next.old.items taken.old.items bank.old) (record { id = id.now; item = control.now }) }
+    ensures room_next { vec_capacity next.old ≤ vec_capacity next.new }
+    ensures room_taken { vec_capacity taken.old ≤ vec_capacity taken.new }
+{
+    let seat = match kept_seat(old, id) {
+        Some(seat) => seat,
+        None => seat_new(bank, taken, &control.setting),
+    };
+    put(next, held_of(rows, sensors, id, control, seat));
+}
+
+// An item takes its seat, if it is a controller.
+fn seat_item<C: Controller>(
+    bank: &mut Bank<C>,
+    taken: &mut Vec<usize>,
+    next: &mut Vec<Held>,
+    old: &[Held],
+    rows: &[ZoneRow],
+    sensors: &[Holder],
+    item: &Item,
+)
+    requires next { length next.old.items + length (controls (item.now ∷ [])) ≤ vec_capacity next.old }
+    requires taken { length taken.old.items + count_by (is_new old.now) (controls (item.now ∷ [])) ≤ vec_capacity taken.old }
+    requires ready { All (IsReady old.now (seating next.old.items taken.old.items bank.old)) (controls (item.now ∷ [])) }
+    ensures seating { seating next.new.items taken.new.items bank.new
+        ≡ seat_all rows.now sensors.now old.now (seating next.old.items taken.old.items bank.old) (controls (item.now ∷ [])) }
+    ensures room_next { vec_capacity next.old ≤ vec_capacity next.new }
+    ensures room_taken { vec_capacity taken.old ≤ vec_capacity taken.new }
+{
+    if let ItemPart::Control(control) = &item.part {
+        seat_control(
+            bank,
+            taken,
+            next,
+            old,
+            rows,
+            sensors,
+            &item.id,
+            control.get(),
+        );
+    }
+}
+
+/// Each controller takes its seat: the one that it had, or the first free box of its kind, loaded.
+pub(crate) fn seat_live<C: Controller>(
+    bank: &mut Bank<C>,
+    taken: &mut Vec<usize>,
+    next: &mut Vec<Held>,
+    old: &[Held],
+    rows: &[ZoneRow],
+    sensors: &[Holder],
+    live: &[Item],
+)
+    requires next { length next.old.items + length (controls live.now) ≤ vec_capacity next.old }
+    requires taken { length taken.old.items + count_by (is_new old.now) (controls live.now) ≤ vec_capacity taken.old }
+    requires roomy { IsRoomy old.now (seating next.old.items taken.old.items bank.old) (controls live.now) }
+    ensures seating { seating next.new.items taken.new.items bank.new
+        ≡ seat_all rows.now sensors.now old.now (seating next.old.items taken.old.items bank.old) (controls live.now) }
+    ensures room_next { vec_capacity next.old ≤ vec_capacity next.new }
+    ensures room_taken { vec_capacity taken.old ≤ vec_capacity taken.new }
+{
+    for item in live {
+        seat_item(bank, taken, next, old, rows, sensors, item);
+    }
+}
+
+/// The spare takes the place of the list, and is emptied.
+pub(crate) fn trade<T: Drop>(list: &mut Vec<T>, spare: &mut Vec<T>)
+    ensures items { list.new.items ≡ spare.old.items }
+    ensures empty { spare.new.items ≡ [] }
+    ensures room { vec_capacity list.new ≡ vec_capacity spare.old }
+    ensures spare_room { vec_capacity spare.new ≡ vec_capacity list.old }
+{
+    swap(list, spare);
+    spare.clear();
+}
+
+/// Makes the controllers anew: those that stay keep their boxes, the boxes of those that are gone are unloaded, and
+/// each new one takes the first free box of its kind.
+pub(crate) fn renew_seats<C: Controller>(
+    bank: &mut Bank<C>,
+    held: &mut Vec<Held>,
+    taken: &mut Vec<usize>,
+    next: &mut Vec<Held>,
+    rows: &[ZoneRow],
+    sensors: &[Holder],
+    live: &[Item],
+)
+    requires taken_empty { taken.old.items ≡ [] }
+    requires next_empty { next.old.items ≡ [] }
+    requires taken_room { length (controls live.now) ≤ vec_capacity taken.old }
+    requires next_room { length (controls live.now) ≤ vec_capacity next.old }
+    requires roomy { IsRoomy held.old.items (before held.old.items bank.old live.now) (controls live.now) }
+    ensures bank { bank.new ≡ (seat_all rows.now sensors.now held.old.items (before held.old.items bank.old live.now) (controls live.now)).bank }
+    ensures held { held.new.items ≡ (seat_all rows.now sensors.now held.old.items (before held.old.items bank.old live.now) (controls live.now)).held }
+    ensures taken_empty { taken.new.items ≡ [] }
+    ensures next_empty { next.new.items ≡ [] }
+    ensures taken_room { vec_capacity taken.old ≤ vec_capacity taken.new }
+    ensures next_room { vec_capacity held.old ≤ vec_capacity next.new }
+    ensures held_room { vec_capacity next.old ≤ vec_capacity held.new }
+{
+    keep_all(taken, held, live);
+    bank.clear_others(taken);
+    seat_live(bank, taken, next, held, rows, sensors, live);
+    trade(held, next);
+    taken.clear();
+}

@@ -1,0 +1,172 @@
+ghost use Rattle.std.specs.Prelude.{◌≡◌, ◌<◌, ◌^◌, [], IfOk, length, map};
+ghost use Rattle.std.specs.List.{All};
+ghost use Rattle.ctl_face.specs.Seen.{unloaded};
+ghost use Rattle.fan_zone.specs.IsSets.{IsSet};
+ghost use Rattle.fan_zone.specs.IsTicks.{StepsOwnBoxes};
+ghost use Rattle.fan_zone.specs.Settings.{CanSet, set_to};
+ghost use Rattle.fan_zone.specs.Failsafe.{IsFailsafe};
+ghost use Rattle.fan_zone.specs.Ticks.{no_zones, ticked};
+
+use crate::bank::Bank;
+use crate::held::Held;
+use crate::holder::Holder;
+use crate::passes::{step_fans, step_thermals};
+use crate::renew::{renew_fans, renew_zones};
+use crate::rows::{FanPlan, FanRow, ZonePlan, ZoneRow};
+use crate::seats::renew_seats;
+use crate::showing::{grow_ages, show_fans, show_zones};
+use bmc_base::OutOfMemory;
+use cfg_json::Item;
+use ctl_face::Controller;
+use sensor_core::SensorTable;
+use std::alloc::Global;
+use std::marker::Model;
+
+// For how many zones there is room.
+const MOST_ZONES: usize = 32;
+
+// For how many fans there is room.
+const MOST_FANS: usize = 128;
+
+/// The zones of the live items with their controllers and their fans, over a bank of boxes, which are controllers that the
+/// caller made. It never chooses by what a box computes: a controller gets a box of the kind of its setting.
+#[derive(Drop)]
+pub struct Zones<C: Controller> {
+    bank: Bank<C>,
+    held: Vec<Held>,
+    zone_plans: Vec<ZonePlan>,
+    zone_rows: Vec<ZoneRow>,
+    fan_plans: Vec<FanPlan>,
+    fan_rows: Vec<FanRow>,
+    taken: Vec<usize>,
+    next: Vec<Held>,
+    next_zone_plans: Vec<ZonePlan>,
+    next_zone_rows: Vec<ZoneRow>,
+    next_fan_plans: Vec<FanPlan>,
+    next_fan_rows: Vec<FanRow>,
+}
+
+impl<C: Controller> Model for Zones<C> {
+    ghost use Rattle.fan_zone.specs.Ticks.{ZonesView, view_of};
+    ghost use Rattle.std.specs.Prelude.{length};
+    ghost use Rattle.std.specs.Vec.{vec_capacity};
+    ghost use Rattle.fan_zone.specs.Settings.{HasRoom, most_zones, most_fans};
+    ghost use Rattle.fan_zone.specs.Sound.{IsSound};
+
+    ghost Value = { ZonesView };
+
+    ghost view = { λ z. view_of z.bank z.held.items z.zone_plans.items z.zone_rows.items z.fan_plans.items z.fan_rows.items };
+
+    ghost invariant = { λ z. IsSound (view_of z.bank z.held.items z.zone_plans.items z.zone_rows.items z.fan_plans.items z.fan_rows.items)
+        × HasRoom z.next.items (length z.bank) (vec_capacity z.held) (vec_capacity z.next)
+        × HasRoom z.taken.items (length z.bank) (vec_capacity z.taken) (vec_capacity z.taken)
+        × HasRoom z.next_zone_plans.items most_zones (vec_capacity z.zone_plans) (vec_capacity z.next_zone_plans)
+        × HasRoom z.next_zone_rows.items most_zones (vec_capacity z.zone_rows) (vec_capacity z.next_zone_rows)
+        × HasRoom z.next_fan_plans.items most_fans (vec_capacity z.fan_plans) (vec_capacity z.next_fan_plans)
+        × HasRoom z.next_fan_rows.items most_fans (vec_capacity z.fan_rows) (vec_capacity z.next_fan_rows) };
+}
+
+impl<C: Controller> Zones<C> {
+    /// Returns no zones, over a bank of boxes that are not loaded. All memory that is ever needed is taken here: for as many
+    /// controllers as there are boxes, for 32 zones and for 128 fans.
+    pub fn new(alloc: Global, bank: Vec<C>) -> Result<Zones<C>, OutOfMemory>
+        requires { All (λ seen. seen ≡ unloaded seen.kind) (map C.seen bank.items) }
+        ensures { IfOk result (λ zones. zones ≡ no_zones (map C.seen bank.items)) }
+    {
+        let bank = Bank::new(bank);
+        let boxes = bank.len();
+        Ok(Zones {
+            bank,
+            held: Vec::with_capacity(alloc, boxes)?,
+            zone_plans: Vec::with_capacity(alloc, MOST_ZONES)?,
+            zone_rows: Vec::with_capacity(alloc, MOST_ZONES)?,
+            fan_plans: Vec::with_capacity(alloc, MOST_FANS)?,
+            fan_rows: Vec::with_capacity(alloc, MOST_FANS)?,
+            taken: Vec::with_capacity(alloc, boxes)?,
+            next: Vec::with_capacity(alloc, boxes)?,
+            next_zone_plans: Vec::with_capacity(alloc, MOST_ZONES)?,
+            next_zone_rows: Vec::with_capacity(alloc, MOST_ZONES)?,
+            next_fan_plans: Vec::with_capacity(alloc, MOST_FANS)?,
+            next_fan_rows: Vec::with_capacity(alloc, MOST_FANS)?,
+        })
+    }
+
+    /// Makes the zones, the controllers and the fans those of these live items, where each sensor of `sensors` holds its name.
+    /// A controller that was there keeps its box with its state, and its age. Each other box is unloaded, and then each new
+    /// controller gets a box of its kind: of those that no controller has, the one with the least number, loaded and blank.
+    /// A zone or a fan that was there shows what it showed, until the next tick. Takes no memory.
+    pub fn set(&mut self, live: &[Item], sensors: &[Holder])
+        requires { CanSet self.old live.now }
+        ensures means { IsSet self.old live.now sensors.now self.new }
+        ensures exact { self.new ≡ set_to live.now sensors.now self.old }
+    {
+        renew_zones(
+            &mut self.zone_plans,
+            &mut self.zone_rows,
+            &mut self.next_zone_plans,
+            &mut self.next_zone_rows,
+            live,
+        );
+        renew_fans(
+            &mut self.fan_plans,
+            &mut self.fan_rows,
+            &mut self.next_fan_plans,
+            &mut self.next_fan_rows,
+            live,
+        );
+        renew_seats(
+            &mut self.bank,
+            &mut self.held,
+            &mut self.taken,
+            &mut self.next,
+            &self.zone_rows,
+            sensors,
+            live,
+        );
+    }
+
+    /// Makes one tick, at tick `now`. First each thermal controller whose turn it is steps, at the 1st, 11th, 21st and so on
+    /// tick of its run, where one of its inputs is good; then each zone shows its setpoint, and whether it is in failsafe; then
+    /// each fan controller steps by the setpoint of its zone; and then each fan shows its duty. In failsafe a fan gets the
+    /// zone's FailSafePercent at the least, and in strict mode exactly that. Takes no memory.
+    pub fn tick(&mut self, sensors: &SensorTable, now: u64, strict: bool)
+        ensures ticked { self.new ≡ ticked sensors.now now strict self.old }
+        ensures failsafe { IsFailsafe sensors.now now strict self.new }
+        ensures steps { StepsOwnBoxes sensors.now now self.old self.new }
+    {
+        step_thermals(&mut self.bank, &self.held, sensors, now);
+        show_zones(
+            &mut self.zone_rows,
+            &self.zone_plans,
+            &self.held,
+            &self.bank,
+            sensors,
+            now,
+        );
+        step_fans(&mut self.bank, &self.held, &self.zone_rows, sensors, now);
+        show_fans(
+            &mut self.fan_rows,
+            &self.fan_plans,
+            &self.held,
+            &self.bank,
+            &self.zone_plans,
+            &self.zone_rows,
+            strict,
+        );
+        grow_ages(&mut self.held);
+    }
+
+    /// Borrows what is shown of the zones, in item order.
+    pub fn zone_rows(&self) -> &[ZoneRow]
+        ensures { result.now ≡ self.now.zone_rows }
+    {
+        &self.zone_rows
+    }
+
+    /// Borrows what is shown of the fans, in item order.
+    pub fn fan_rows(&self) -> &[FanRow]
+        ensures { result.now ≡ self.now.fan_rows }
+    {
+        &self.fan_rows
+    }
+}
