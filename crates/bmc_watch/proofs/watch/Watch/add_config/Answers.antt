@@ -76,12 +76,13 @@ returns-in-Err-clause-tried g c =
     c.self.invariant.stock.counted refl in
     let limit = limit_named (c.self.inside.shelf ++ c.args.config ∷ []) c.self.inside.rows.entries totals c.in-Err.fault counted c.in-Err.ensures
     ∙ ap Some (sym c.limit_refused.ensures) in
+    let never = ap (λ (view : WatchView). view.plugged) c.self.view_is ∙ c.requires.never in
+    let empty = no_entries c.self.inside.plugged c.self.inside.rows.entries never c.self.invariant.none in
     subst (λ (refusal : Option Refusal). Tries c.args.self.now (Configure c.args.config) refusal c.refuse.new.self
     × SettlesUnless refusal c.args.self.now c.refuse.new.self c.args.sensors.now c.args.sensors.now)
     (sym c.refuse.ensures.reason) (
       subst (λ (view : WatchView). Tries view (Configure c.args.config) (Some c.limit_refused.result) c.refuse.new.self) c.self.view_is
-          (config_over_limit old c.refuse.new.self c.args.config c.limit_refused.result (ap (λ (view : WatchView). view.plugged) c.self.view_is ∙ c.requires.never)
-          (no_entries c.self.inside.plugged c.self.inside.rows.entries (ap (λ (view : WatchView). view.plugged) c.self.view_is ∙ c.requires.never) c.self.invariant.none)
+          (config_over_limit old c.refuse.new.self c.args.config c.limit_refused.result never empty
           (ap (λ (view : WatchView). number_of view.configs c.args.config.name) c.self.view_is ∙ c.requires.new)
           (lt-leb most_configs (length c.self.inside.shelf)
           (omega (arith, c.requires.few, ap (λ (view : WatchView). length view.configs) c.self.view_is)))
@@ -363,9 +364,11 @@ returns-clause-tried g c =
     c.tell_items.ensures.items in
     let follows = settles old new c.in_ok-items.items.gone c.in_ok-items.items.new c.args.sensors.now c.stage_changes.new.sensors c.settle_sensors.new.sensors
     next.goes next.comes c.stage_changes.ensures.sensors c.settle_sensors.ensures in
+    let never = ap (λ (view : WatchView). view.plugged) c.self.view_is ∙ c.requires.never in
+    let empty = no_entries c.self.inside.plugged c.self.inside.rows.entries never c.self.invariant.none in
     subst (λ (view : WatchView). Tries view (Configure c.args.config) None new × Settles view new c.args.sensors.now c.settle_sensors.new.sensors)
     c.self.view_is (
-      configured old new c.args.config (ap (λ (view : WatchView). view.plugged) c.self.view_is ∙ c.requires.never) (no_entries c.self.inside.plugged c.self.inside.rows.entries (ap (λ (view : WatchView). view.plugged) c.self.view_is ∙ c.requires.never) c.self.invariant.none)
+      configured old new c.args.config never empty
           (ap (λ (view : WatchView). number_of view.configs c.args.config.name) c.self.view_is ∙ c.requires.new)
           (lt-leb most_configs (length c.self.inside.shelf)
           (omega (arith, c.requires.few, ap (λ (view : WatchView). length view.configs) c.self.view_is)))
