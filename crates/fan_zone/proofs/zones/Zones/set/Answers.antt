@@ -1,5 +1,5 @@
 use Rattle.std.proofs.Common.{◌≡◌, ap, sym, ◌∙◌, subst, arith, length}
-use Rattle.fan_zone.specs.Ticks.{ZonesView}
+use Rattle.fan_zone.specs.Ticks.{ZonesView, view_of}
 use Rattle.fan_zone.specs.Sound.{IsSound}
 use Rattle.fan_zone.specs.Settings.{CanSet, set_to}
 use Rattle.fan_zone.specs.IsSets.{IsSet}
@@ -13,15 +13,7 @@ pub renew_seats-requires-clause-roomy : goal.renew_seats-requires-clause-roomy
 renew_seats-requires-clause-roomy g c =
     let i = c.self.inside in
     let live = c.args.live.now in
-    let old : ZonesView = record {
-      bank = i.bank;
-      held = i.held.items;
-      zone_plans = i.zone_plans.items;
-      zone_rows = i.zone_rows.items;
-      fan_plans =
-          i.fan_plans.items;
-      fan_rows = i.fan_rows.items;
-    } in
+    let old = view_of i.bank i.held.items i.zone_plans.items i.zone_rows.items i.fan_plans.items i.fan_rows.items in
     roomy_start old live c.self.invariant.0 (subst (λ (v : ZonesView). CanSet v live) (sym c.self.view_is) c.requires)
 
 pub invariant_of-self : goal.invariant_of-self
@@ -29,23 +21,9 @@ invariant_of-self g c =
     let i = c.self.inside in
     let live = c.args.live.now in
     let sensors = c.args.sensors.now in
-    let old : ZonesView = record {
-      bank = i.bank;
-      held = i.held.items;
-      zone_plans = i.zone_plans.items;
-      zone_rows = i.zone_rows.items;
-      fan_plans =
-          i.fan_plans.items;
-      fan_rows = i.fan_rows.items;
-    } in
-    let new : ZonesView = record {
-      bank = c.renew_seats.new.bank;
-      held = c.renew_seats.new.held.items;
-      zone_plans = c.renew_zones.new.plans.items;
-      zone_rows = c.renew_zones.new.rows.items;
-      fan_plans = c.renew_fans.new.plans.items;
-      fan_rows = c.renew_fans.new.rows.items;
-    } in
+    let old = view_of i.bank i.held.items i.zone_plans.items i.zone_rows.items i.fan_plans.items i.fan_rows.items in
+    let new = view_of c.renew_seats.new.bank c.renew_seats.new.held.items c.renew_zones.new.plans.items c.renew_zones.new.rows.items
+    c.renew_fans.new.plans.items c.renew_fans.new.rows.items in
     let renews : Renews live sensors old new = record {
       zone_plans = c.renew_zones.ensures.plans;
       zone_rows = c.renew_zones.ensures.rows;
@@ -67,38 +45,32 @@ invariant_of-self g c =
       record {
         empty = c.renew_seats.ensures.next_empty;
         now = omega (arith, held.next, boxes, c.renew_seats.ensures.held_room);
-        next =
-            omega (arith, held.now, boxes, c.renew_seats.ensures.next_room);
+        next = omega (arith, held.now, boxes, c.renew_seats.ensures.next_room);
       },
       record {
         empty = c.renew_seats.ensures.taken_empty;
         now = omega (arith, taken.now, boxes, c.renew_seats.ensures.taken_room);
-        next =
-            omega (arith, taken.now, boxes, c.renew_seats.ensures.taken_room);
+        next = omega (arith, taken.now, boxes, c.renew_seats.ensures.taken_room);
       },
       record {
         empty = c.renew_zones.ensures.plans_empty;
         now = omega (arith, zone_plans.next, c.renew_zones.ensures.plans_room);
-        next =
-            omega (arith, zone_plans.now, c.renew_zones.ensures.spare_plans);
+        next = omega (arith, zone_plans.now, c.renew_zones.ensures.spare_plans);
       },
       record {
         empty = c.renew_zones.ensures.rows_empty;
         now = omega (arith, zone_rows.next, c.renew_zones.ensures.rows_room);
-        next =
-            omega (arith, zone_rows.now, c.renew_zones.ensures.spare_rows);
+        next = omega (arith, zone_rows.now, c.renew_zones.ensures.spare_rows);
       },
       record {
         empty = c.renew_fans.ensures.plans_empty;
         now = omega (arith, fan_plans.next, c.renew_fans.ensures.plans_room);
-        next =
-            omega (arith, fan_plans.now, c.renew_fans.ensures.spare_plans);
+        next = omega (arith, fan_plans.now, c.renew_fans.ensures.spare_plans);
       },
       record {
         empty = c.renew_fans.ensures.rows_empty;
         now = omega (arith, fan_rows.next, c.renew_fans.ensures.rows_room);
-        next =
-            omega (arith, fan_rows.now, c.renew_fans.ensures.spare_rows);
+        next = omega (arith, fan_rows.now, c.renew_fans.ensures.spare_rows);
       },
     )
 
@@ -107,23 +79,9 @@ returns g c =
     let i = c.self.inside in
     let live = c.args.live.now in
     let sensors = c.args.sensors.now in
-    let old : ZonesView = record {
-      bank = i.bank;
-      held = i.held.items;
-      zone_plans = i.zone_plans.items;
-      zone_rows = i.zone_rows.items;
-      fan_plans =
-          i.fan_plans.items;
-      fan_rows = i.fan_rows.items;
-    } in
-    let new : ZonesView = record {
-      bank = c.renew_seats.new.bank;
-      held = c.renew_seats.new.held.items;
-      zone_plans = c.renew_zones.new.plans.items;
-      zone_rows = c.renew_zones.new.rows.items;
-      fan_plans = c.renew_fans.new.plans.items;
-      fan_rows = c.renew_fans.new.rows.items;
-    } in
+    let old = view_of i.bank i.held.items i.zone_plans.items i.zone_rows.items i.fan_plans.items i.fan_rows.items in
+    let new = view_of c.renew_seats.new.bank c.renew_seats.new.held.items c.renew_zones.new.plans.items c.renew_zones.new.rows.items
+    c.renew_fans.new.plans.items c.renew_fans.new.rows.items in
     let renews : Renews live sensors old new = record {
       zone_plans = c.renew_zones.ensures.plans;
       zone_rows = c.renew_zones.ensures.rows;
