@@ -14,6 +14,7 @@ use Rattle.inventory.specs.Boards.{rules_of, boards_in}
 use Rattle.inventory.specs.Indexes.{kept_of}
 use Rattle.inventory.specs.Limits.{limit_of, totals_after, totals_of}
 use Rattle.inventory.specs.Lists.{keys_of}
+use Rattle.inventory.specs.declared.limits.Totals.{Totals}
 use Rattle.cfg_json.specs.declared.item.Item.{Item}
 use Rattle.bmc_report.specs.declared.refusal.Refusal.{Refusal}
 use Rattle.bmc_machine.specs.Histories.{Configure}
@@ -21,14 +22,17 @@ use Rattle.bmc_watch.specs.Insides.{IsStocked}
 use Rattle.bmc_watch.specs.Settling.{Settles, SettlesUnless}
 use Rattle.bmc_watch.specs.Watches.{WatchView}
 use Rattle.bmc_watch.specs.Changes.{IsDifference, AreWithin}
+use Rattle.bmc_watch.specs.ItemSteps.{Continues}
 use Rattle.bmc_watch.specs.Steps.{Tries}
 use Rattle.bmc_watch.proofs.StepsLemmas.{configured, config_over_limit}
-use Rattle.bmc_watch.proofs.EventsLemmas.{on_err, not_ok, new_name, rules_more, seen, difference_is, gone_within, within_more, staged_within}
+use Rattle.bmc_watch.proofs.EventsLemmas.{IsSeen, on_err, not_ok, new_name, rules_more, seen, difference_is, gone_within, within_more, staged_within}
 use Rattle.bmc_watch.proofs.EventsLemmas.{tells_those, set_after, no_entries}
 use Rattle.bmc_watch.proofs.GrowthLemmas.{config_continues, config_counted}
 use Rattle.bmc_watch.proofs.StockLemmas.{IsNext, items_with, limit_named, no_refusal, stock_is, stocked_kept, settles, taken_over, told_by}
 use Rattle.bmc_watch.specs.Counting.{most_evals}
 use Rattle.bmc_watch.proofs.CountingLemmas.{within_rules}
+use Rattle.bmc_watch.proofs.watch.Watch.add_config.Given.{Over}
+use Rattle.bmc_watch.proofs.watch.Watch.add_config.Goals.{In_ok-difference, After-commit-2}
 use Rattle.bmc_watch.proofs.watch.Watch.add_config.Goals as goal
 
 pub prepare_config-requires-clause-new : goal.prepare_config-requires-clause-new
@@ -47,6 +51,45 @@ pub prepare-requires-clause-few : goal.prepare-requires-clause-few
 prepare-requires-clause-few g c =
     omega (arith, c.requires.few, ap (λ (view : WatchView). length view.configs) c.self.view_is, length-append c.self.inside.shelf (c.args.config ∷ []))
 
+-- ---- what is known once the boards are compared
+
+module _ (g : Over) (c : In_ok-difference g) where
+  abbrev all : List Config
+  all = c.self.inside.shelf ++ c.args.config ∷ []
+
+  seen_before : IsSeen c.self.inside.shelf c.self.inside.rows.entries c.of-before.result
+  seen_before =
+      seen c.self.inside.shelf c.self.inside.rows.entries c.of-before.result c.self.inside.set.rules c.self.inside.set.rows
+      (c.of-before.ensures.facts ∙ c.facts.ensures.current ∙ ap (λ (set : SetView). facts set.rules (sights_of set.rows)) c.in_ok-next.ensures.ok)
+      c.self.invariant.rules c.self.invariant.rows (c.of-before.ensures.entries ∙ c.busy.ensures.value)
+
+  seen_behind : IsSeen all c.self.inside.rows.entries c.of-after.result
+  seen_behind =
+      seen all c.self.inside.rows.entries c.of-after.result _ c.self.inside.set.rows
+      (c.of-after.ensures.facts ∙ c.facts-2.ensures ∙ ap (λ (next : NextFacts). next.facts) c.in_ok-next.ensures.next)
+      (rules_more c.self.inside.set.rules c.self.inside.shelf c.args.config c.name.result c.probe.result.now c.as_slice.result.now c.self.invariant.rules
+      c.name.ensures c.probe.ensures (c.as_slice.ensures ∙ c.in_ok-fixed.ensures))
+      c.self.invariant.rows (c.of-after.ensures.entries ∙ c.busy-2.ensures.value)
+
+  boards_differ : IsDifference (length c.self.inside.shelf) (length all) (boards_in c.self.inside.shelf (map entry_sight c.self.inside.rows.entries))
+      (boards_in all (map entry_sight c.self.inside.rows.entries)) c.in_ok-difference.difference.gone_boards c.in_ok-difference.difference.new_boards
+  boards_differ =
+      difference_is c.self.inside.shelf all c.of-before.result c.of-after.result c.self.inside.rows.entries c.self.inside.rows.entries
+      c.in_ok-difference.difference.gone_boards c.in_ok-difference.difference.new_boards seen_before seen_behind c.in_ok-difference.ensures
+
+  -- the items behind the step follow those before it
+  items_continue : Continues all c.self.inside.keep.kept c.in_ok-difference.difference c.of-after.result c.self.inside.stock.items
+      (items_with all c.self.inside.keep.kept c.in_ok-difference.difference.new_boards c.self.inside.rows.entries)
+  items_continue =
+      config_continues c.self.inside.shelf c.args.config c.self.inside.rows.entries c.busy.ensures.all c.self.inside.keep.kept
+      c.in_ok-difference.difference c.self.inside.totals c.self.inside.stock.items c.of-after.result boards_differ c.self.invariant.stock seen_behind.works
+
+  counted : (totals : Totals) → totals ≡ totals_after all c.self.inside.totals c.in_ok-difference.difference.gone_boards
+      c.in_ok-difference.difference.new_boards → totals ≡ totals_of all (keys_of (length all) (boards_in all (map entry_sight c.self.inside.rows.entries)))
+  counted totals is =
+      config_counted c.self.inside.shelf c.args.config c.self.inside.rows.entries c.busy.ensures.all c.in_ok-difference.difference.gone_boards
+      c.in_ok-difference.difference.new_boards c.self.inside.totals totals boards_differ c.self.invariant.stock.counted is
+
 -- ---- a limit
 
 pub returns-in-Err-clause-tried : goal.returns-in-Err-clause-tried
@@ -58,23 +101,9 @@ returns-in-Err-clause-tried g c =
       kept = c.self.inside.keep.kept;
       changes = c.self.inside.changes.items;
     } in
-    let was = seen c.self.inside.shelf c.self.inside.rows.entries c.of-before.result c.self.inside.set.rules c.self.inside.set.rows
-    (c.of-before.ensures.facts ∙ c.facts.ensures.current ∙ ap (λ (set : SetView). facts set.rules (sights_of set.rows)) c.in_ok-next.ensures.ok)
-    c.self.invariant.rules c.self.invariant.rows (c.of-before.ensures.entries ∙ c.busy.ensures.value) in
-    let is = seen (c.self.inside.shelf ++ c.args.config ∷ []) c.self.inside.rows.entries c.of-after.result _ c.self.inside.set.rows
-    (c.of-after.ensures.facts ∙ c.facts-2.ensures ∙ ap (λ (next : NextFacts). next.facts) c.in_ok-next.ensures.next)
-    (rules_more c.self.inside.set.rules c.self.inside.shelf c.args.config c.name.result c.probe.result.now c.as_slice.result.now c.self.invariant.rules
-    c.name.ensures c.probe.ensures (c.as_slice.ensures ∙ c.in_ok-fixed.ensures))
-    c.self.invariant.rows (c.of-after.ensures.entries ∙ c.busy-2.ensures.value) in
-    let differs = difference_is c.self.inside.shelf (c.self.inside.shelf ++ c.args.config ∷ []) c.of-before.result c.of-after.result
-    c.self.inside.rows.entries c.self.inside.rows.entries c.in_ok-difference.difference.gone_boards c.in_ok-difference.difference.new_boards was is
-    c.in_ok-difference.ensures in
-    let totals = totals_after (c.self.inside.shelf ++ c.args.config ∷ []) c.self.inside.totals c.in_ok-difference.difference.gone_boards
-    c.in_ok-difference.difference.new_boards in
-    let counted = config_counted c.self.inside.shelf c.args.config c.self.inside.rows.entries c.busy.ensures.all
-    c.in_ok-difference.difference.gone_boards c.in_ok-difference.difference.new_boards c.self.inside.totals totals differs
-    c.self.invariant.stock.counted refl in
-    let limit = limit_named (c.self.inside.shelf ++ c.args.config ∷ []) c.self.inside.rows.entries totals c.in-Err.fault counted c.in-Err.ensures
+    let compared = (goal.at.returns-in-Err-clause-tried g c).In_ok-difference in
+    let limit = limit_named (c.self.inside.shelf ++ c.args.config ∷ []) c.self.inside.rows.entries _ c.in-Err.fault
+    (counted g compared _ refl) c.in-Err.ensures
     ∙ ap Some (sym c.limit_refused.ensures) in
     let never = ap (λ (view : WatchView). view.plugged) c.self.view_is ∙ c.requires.never in
     let empty = no_entries c.self.inside.plugged c.self.inside.rows.entries never c.self.invariant.none in
@@ -93,40 +122,10 @@ returns-in-Err-clause-tried g c =
 -- ---- the items
 
 pub prepare-requires-clause-order : goal.prepare-requires-clause-order
-prepare-requires-clause-order g c =
-    let was = seen c.self.inside.shelf c.self.inside.rows.entries c.of-before.result c.self.inside.set.rules c.self.inside.set.rows
-    (c.of-before.ensures.facts ∙ c.facts.ensures.current ∙ ap (λ (set : SetView). facts set.rules (sights_of set.rows)) c.in_ok-next.ensures.ok)
-    c.self.invariant.rules c.self.invariant.rows (c.of-before.ensures.entries ∙ c.busy.ensures.value) in
-    let is = seen (c.self.inside.shelf ++ c.args.config ∷ []) c.self.inside.rows.entries c.of-after.result _ c.self.inside.set.rows
-    (c.of-after.ensures.facts ∙ c.facts-2.ensures ∙ ap (λ (next : NextFacts). next.facts) c.in_ok-next.ensures.next)
-    (rules_more c.self.inside.set.rules c.self.inside.shelf c.args.config c.name.result c.probe.result.now c.as_slice.result.now c.self.invariant.rules
-    c.name.ensures c.probe.ensures (c.as_slice.ensures ∙ c.in_ok-fixed.ensures))
-    c.self.invariant.rows (c.of-after.ensures.entries ∙ c.busy-2.ensures.value) in
-    let differs = difference_is c.self.inside.shelf (c.self.inside.shelf ++ c.args.config ∷ []) c.of-before.result c.of-after.result
-    c.self.inside.rows.entries c.self.inside.rows.entries c.in_ok-difference.difference.gone_boards c.in_ok-difference.difference.new_boards was is
-    c.in_ok-difference.ensures in
-    let continue = config_continues c.self.inside.shelf c.args.config c.self.inside.rows.entries c.busy.ensures.all c.self.inside.keep.kept
-    c.in_ok-difference.difference c.self.inside.totals c.self.inside.stock.items c.of-after.result differs c.self.invariant.stock is.works in
-    continue.order
+prepare-requires-clause-order g c = (items_continue g (goal.at.prepare-requires-clause-order g c).In_ok-difference).order
 
 pub prepare-requires-clause-tie : goal.prepare-requires-clause-tie
-prepare-requires-clause-tie g c =
-    let was = seen c.self.inside.shelf c.self.inside.rows.entries c.of-before.result c.self.inside.set.rules c.self.inside.set.rows
-    (c.of-before.ensures.facts ∙ c.facts.ensures.current ∙ ap (λ (set : SetView). facts set.rules (sights_of set.rows)) c.in_ok-next.ensures.ok)
-    c.self.invariant.rules c.self.invariant.rows (c.of-before.ensures.entries ∙ c.busy.ensures.value) in
-    let is = seen (c.self.inside.shelf ++ c.args.config ∷ []) c.self.inside.rows.entries c.of-after.result _ c.self.inside.set.rows
-    (c.of-after.ensures.facts ∙ c.facts-2.ensures ∙ ap (λ (next : NextFacts). next.facts) c.in_ok-next.ensures.next)
-    (rules_more c.self.inside.set.rules c.self.inside.shelf c.args.config c.name.result c.probe.result.now c.as_slice.result.now c.self.invariant.rules
-    c.name.ensures c.probe.ensures (c.as_slice.ensures ∙ c.in_ok-fixed.ensures))
-    c.self.invariant.rows (c.of-after.ensures.entries ∙ c.busy-2.ensures.value) in
-    let differs = difference_is c.self.inside.shelf (c.self.inside.shelf ++ c.args.config ∷ []) c.of-before.result c.of-after.result
-    c.self.inside.rows.entries c.self.inside.rows.entries c.in_ok-difference.difference.gone_boards c.in_ok-difference.difference.new_boards was is
-    c.in_ok-difference.ensures in
-    let continue = config_continues c.self.inside.shelf c.args.config c.self.inside.rows.entries c.busy.ensures.all c.self.inside.keep.kept
-    c.in_ok-difference.difference c.self.inside.totals c.self.inside.stock.items c.of-after.result differs c.self.invariant.stock is.works in (
-      items_with (c.self.inside.shelf ++ c.args.config ∷ []) c.self.inside.keep.kept c.in_ok-difference.difference.new_boards c.self.inside.rows.entries,
-      continue.follows,
-    )
+prepare-requires-clause-tie g c = (_, (items_continue g (goal.at.prepare-requires-clause-tie g c).In_ok-difference).follows)
 
 -- ---- want of memory
 
@@ -216,17 +215,7 @@ returns-in_err-add-clause-same g c =
 
 pub tell_changes-requires-clause-staged : goal.tell_changes-requires-clause-staged
 tell_changes-requires-clause-staged g c =
-    let was = seen c.self.inside.shelf c.self.inside.rows.entries c.of-before.result c.self.inside.set.rules c.self.inside.set.rows
-    (c.of-before.ensures.facts ∙ c.facts.ensures.current ∙ ap (λ (set : SetView). facts set.rules (sights_of set.rows)) c.in_ok-next.ensures.ok)
-    c.self.invariant.rules c.self.invariant.rows (c.of-before.ensures.entries ∙ c.busy.ensures.value) in
-    let is = seen (c.self.inside.shelf ++ c.args.config ∷ []) c.self.inside.rows.entries c.of-after.result _ c.self.inside.set.rows
-    (c.of-after.ensures.facts ∙ c.facts-2.ensures ∙ ap (λ (next : NextFacts). next.facts) c.in_ok-next.ensures.next)
-    (rules_more c.self.inside.set.rules c.self.inside.shelf c.args.config c.name.result c.probe.result.now c.as_slice.result.now c.self.invariant.rules
-    c.name.ensures c.probe.ensures (c.as_slice.ensures ∙ c.in_ok-fixed.ensures))
-    c.self.invariant.rows (c.of-after.ensures.entries ∙ c.busy-2.ensures.value) in
-    let differs = difference_is c.self.inside.shelf (c.self.inside.shelf ++ c.args.config ∷ []) c.of-before.result c.of-after.result
-    c.self.inside.rows.entries c.self.inside.rows.entries c.in_ok-difference.difference.gone_boards c.in_ok-difference.difference.new_boards was is
-    c.in_ok-difference.ensures in
+    let differs = boards_differ g (goal.at.tell_changes-requires-clause-staged g c).In_ok-difference in
     let differs_now = subst (λ (configs : List Config). IsDifference (length c.self.inside.shelf) (length configs)
     (boards_in c.self.inside.shelf (map entry_sight c.self.inside.rows.entries)) (boards_in configs (map entry_sight c.self.inside.rows.entries))
     c.in_ok-difference.difference.gone_boards c.in_ok-difference.difference.new_boards) (sym c.in_ok-add.ensures.ok) differs in
@@ -234,70 +223,68 @@ tell_changes-requires-clause-staged g c =
 
 pub tell_changes-requires-clause-gone : goal.tell_changes-requires-clause-gone
 tell_changes-requires-clause-gone g c =
-    let was = seen c.self.inside.shelf c.self.inside.rows.entries c.of-before.result c.self.inside.set.rules c.self.inside.set.rows
-    (c.of-before.ensures.facts ∙ c.facts.ensures.current ∙ ap (λ (set : SetView). facts set.rules (sights_of set.rows)) c.in_ok-next.ensures.ok)
-    c.self.invariant.rules c.self.invariant.rows (c.of-before.ensures.entries ∙ c.busy.ensures.value) in
-    let is = seen (c.self.inside.shelf ++ c.args.config ∷ []) c.self.inside.rows.entries c.of-after.result _ c.self.inside.set.rows
-    (c.of-after.ensures.facts ∙ c.facts-2.ensures ∙ ap (λ (next : NextFacts). next.facts) c.in_ok-next.ensures.next)
-    (rules_more c.self.inside.set.rules c.self.inside.shelf c.args.config c.name.result c.probe.result.now c.as_slice.result.now c.self.invariant.rules
-    c.name.ensures c.probe.ensures (c.as_slice.ensures ∙ c.in_ok-fixed.ensures))
-    c.self.invariant.rows (c.of-after.ensures.entries ∙ c.busy-2.ensures.value) in
-    let differs = difference_is c.self.inside.shelf (c.self.inside.shelf ++ c.args.config ∷ []) c.of-before.result c.of-after.result
-    c.self.inside.rows.entries c.self.inside.rows.entries c.in_ok-difference.difference.gone_boards c.in_ok-difference.difference.new_boards was is
-    c.in_ok-difference.ensures in
+    let differs = boards_differ g (goal.at.tell_changes-requires-clause-gone g c).In_ok-difference in
     subst (λ (configs : List Config). AreWithin c.in_ok-gone.gone (length configs)) (sym c.in_ok-add.ensures.ok)
     (within_more c.in_ok-gone.gone c.self.inside.shelf c.args.config (gone_within _ _ _ _ _ _ _ differs c.in_ok-gone.ensures.gone))
 
+-- ---- what is known once all is taken over
+
+module _ (g : Over) (c : After-commit-2 g) where
+  abbrev before : WatchView
+  before = record {
+    configs = c.self.inside.shelf;
+    entries = c.self.inside.rows.entries;
+    plugged = c.self.inside.plugged;
+    kept = c.self.inside.keep.kept;
+    changes = c.self.inside.changes.items;
+  }
+
+  abbrev behind : List Config → WatchView
+  behind configs = record {
+    configs = configs;
+    entries = c.self.inside.rows.entries;
+    plugged = c.self.inside.plugged;
+    kept = c.tell_changes.new.keep.kept;
+    changes = c.tell_items.new.changes.items;
+  }
+
+  abbrev grown : List Config
+  grown = c.self.inside.shelf ++ c.args.config ∷ []
+
+  abbrev items_then : List Config → List Item
+  items_then configs = items_with configs c.self.inside.keep.kept c.in_ok-difference.difference.new_boards c.self.inside.rows.entries
+
+  -- the items that are staged are those behind the step
+  staged : Continues grown c.self.inside.keep.kept c.in_ok-difference.difference c.of-after.result c.self.inside.stock.items (items_then grown)
+      → c.prepare.new.self.staged ≡ Some (items_then grown)
+  staged continue = c.in_ok-items.ensures.staged _ continue.follows
+
+  next : IsDifference (length c.self.inside.shelf) (length grown) (boards_in c.self.inside.shelf (map entry_sight c.self.inside.rows.entries))
+      (boards_in grown (map entry_sight c.self.inside.rows.entries)) c.in_ok-difference.difference.gone_boards c.in_ok-difference.difference.new_boards
+      → c.in-Ok.totals ≡ totals_of grown (keys_of (length grown) (boards_in grown (map entry_sight c.self.inside.rows.entries)))
+      → c.prepare.new.self.staged ≡ Some (items_then grown)
+      → IsNext before (behind c.add.new.self) c.in-Ok.totals (items_then grown) c.in_ok-items.items.gone c.in_ok-items.items.new
+  next differs counted are_staged =
+      let differs_now = subst (λ (configs : List Config). IsDifference (length c.self.inside.shelf) (length configs)
+      (boards_in c.self.inside.shelf (map entry_sight c.self.inside.rows.entries)) (boards_in configs (map entry_sight c.self.inside.rows.entries))
+      c.in_ok-difference.difference.gone_boards c.in_ok-difference.difference.new_boards) (sym c.in_ok-add.ensures.ok) differs in
+      let tells = tells_those c.add.new.self c.in_ok-difference.difference.gone_boards c.in_ok-difference.difference.new_boards c.in_ok-gone.gone
+      c.stage_changes.new.keep.staged _ _ _ c.in_ok-gone.ensures.gone c.in_ok-gone.ensures.staged c.tell_changes.ensures.told in
+      taken_over before (behind c.add.new.self) (c.args.config ∷ []) c.in_ok-difference.difference.gone_boards c.in_ok-difference.difference.new_boards
+      c.stage_changes.new.keep.kept c.tell_changes.new.keep.kept c.tell_changes.new.changes.items c.self.inside.totals c.in-Ok.totals
+      c.self.inside.stock.items _ c.in_ok-items.items c.in_ok-add.ensures.ok c.self.invariant.stock differs_now c.stage_changes.ensures.kept tells refl
+      (subst (λ (configs : List Config). c.in-Ok.totals ≡ totals_of configs (keys_of (length configs)
+      (boards_in configs (map entry_sight c.self.inside.rows.entries)))) (sym c.in_ok-add.ensures.ok) counted)
+      (ap limit_of c.in-Ok.ensures.0 ∙ c.in-Ok.ensures.1) (ap items_then (sym c.in_ok-add.ensures.ok))
+      (told_by c.self.inside.stock.items c.in_ok-items.items c.prepare.new.self.staged _ are_staged c.in_ok-items.ensures.gone c.in_ok-items.ensures.new)
+      c.tell_items.ensures.items
+
 pub invariant_of-self-2 : goal.invariant_of-self-2
 invariant_of-self-2 g c =
-    let old : WatchView = record {
-      configs = c.self.inside.shelf;
-      entries = c.self.inside.rows.entries;
-      plugged = c.self.inside.plugged;
-      kept = c.self.inside.keep.kept;
-      changes = c.self.inside.changes.items;
-    } in
-    let new : WatchView = record {
-      configs = c.add.new.self;
-      entries = c.self.inside.rows.entries;
-      plugged = c.self.inside.plugged;
-      kept = c.tell_changes.new.keep.kept;
-      changes = c.tell_items.new.changes.items;
-    } in
-    let was = seen c.self.inside.shelf c.self.inside.rows.entries c.of-before.result c.self.inside.set.rules c.self.inside.set.rows
-    (c.of-before.ensures.facts ∙ c.facts.ensures.current ∙ ap (λ (set : SetView). facts set.rules (sights_of set.rows)) c.in_ok-next.ensures.ok)
-    c.self.invariant.rules c.self.invariant.rows (c.of-before.ensures.entries ∙ c.busy.ensures.value) in
-    let is = seen (c.self.inside.shelf ++ c.args.config ∷ []) c.self.inside.rows.entries c.of-after.result _ c.self.inside.set.rows
-    (c.of-after.ensures.facts ∙ c.facts-2.ensures ∙ ap (λ (next : NextFacts). next.facts) c.in_ok-next.ensures.next)
-    (rules_more c.self.inside.set.rules c.self.inside.shelf c.args.config c.name.result c.probe.result.now c.as_slice.result.now c.self.invariant.rules
-    c.name.ensures c.probe.ensures (c.as_slice.ensures ∙ c.in_ok-fixed.ensures))
-    c.self.invariant.rows (c.of-after.ensures.entries ∙ c.busy-2.ensures.value) in
-    let differs = difference_is c.self.inside.shelf (c.self.inside.shelf ++ c.args.config ∷ []) c.of-before.result c.of-after.result
-    c.self.inside.rows.entries c.self.inside.rows.entries c.in_ok-difference.difference.gone_boards c.in_ok-difference.difference.new_boards was is
-    c.in_ok-difference.ensures in
-    let differs_now = subst (λ (configs : List Config). IsDifference (length c.self.inside.shelf) (length configs)
-    (boards_in c.self.inside.shelf (map entry_sight c.self.inside.rows.entries)) (boards_in configs (map entry_sight c.self.inside.rows.entries))
-    c.in_ok-difference.difference.gone_boards c.in_ok-difference.difference.new_boards) (sym c.in_ok-add.ensures.ok) differs in
-    let tells = tells_those c.add.new.self c.in_ok-difference.difference.gone_boards c.in_ok-difference.difference.new_boards c.in_ok-gone.gone
-    c.stage_changes.new.keep.staged _ _ _ c.in_ok-gone.ensures.gone c.in_ok-gone.ensures.staged c.tell_changes.ensures.told in
-    let counted = config_counted c.self.inside.shelf c.args.config c.self.inside.rows.entries c.busy.ensures.all
-    c.in_ok-difference.difference.gone_boards c.in_ok-difference.difference.new_boards c.self.inside.totals c.in-Ok.totals differs
-    c.self.invariant.stock.counted
-    c.in-Ok.ensures.0 in
-    let continue = config_continues c.self.inside.shelf c.args.config c.self.inside.rows.entries c.busy.ensures.all c.self.inside.keep.kept
-    c.in_ok-difference.difference c.self.inside.totals c.self.inside.stock.items c.of-after.result differs c.self.invariant.stock is.works in
-    let staged = c.in_ok-items.ensures.staged _ continue.follows in
-    let next : IsNext old new c.in-Ok.totals _ c.in_ok-items.items.gone c.in_ok-items.items.new =
-    taken_over old new (c.args.config ∷ []) c.in_ok-difference.difference.gone_boards c.in_ok-difference.difference.new_boards
-    c.stage_changes.new.keep.kept c.tell_changes.new.keep.kept c.tell_changes.new.changes.items c.self.inside.totals c.in-Ok.totals
-    c.self.inside.stock.items _ c.in_ok-items.items c.in_ok-add.ensures.ok c.self.invariant.stock differs_now c.stage_changes.ensures.kept tells refl
-    (subst (λ (configs : List Config). c.in-Ok.totals ≡ totals_of configs (keys_of (length configs)
-    (boards_in configs (map entry_sight c.self.inside.rows.entries)))) (sym c.in_ok-add.ensures.ok) counted)
-    (ap limit_of c.in-Ok.ensures.0 ∙ c.in-Ok.ensures.1)
-    (ap (λ (configs : List Config). items_with configs c.self.inside.keep.kept c.in_ok-difference.difference.new_boards c.self.inside.rows.entries)
-    (sym c.in_ok-add.ensures.ok))
-    (told_by c.self.inside.stock.items c.in_ok-items.items c.prepare.new.self.staged _ staged c.in_ok-items.ensures.gone c.in_ok-items.ensures.new)
-    c.tell_items.ensures.items in
+    let done = (goal.at.invariant_of-self-2 g c).After-commit-2 in
+    let compared = (goal.at.invariant_of-self-2 g c).In_ok-difference in
+    let are_staged = staged g done (items_continue g compared) in
+    let is = next g done (boards_differ g compared) (counted g compared _ c.in-Ok.ensures.0) are_staged in
     let set = set_after (ConfigEvent (rule_of c.name.result c.probe.result.now c.as_slice.result.now)) c.self.inside.set c.prepare_config.new.self
     c.commit.new.self c.in_ok-next.ensures.ok c.commit.ensures in
     record {
@@ -308,62 +295,19 @@ invariant_of-self-2 g c =
       rows = set.1 ∙ c.self.invariant.rows;
       none = c.self.invariant.none;
       stock = subst (IsStocked c.add.new.self c.self.inside.rows.entries c.tell_changes.new.keep.kept c.in-Ok.totals) (sym
-          (stock_is c.prepare.new.self.staged _ c.commit-2.new.self.items staged c.commit-2.ensures.items)) next.stocked;
+          (stock_is c.prepare.new.self.staged _ c.commit-2.new.self.items are_staged c.commit-2.ensures.items)) is.stocked;
       room = omega (arith, c.self.invariant.room, c.stage_changes.ensures.more, c.tell_changes.ensures.capacity, c.tell_items.ensures.capacity);
     }
 
 pub returns-clause-tried : goal.returns-clause-tried
 returns-clause-tried g c =
-    let old : WatchView = record {
-      configs = c.self.inside.shelf;
-      entries = c.self.inside.rows.entries;
-      plugged = c.self.inside.plugged;
-      kept = c.self.inside.keep.kept;
-      changes = c.self.inside.changes.items;
-    } in
-    let new : WatchView = record {
-      configs = c.add.new.self;
-      entries = c.self.inside.rows.entries;
-      plugged = c.self.inside.plugged;
-      kept = c.tell_changes.new.keep.kept;
-      changes = c.tell_items.new.changes.items;
-    } in
-    let was = seen c.self.inside.shelf c.self.inside.rows.entries c.of-before.result c.self.inside.set.rules c.self.inside.set.rows
-    (c.of-before.ensures.facts ∙ c.facts.ensures.current ∙ ap (λ (set : SetView). facts set.rules (sights_of set.rows)) c.in_ok-next.ensures.ok)
-    c.self.invariant.rules c.self.invariant.rows (c.of-before.ensures.entries ∙ c.busy.ensures.value) in
-    let is = seen (c.self.inside.shelf ++ c.args.config ∷ []) c.self.inside.rows.entries c.of-after.result _ c.self.inside.set.rows
-    (c.of-after.ensures.facts ∙ c.facts-2.ensures ∙ ap (λ (next : NextFacts). next.facts) c.in_ok-next.ensures.next)
-    (rules_more c.self.inside.set.rules c.self.inside.shelf c.args.config c.name.result c.probe.result.now c.as_slice.result.now c.self.invariant.rules
-    c.name.ensures c.probe.ensures (c.as_slice.ensures ∙ c.in_ok-fixed.ensures))
-    c.self.invariant.rows (c.of-after.ensures.entries ∙ c.busy-2.ensures.value) in
-    let differs = difference_is c.self.inside.shelf (c.self.inside.shelf ++ c.args.config ∷ []) c.of-before.result c.of-after.result
-    c.self.inside.rows.entries c.self.inside.rows.entries c.in_ok-difference.difference.gone_boards c.in_ok-difference.difference.new_boards was is
-    c.in_ok-difference.ensures in
-    let differs_now = subst (λ (configs : List Config). IsDifference (length c.self.inside.shelf) (length configs)
-    (boards_in c.self.inside.shelf (map entry_sight c.self.inside.rows.entries)) (boards_in configs (map entry_sight c.self.inside.rows.entries))
-    c.in_ok-difference.difference.gone_boards c.in_ok-difference.difference.new_boards) (sym c.in_ok-add.ensures.ok) differs in
-    let tells = tells_those c.add.new.self c.in_ok-difference.difference.gone_boards c.in_ok-difference.difference.new_boards c.in_ok-gone.gone
-    c.stage_changes.new.keep.staged _ _ _ c.in_ok-gone.ensures.gone c.in_ok-gone.ensures.staged c.tell_changes.ensures.told in
-    let counted = config_counted c.self.inside.shelf c.args.config c.self.inside.rows.entries c.busy.ensures.all
-    c.in_ok-difference.difference.gone_boards c.in_ok-difference.difference.new_boards c.self.inside.totals c.in-Ok.totals differs
-    c.self.invariant.stock.counted
-    c.in-Ok.ensures.0 in
-    let continue = config_continues c.self.inside.shelf c.args.config c.self.inside.rows.entries c.busy.ensures.all c.self.inside.keep.kept
-    c.in_ok-difference.difference c.self.inside.totals c.self.inside.stock.items c.of-after.result differs c.self.invariant.stock is.works in
-    let staged = c.in_ok-items.ensures.staged _ continue.follows in
-    let next : IsNext old new c.in-Ok.totals _ c.in_ok-items.items.gone c.in_ok-items.items.new =
-    taken_over old new (c.args.config ∷ []) c.in_ok-difference.difference.gone_boards c.in_ok-difference.difference.new_boards
-    c.stage_changes.new.keep.kept c.tell_changes.new.keep.kept c.tell_changes.new.changes.items c.self.inside.totals c.in-Ok.totals
-    c.self.inside.stock.items _ c.in_ok-items.items c.in_ok-add.ensures.ok c.self.invariant.stock differs_now c.stage_changes.ensures.kept tells refl
-    (subst (λ (configs : List Config). c.in-Ok.totals ≡ totals_of configs (keys_of (length configs)
-    (boards_in configs (map entry_sight c.self.inside.rows.entries)))) (sym c.in_ok-add.ensures.ok) counted)
-    (ap limit_of c.in-Ok.ensures.0 ∙ c.in-Ok.ensures.1)
-    (ap (λ (configs : List Config). items_with configs c.self.inside.keep.kept c.in_ok-difference.difference.new_boards c.self.inside.rows.entries)
-    (sym c.in_ok-add.ensures.ok))
-    (told_by c.self.inside.stock.items c.in_ok-items.items c.prepare.new.self.staged _ staged c.in_ok-items.ensures.gone c.in_ok-items.ensures.new)
-    c.tell_items.ensures.items in
+    let done = (goal.at.returns-clause-tried g c).After-commit-2 in
+    let compared = (goal.at.returns-clause-tried g c).In_ok-difference in
+    let is = next g done (boards_differ g compared) (counted g compared _ c.in-Ok.ensures.0) (staged g done (items_continue g compared)) in
+    let old = before g done in
+    let new = behind g done c.add.new.self in
     let follows = settles old new c.in_ok-items.items.gone c.in_ok-items.items.new c.args.sensors.now c.stage_changes.new.sensors c.settle_sensors.new.sensors
-    next.goes next.comes c.stage_changes.ensures.sensors c.settle_sensors.ensures in
+    is.goes is.comes c.stage_changes.ensures.sensors c.settle_sensors.ensures in
     let never = ap (λ (view : WatchView). view.plugged) c.self.view_is ∙ c.requires.never in
     let empty = no_entries c.self.inside.plugged c.self.inside.rows.entries never c.self.invariant.none in
     subst (λ (view : WatchView). Tries view (Configure c.args.config) None new × Settles view new c.args.sensors.now c.settle_sensors.new.sensors)
@@ -373,8 +317,8 @@ returns-clause-tried g c =
           (lt-leb most_configs (length c.self.inside.shelf)
           (omega (arith, c.requires.few, ap (λ (view : WatchView). length view.configs) c.self.view_is)))
           c.in_ok-add.ensures.ok refl refl
-          (no_refusal new.configs new.entries new.kept c.in-Ok.totals _ next.stocked)
-          next.moves,
+          (no_refusal new.configs new.entries new.kept c.in-Ok.totals _ is.stocked)
+          is.moves,
       follows,
     )
 
