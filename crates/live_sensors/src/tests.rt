@@ -102,80 +102,30 @@ fn shown(sensors: &LiveSensors, name: &str) -> Result<Option<(Option<i64>, bool)
 
 #[test]
 fn sensors_come_and_go(rt: HostRuntime) -> Result<(), Fail> {
+    let new = Some((None, false));
+    let first_read = Some((Some(107), false));
+    let low = Some((Some(92), false));
+    let failed = Some((Some(92), true));
+    let well_again = Some((Some(101), false));
     let rows = [
         ("T", Act::Lose, None, None),
-        ("T", Act::Come, Some((None, false)), None),
-        ("U", Act::Come, Some((None, false)), Some((None, false))),
-        (
-            "T",
-            Act::Read(5),
-            Some((Some(107), false)),
-            Some((None, false)),
-        ),
-        (
-            "U",
-            Act::Read(-5),
-            Some((Some(107), false)),
-            Some((Some(92), false)),
-        ),
-        (
-            "U",
-            Act::Lose,
-            Some((Some(107), false)),
-            Some((Some(92), false)),
-        ),
-        (
-            "U",
-            Act::Lose,
-            Some((Some(107), false)),
-            Some((Some(92), false)),
-        ),
-        (
-            "U",
-            Act::Lose,
-            Some((Some(107), false)),
-            Some((Some(92), false)),
-        ),
-        (
-            "U",
-            Act::Lose,
-            Some((Some(107), false)),
-            Some((Some(92), false)),
-        ),
-        (
-            "U",
-            Act::Lose,
-            Some((Some(107), false)),
-            Some((Some(92), true)),
-        ),
-        (
-            "U",
-            Act::FanGoes,
-            Some((Some(107), false)),
-            Some((Some(92), true)),
-        ),
-        (
-            "T",
-            Act::Lose,
-            Some((Some(107), false)),
-            Some((Some(92), true)),
-        ),
-        (
-            "U",
-            Act::Read(1),
-            Some((Some(107), false)),
-            Some((Some(101), false)),
-        ),
-        ("T", Act::Go, None, Some((Some(101), false))),
-        ("T", Act::Read(5), None, Some((Some(101), false))),
-        (
-            "T",
-            Act::Come,
-            Some((None, false)),
-            Some((Some(101), false)),
-        ),
-        ("U", Act::Come, Some((None, false)), Some((None, false))),
-        ("U", Act::Go, Some((None, false)), None),
+        ("T", Act::Come, new, None),
+        ("U", Act::Come, new, new),
+        ("T", Act::Read(5), first_read, new),
+        ("U", Act::Read(-5), first_read, low),
+        ("U", Act::Lose, first_read, low),
+        ("U", Act::Lose, first_read, low),
+        ("U", Act::Lose, first_read, low),
+        ("U", Act::Lose, first_read, low),
+        ("U", Act::Lose, first_read, failed),
+        ("U", Act::FanGoes, first_read, failed),
+        ("T", Act::Lose, first_read, failed),
+        ("U", Act::Read(1), first_read, well_again),
+        ("T", Act::Go, None, well_again),
+        ("T", Act::Read(5), None, well_again),
+        ("T", Act::Come, new, well_again),
+        ("U", Act::Come, new, new),
+        ("U", Act::Go, new, None),
     ];
     let mut sensors = LiveSensors::new(rt.alloc())?;
     for (number, (name, act, first, second)) in rows.iter().enumerate() {
