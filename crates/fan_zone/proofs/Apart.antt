@@ -16,7 +16,7 @@ use Rattle.fan_zone.specs.Live.{LiveControl, controls, id_eq, id_of}
 use Rattle.fan_zone.specs.declared.held.Held.{Held}
 use Rattle.fan_zone.specs.declared.held.Seat.{Seat}
 use Rattle.fan_zone.specs.declared.rows.ZoneRow.{ZoneRow}
-use Rattle.fan_zone.specs.declared.holder.Holder.{Holder}
+use Rattle.live_sensors.specs.Sensors.{LiveSensors}
 use Rattle.fan_zone.specs.Ticks.{ZonesView}
 use Rattle.fan_zone.specs.Sets.{Seating, find_held, kept_seat, kept_numbers, is_taken, free, held_of, seated, seated_free, seat_next, seat_all}
 use Rattle.fan_zone.specs.Seats.{IsRoomy}
@@ -132,7 +132,7 @@ other_id id [] k d all lt = absurd (omega arith)
 other_id id (c ∷ left) zero d all lt = λ e. true≢false (sym (ap (λ (other : ItemId). id_eq id other) (sym e) ∙ id_self id) ∙ all.0)
 other_id id (c ∷ left) (suc k) d all lt = other_id id left k d all.1 (omega arith)
 
-separate_kept : (rows : List ZoneRow) (sensors : List Holder) (old : List Held) (s : Seating) (c : LiveControl) (left : List LiveControl) (seat : Seat)
+separate_kept : (rows : List ZoneRow) (sensors : LiveSensors) (old : List Held) (s : Seating) (c : LiveControl) (left : List LiveControl) (seat : Seat)
     → Differ (numbers old) → kept_seat old c.id ≡ Some seat → Separate old s (c ∷ left)
     → Separate old (seated rows sensors c s (Some seat)) left
 separate_kept rows sensors old s c left seat d e a =
@@ -160,7 +160,7 @@ none_sits (h ∷ held) taken n all not =
     neither2 (nat_eq h.number n) (is_taken (numbers held) n) apart (none_sits held taken n
     (all_tail (λ (x : Held). is_taken taken x.number ≡ true) h held all) not)
 
-separate_new : (rows : List ZoneRow) (sensors : List Holder) (old : List Held) (base : List ℕ) (start : List Seen) (s : Seating) (c : LiveControl)
+separate_new : (rows : List ZoneRow) (sensors : LiveSensors) (old : List Held) (base : List ℕ) (start : List Seen) (s : Seating) (c : LiveControl)
     (left : List LiveControl) (n : ℕ) → IsRoomy old s (c ∷ left) → Untouched base start s
     → All (IsNoted old base) left → free (kind_of c.item.setting) s.taken 0 s.bank ≡ Some n → Separate old s (c ∷ left)
     → Separate old (seated_free rows sensors c s (Some n)) left
@@ -178,7 +178,7 @@ separate_new rows sensors old base start s c left n r u noted is a =
       ids = IsDistinct-tail id_eq c.id (map id_of left) a.ids;
     }
 
-separate_by : (rows : List ZoneRow) (sensors : List Holder) (old : List Held) (base : List ℕ) (start : List Seen) (s : Seating) (c : LiveControl)
+separate_by : (rows : List ZoneRow) (sensors : LiveSensors) (old : List Held) (base : List ℕ) (start : List Seen) (s : Seating) (c : LiveControl)
     (left : List LiveControl) (o : Option Seat) → kept_seat old c.id ≡ o → Differ (numbers old)
     → IsRoomy old s (c ∷ left) → Untouched base start s → All (IsNoted old base) left → Separate old s (c ∷ left)
     → Separate old (seated rows sensors c s o) left
@@ -188,7 +188,7 @@ separate_by rows sensors old base start s c left None e d r u noted a =
     subst (λ (o : Option ℕ). Separate old (seated_free rows sensors c s o) left) (sym f.1)
     (separate_new rows sensors old base start s c left f.0 r u noted f.1 a)
 
-separate_all : (rows : List ZoneRow) (sensors : List Holder) (old : List Held) (base : List ℕ) (start : List Seen) (s : Seating) (cs : List LiveControl)
+separate_all : (rows : List ZoneRow) (sensors : LiveSensors) (old : List Held) (base : List ℕ) (start : List Seen) (s : Seating) (cs : List LiveControl)
     → Differ (numbers old) → IsRoomy old s cs → Untouched base start s → All (IsNoted old base) cs
     → Separate old s cs → Differ (numbers (seat_all rows sensors old s cs).held)
 separate_all rows sensors old base start s [] d r u noted a = a.differ
@@ -198,7 +198,7 @@ separate_all rows sensors old base start s (c ∷ cs) d r u noted a =
     (untouched_next rows sensors old base start s c u) more
     (separate_by rows sensors old base start s c cs (kept_seat old c.id) refl d r u more a)
 
-pub apart_set : (live : List Item) (sensors : List Holder) (old : ZonesView) → IsSound old → CanSet old live
+pub apart_set : (live : List Item) (sensors : LiveSensors) (old : ZonesView) → IsSound old → CanSet old live
     → Differ (map number_of (seating_of old live sensors).held)
 apart_set live sensors old s can =
     let cs = controls live in

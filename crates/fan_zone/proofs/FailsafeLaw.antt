@@ -10,7 +10,7 @@ use Rattle.fan_zone.specs.declared.rows.ZonePlan.{ZonePlan}
 use Rattle.fan_zone.specs.declared.rows.ZoneRow.{ZoneRow}
 use Rattle.fan_zone.specs.declared.rows.FanPlan.{FanPlan}
 use Rattle.fan_zone.specs.declared.rows.FanRow.{FanRow}
-use Rattle.sensor_core.specs.Tables.{Table}
+use Rattle.sensor_core.specs.Sensors.{Sensor}
 use Rattle.fan_zone.specs.Inputs.{has_bad_input}
 use Rattle.fan_zone.specs.Passes.{milli}
 use Rattle.fan_zone.specs.Rows.{numbered, zone_row, fan_row, holder, holder_number, held_at, held_duty, is_in_failsafe, is_failsafe, failsafe_percent}
@@ -24,10 +24,11 @@ pub max_above : (a b : ℤ) → b ≤ℤ int_max a b
 max_above a b = omega (arith, ints, int_max_is a b)
 
 -- modes read no ages
-pub failsafe_aged : (sensors : Table) (now zone : ℕ) (held : List Held) → is_in_failsafe sensors now zone (map aged held) ≡ is_in_failsafe sensors now zone held
-failsafe_aged sensors now zone [] = refl
-failsafe_aged sensors now zone (one ∷ more) = ap (λ (b : Bool). (nat_eq one.zone zone && has_bad_input sensors now one.inputs) || b)
-    (failsafe_aged sensors now zone more)
+pub failsafe_aged : (slots : List (Option Sensor)) (now zone : ℕ) (held : List Held)
+    → is_in_failsafe slots now zone (map aged held) ≡ is_in_failsafe slots now zone held
+failsafe_aged slots now zone [] = refl
+failsafe_aged slots now zone (one ∷ more) = ap (λ (b : Bool). (nat_eq one.zone zone && has_bad_input slots now one.inputs) || b)
+    (failsafe_aged slots now zone more)
 
 -- what stands at a place of the aged list
 pub record WasAt (held : List Held) (n : Option ℕ) (one : Held) : Type 0 where
@@ -58,13 +59,13 @@ shown_failsafe f b all (row ∷ rows) zero lt = all row
 shown_failsafe f b all (row ∷ rows) (suc n) lt = shown_failsafe f b all rows n (omega arith)
 
 -- the mode of a zone after the tick
-pub zone_shows : (sensors : Table) (now : ℕ) (old : ZonesView) (zone : ℕ) → zone < length old.zone_rows
-    → is_failsafe (slice_get (zone_rows_after sensors now old) zone) ≡ is_in_failsafe sensors now zone old.held
-zone_shows sensors now old zone lt =
-    let f = zone_row sensors now old.zone_plans old.held (thermal_bank sensors now old) in
+pub zone_shows : (slots : List (Option Sensor)) (now : ℕ) (old : ZonesView) (zone : ℕ) → zone < length old.zone_rows
+    → is_failsafe (slice_get (zone_rows_after slots now old) zone) ≡ is_in_failsafe slots now zone old.held
+zone_shows slots now old zone lt =
+    let f = zone_row slots now old.zone_plans old.held (thermal_bank slots now old) in
     let none : 0 + zone ≡ zone = omega arith in
     ap is_failsafe (get-numbered f 0 old.zone_rows zone)
-    ∙ (shown_failsafe (f (0 + zone)) _ (λ row. refl) old.zone_rows zone lt ∙ ap (λ (z : ℕ). is_in_failsafe sensors now z old.held) none)
+    ∙ (shown_failsafe (f (0 + zone)) _ (λ row. refl) old.zone_rows zone lt ∙ ap (λ (z : ℕ). is_in_failsafe slots now z old.held) none)
 
 -- what a fan is commanded after it was written
 shown_duty : (f : FanRow → FanRow) (strict : Bool) (percent : ℤ) → ((row : FanRow) → IsSafe strict percent (f row).duty) → (rows : List FanRow) (n : ℕ)
@@ -95,19 +96,19 @@ planned (plan ∷ plans) held (suc fan) one e =
     let rest = planned plans held fan one e in
     omega (arith, rest)
 
-pub ticked_failsafe : (sensors : Table) (now : ℕ) (strict : Bool) (old : ZonesView) → AreInZones old.zone_rows old.held → length old.fan_plans
-    ≡ length old.fan_rows → IsFailsafe sensors now strict (ticked sensors now strict old)
-ticked_failsafe sensors now strict old zones fans = λ fan one e bad.
+pub ticked_failsafe : (slots : List (Option Sensor)) (now : ℕ) (strict : Bool) (old : ZonesView) → AreInZones old.zone_rows old.held → length old.fan_plans
+    ≡ length old.fan_rows → IsFailsafe slots now strict (ticked slots now strict old)
+ticked_failsafe slots now strict old zones fans = λ fan one e bad.
     let w = was_at old.held (holder_number (slice_get old.fan_plans fan)) one e in
-    let bank = bank_after sensors now old in
-    let rows = zone_rows_after sensors now old in
+    let bank = bank_after slots now old in
+    let rows = zone_rows_after slots now old in
     let f = fan_row strict old.held bank old.zone_plans rows old.fan_plans in
     let within : fan < length old.fan_rows = omega (arith, planned old.fan_plans (map aged old.held) fan one e, fans) in
     let zone : one.zone ≡ w.before.zone = ap (λ (h : Held). h.zone) w.is in
     let in_zone : w.before.zone < length old.zone_rows = in_zones old.zone_rows old.held (holder_number (slice_get old.fan_plans fan)) w.before zones w.at in
-    let was_bad : is_in_failsafe sensors now w.before.zone old.held ≡ true =
-    ap (λ (z : ℕ). is_in_failsafe sensors now z old.held) (sym zone) ∙ (sym (failsafe_aged sensors now one.zone old.held) ∙ bad) in
-    let shown : is_failsafe (slice_get rows w.before.zone) ≡ true = zone_shows sensors now old w.before.zone in_zone ∙ was_bad in
+    let was_bad : is_in_failsafe slots now w.before.zone old.held ≡ true =
+    ap (λ (z : ℕ). is_in_failsafe slots now z old.held) (sym zone) ∙ (sym (failsafe_aged slots now one.zone old.held) ∙ bad) in
+    let shown : is_failsafe (slice_get rows w.before.zone) ≡ true = zone_shows slots now old w.before.zone in_zone ∙ was_bad in
     let none : 0 + fan ≡ fan = omega arith in
     let at : holder old.fan_plans old.held (0 + fan) ≡ Some w.before = ap (λ (n : ℕ). holder old.fan_plans old.held n) none ∙ w.at in
     let percent = λ (z : ℕ). failsafe_percent (slice_get old.zone_plans z) in

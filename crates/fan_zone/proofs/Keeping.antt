@@ -1,11 +1,11 @@
 -- The boxes that are kept, one item on.
-use Rattle.std.proofs.Common.{◌≡◌, ℕ, cond, suc, ◌+◌, ◌<◌, ◌≤◌, List, [], ◌∷◌, ◌++◌, length, drop, get_or, Option, Some, None, refl, ap, sym, ◌∙◌, arith}
+use Rattle.std.proofs.Common.{◌≡◌, ℕ, cond, suc, ◌+◌, ◌<◌, ◌≤◌, List, [], ◌∷◌, ◌++◌, length, drop, get_or, Option, Some, None, refl, ap, sym, ◌∙◌, arith, Bor}
 use Rattle.std.proofs.lemmas.List.{append_assoc, append-nil, length-append, drop_more, drop_all}
 use Rattle.cfg_json.specs.declared.item.ItemId.{ItemId}
 use Rattle.cfg_json.specs.declared.item.Item.{Item}
 use Rattle.cfg_json.specs.declared.item.ItemPart.{ItemPart}
 use Rattle.cfg_json.specs.declared.item.ItemPart.TheVariants as parts
-use Rattle.fan_zone.specs.Live.{LiveControl, controls, with_control}
+use Rattle.fan_zone.specs.Live.{LiveControl, controls, items_of, with_control}
 use Rattle.std.specs.List.{count_by}
 use Rattle.std.specs.Option.{is_none}
 use Rattle.fan_zone.specs.declared.held.Held.{Held}
@@ -54,30 +54,32 @@ kept_or_new old (c ∷ a) =
     omega (arith, with_number_new (kept_seat old c.id) (kept_numbers old a), count_cons (is_new old) c a, kept_or_new old a)
 
 -- what the loop keeps
-pub record Keeping (old : List Held) (live : List Item) (start now : List ℕ) (capacity room_now n : ℕ) : Type 0 where
-  pub rest : now ++ kept_numbers old (controls (drop n live)) ≡ start ++ kept_numbers old (controls live)
-  pub room : length now + length (controls (drop n live)) ≤ room_now
+pub record Keeping (old : List Held) (live : List (Bor Item)) (start now : List ℕ) (capacity room_now n : ℕ) : Type 0 where
+  pub rest : now ++ kept_numbers old (controls (items_of (drop n live))) ≡ start ++ kept_numbers old (controls (items_of live))
+  pub room : length now + length (controls (items_of (drop n live))) ≤ room_now
   pub capacity_kept : capacity ≤ room_now
 
-pub keeping_more : (old : List Held) (live : List Item) (start now next : List ℕ) (capacity room_now room_next n : ℕ) (d item : Item)
+pub keeping_more : (old : List Held) (live : List (Bor Item)) (start now next : List ℕ) (capacity room_now room_next n : ℕ) (d item : Bor Item)
     → Keeping old live start now capacity room_now n → n < length live → item ≡ get_or live n d
-    → next ≡ now ++ kept_numbers old (controls (item ∷ [])) → room_now ≤ room_next → Keeping old live start next capacity room_next (n + 1)
+    → next ≡ now ++ kept_numbers old (controls (item.now ∷ [])) → room_now ≤ room_next → Keeping old live start next capacity room_next (n + 1)
 keeping_more old live start now next capacity room_now room_next n d item k lt at is room =
     let rest = drop (n + 1) live in
-    let one = controls (item ∷ []) in
-    let here : controls (drop n live) ≡ one ++ controls rest =
-    ap controls (drop_more live n d lt ∙ ap (λ (i : Item). i ∷ rest) (sym at)) ∙ controls_more item rest in
-    let size : length (controls (drop n live)) ≡ length one + length (controls rest) = ap length here ∙ length-append one (controls rest) in
+    let one = controls (item.now ∷ []) in
+    let here : controls (items_of (drop n live)) ≡ one ++ controls (items_of rest) =
+    ap (λ (l : List (Bor Item)). controls (items_of l))
+    (drop_more live n d lt ∙ ap (λ (i : Bor Item). i ∷ rest) (sym at)) ∙ controls_more item.now (items_of rest) in
+    let others = controls (items_of rest) in
+    let size : length (controls (items_of (drop n live))) ≡ length one + length others = ap length here ∙ length-append one others in
     let grown : length next ≡ length now + length (kept_numbers old one) = ap length is ∙ length-append now (kept_numbers old one) in
     record {
-      rest = ap (λ (l : List ℕ). l ++ kept_numbers old (controls rest)) is
-          ∙ (append_assoc now (kept_numbers old one) (kept_numbers old (controls rest))
-          ∙ (ap (λ (l : List ℕ). now ++ l) (sym (ap (kept_numbers old) here ∙ kept_append old one (controls rest))) ∙ k.rest));
+      rest = ap (λ (l : List ℕ). l ++ kept_numbers old others) is
+          ∙ (append_assoc now (kept_numbers old one) (kept_numbers old others)
+          ∙ (ap (λ (l : List ℕ). now ++ l) (sym (ap (kept_numbers old) here ∙ kept_append old one others)) ∙ k.rest));
       room = omega (arith, k.room, size, grown, kept_length old one, room);
       capacity_kept = omega (arith, k.capacity_kept, room);
     }
 
-pub keeping_end : (old : List Held) (live : List Item) (start now : List ℕ) (capacity room_now n : ℕ) → Keeping old live start now capacity room_now n
-    → length live ≤ n → now ≡ start ++ kept_numbers old (controls live)
+pub keeping_end : (old : List Held) (live : List (Bor Item)) (start now : List ℕ) (capacity room_now n : ℕ) → Keeping old live start now capacity room_now n
+    → length live ≤ n → now ≡ start ++ kept_numbers old (controls (items_of live))
 keeping_end old live start now capacity room_now n k le =
-    sym (ap (λ (l : List Item). now ++ kept_numbers old (controls l)) (drop_all n live le) ∙ append-nil now) ∙ k.rest
+    sym (ap (λ (l : List (Bor Item)). now ++ kept_numbers old (controls (items_of l))) (drop_all n live le) ∙ append-nil now) ∙ k.rest

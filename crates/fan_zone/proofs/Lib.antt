@@ -1,10 +1,11 @@
+pub mod ActsLemmas
 pub mod EqualLemmas
 pub mod Numbered
 pub mod FailsafeLaw
 pub mod Taken
 pub mod PassSteps
 pub mod Numbers
-pub mod Raised
+pub mod Shown
 pub mod RowFacts
 pub mod SoundLaw
 pub mod TickLaw

@@ -1,10 +1,10 @@
 -- The machine of the tests: what `set` asks for.
-use Rattle.std.proofs.Common.{◌≡◌, ℕ, ◌+◌, ◌≤◌, ℤ, pos, Bool, true, false, cond, List, [], ◌∷◌, length, map, refl, ap, sym, ◌∙◌, subst, arith}
+use Rattle.std.proofs.Common.{◌≡◌, ℕ, ◌+◌, ◌≤◌, ℤ, pos, Bool, true, false, cond, List, [], ◌∷◌, length, map, Option, refl, ap, sym, ◌∙◌, subst, arith}
 use Rattle.std.proofs.lemmas.Bool.{true≢false}
 use Rattle.std.proofs.lemmas.Int.{ints}
 use Rattle.std.proofs.lemmas.Map.Keys.{IsDistinct-cons}
 use Rattle.std.specs.List.{All, AllByRecursion, IsDistinct, count_by}
-use Rattle.sensor_core.specs.Tables.{Table}
+use Rattle.sensor_core.specs.Sensors.{Sensor}
 use Rattle.ctl_face.specs.declared.kind.Kind.{Kind}
 use Rattle.ctl_face.specs.declared.kind.Kind.TheVariants.{Pid as PidKind, Stepwise as StepKind}
 use Rattle.ctl_face.specs.declared.setting.PidClass.{PidClass}
@@ -15,11 +15,12 @@ use Rattle.cfg_json.specs.Configs.{IsValidZone}
 use Rattle.cfg_json.specs.declared.item.Item.{Item}
 use Rattle.cfg_json.specs.declared.item.ItemId.{ItemId}
 use Rattle.fan_zone.specs.Boxes.{kinds_of}
-use Rattle.fan_zone.specs.declared.holder.Holder.{Holder}
+use Rattle.live_sensors.specs.Sensors.{LiveSensors}
 use Rattle.fan_zone.specs.IsSets.{IsSet}
 use Rattle.fan_zone.specs.IsTicks.{StepsOwnBoxes}
 use Rattle.fan_zone.specs.Laws.{AreLoaded, KeepsSetting}
-use Rattle.fan_zone.specs.Live.{LiveControl, LiveZone, controls, id_eq, id_of}
+use Rattle.fan_zone.specs.Live.{LiveControl, LiveZone, controls, fan_id, fans, id_eq, id_of, zone_id, zones}
+use Rattle.fan_zone.specs.Sound.{HaveOwnIds}
 use Rattle.fan_zone.specs.Machine.{boxes, machine, pid_of, stairs, fan_pid, temp_pid, margin_pid, row_of, Stays}
 use Rattle.fan_zone.specs.Seats.{IsValidControl, is_control_of}
 use Rattle.fan_zone.specs.Settings.{CanSet, HasSameSetting, HasZone}
@@ -101,9 +102,10 @@ room first StepKind =
     omega (arith, controls_are, boxes_are)
 
 -- what `set` asks for, where controllers have ids of their own, and those that were there have their settings
-can_set : (first : ℕ) (view : ZonesView) → kinds_of view.bank ≡ kinds_of boxes → IsDistinct id_eq (map id_of (controls (machine first)))
+can_set : (first : ℕ) (view : ZonesView) → kinds_of view.bank ≡ kinds_of boxes → HaveOwnIds id_of (controls (machine first))
+    → HaveOwnIds zone_id (zones (machine first)) → HaveOwnIds fan_id (fans (machine first))
     → All (HasSameSetting view) (controls (machine first)) → CanSet view (machine first)
-can_set first view kinds ids same = record {
+can_set first view kinds ids zone_ids fan_ids same = record {
   few = subst (λ (each : List Kind). 5 ≤ length each) (sym kinds) (omega arith);
   room = λ kind.
       subst (λ (each : List Kind). count_by (is_control_of kind) (controls (machine first)) ≤ count_by (λ (one : Kind). kind_eq one kind) each) (sym kinds)
@@ -111,6 +113,8 @@ can_set first view kinds ids same = record {
   few_zones = omega arith;
   few_fans = omega arith;
   ids = ids;
+  zone_ids = zone_ids;
+  fan_ids = fan_ids;
   valid = all5 IsValidControl _ _ _ _ _
       (record { setting = fan_valid; inputs = omega arith })
       (record { setting = temp_valid; inputs = omega arith })
@@ -141,10 +145,26 @@ next_ids =
     IsDistinct-cons id_eq _ _ (refl, (refl, (refl, (refl, tt)))) (IsDistinct-cons id_eq _ _ (refl, (refl, (refl, tt)))
     (IsDistinct-cons id_eq _ _ (refl, (refl, tt)) (IsDistinct-cons id_eq _ _ (refl, tt) (lone _))))
 
+two_ids : (one two : ItemId) → id_eq one two ≡ false → IsDistinct id_eq (one ∷ two ∷ [])
+two_ids one two differ = IsDistinct-cons id_eq one (two ∷ []) (differ, tt) (lone two)
+
+first_zone_ids : HaveOwnIds zone_id (zones (machine 0))
+first_zone_ids = two_ids _ _ refl
+
+next_zone_ids : HaveOwnIds zone_id (zones (machine 100))
+next_zone_ids = two_ids _ _ refl
+
+first_fan_ids : HaveOwnIds fan_id (fans (machine 0))
+first_fan_ids = IsDistinct-cons id_eq _ _ (refl, (refl, tt)) (two_ids _ _ refl)
+
+next_fan_ids : HaveOwnIds fan_id (fans (machine 100))
+next_fan_ids = IsDistinct-cons id_eq _ _ (refl, (refl, tt)) (two_ids _ _ refl)
+
 pub can_set_first : CanSet (no_zones boxes) (machine 0)
 can_set_first =
-    can_set 0 (no_zones boxes) refl first_ids (all5 (HasSameSetting (no_zones boxes)) _ _ _ _ _ (λ held e. absurd (cc)) (λ held e. absurd (cc))
-    (λ held e. absurd (cc)) (λ held e. absurd (cc)) (λ held e. absurd (cc)))
+    can_set 0 (no_zones boxes) refl first_ids first_zone_ids first_fan_ids
+    (all5 (HasSameSetting (no_zones boxes)) _ _ _ _ _ (λ held e. absurd (cc)) (λ held e. absurd (cc)) (λ held e. absurd (cc)) (λ held e. absurd (cc))
+    (λ held e. absurd (cc)))
 
 -- controllers whose ids are new have no other setting than before
 new_one : (control : LiveControl) (olds : List LiveControl) → AllByRecursion (λ (old : LiveControl). id_eq old.id control.id ≡ false) olds
@@ -174,7 +194,7 @@ all_new =
 
 pub can_set_next : (view : ZonesView) → Stays (machine 0) view → CanSet view (machine 100)
 can_set_next view s =
-    can_set 100 view s.kinds next_ids (settings_stay.next view (machine 0) (machine 100) s.loaded all_new)
+    can_set 100 view s.kinds next_ids next_zone_ids next_fan_ids (settings_stay.next view (machine 0) (machine 100) s.loaded all_new)
 
 -- the controllers of the first machine keep their settings
 every : {A : Type 0} (P : A → Type 0) (xs : List A) → AllByRecursion P xs → All P xs
@@ -207,23 +227,23 @@ all_kept =
 
 pub can_set_again : (view : ZonesView) → Stays (machine 0) view → CanSet view (machine 0)
 can_set_again view s =
-    can_set 0 view s.kinds first_ids (settings_stay.next view (machine 0) (machine 0) s.loaded all_kept)
+    can_set 0 view s.kinds first_ids first_zone_ids first_fan_ids (settings_stay.next view (machine 0) (machine 0) s.loaded all_kept)
 
-pub stays_again : (view new : ZonesView) (sensors : List Holder) → Stays (machine 0) view → IsSet view (machine 0) sensors new → Stays (machine 0) new
+pub stays_again : (view new : ZonesView) (sensors : LiveSensors) → Stays (machine 0) view → IsSet view (machine 0) sensors new → Stays (machine 0) new
 stays_again view new sensors s is = record {
   loaded = settings_stay.by_set view new (machine 0) sensors is (can_set_again view s).same;
   kinds = is.kinds ∙ s.kinds;
 }
 
-pub stays_set : (view : ZonesView) (sensors : List Holder) → IsSet (no_zones boxes) (machine 0) sensors view → Stays (machine 0) view
+pub stays_set : (view : ZonesView) (sensors : LiveSensors) → IsSet (no_zones boxes) (machine 0) sensors view → Stays (machine 0) view
 stays_set view sensors is = record {
   loaded = settings_stay.by_set (no_zones boxes) view (machine 0) sensors is can_set_first.same;
   kinds = is.kinds;
 }
 
-pub stays_tick : (live : List Item) (sensors : Table) (now : ℕ) (strict : Bool) (view new : ZonesView) → new ≡ ticked sensors now strict view
-    → StepsOwnBoxes sensors now view new → Stays live view → Stays live new
-stays_tick live sensors now strict view new is steps s = record {
-  loaded = subst (AreLoaded live) (sym is) (settings_stay.by_tick sensors now strict view live s.loaded);
+pub stays_tick : (live : List Item) (slots : List (Option Sensor)) (now : ℕ) (strict : Bool) (view new : ZonesView) → new ≡ ticked slots now strict view
+    → StepsOwnBoxes slots now view new → Stays live view → Stays live new
+stays_tick live slots now strict view new is steps s = record {
+  loaded = subst (AreLoaded live) (sym is) (settings_stay.by_tick slots now strict view live s.loaded);
   kinds = steps.kinds ∙ s.kinds;
 }

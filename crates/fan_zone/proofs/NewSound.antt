@@ -3,10 +3,11 @@ use Rattle.std.proofs.Common.{◌≡◌, ℕ, suc, ◌+◌, ◌<◌, Bool, true,
 use Rattle.std.proofs.Common.{None, unwrap_or, refl, ap, sym, ◌∙◌, subst, arith}
 use Rattle.std.proofs.lemmas.Bool.{true≢false}
 use Rattle.std.proofs.lemmas.List.{length-map}
+use mathlib.Core.List.{map-map}
 use Rattle.std.proofs.lemmas.Option.{none-some, same_Some}
 use Rattle.std.proofs.lemmas.Int.{ints}
 use Rattle.std.specs.Prelude.{pos, bytes_eq}
-use Rattle.std.specs.List.{All, list_any}
+use Rattle.std.specs.List.{All, IsDistinct, list_any}
 use Rattle.std.specs.Option.{ForSome}
 use Rattle.bmc_base.specs.declared.milli.Milli.{Milli}
 use Rattle.ctl_face.specs.declared.setting.PidClass.{PidClass}
@@ -15,40 +16,44 @@ use Rattle.ctl_face.specs.declared.setting.Setting.{Setting}
 use Rattle.ctl_face.specs.declared.setting.Setting.TheVariants.{Pid}
 use Rattle.ctl_face.specs.Ranges.{IsMilli, IsValid}
 use Rattle.ctl_face.specs.Kinds.{kind_of}
+use Rattle.ctl_face.specs.Seen.{Seen}
+use Rattle.cfg_json.specs.declared.item.ItemId.{ItemId}
 use Rattle.cfg_json.specs.declared.item.Item.{Item}
-use Rattle.fan_zone.specs.Live.{LiveControl, controls, LiveZone, zones, fans}
+use Rattle.fan_zone.specs.Live.{LiveControl, id_eq, id_of, controls, LiveZone, zones, fans}
 use Rattle.fan_zone.specs.declared.held.Held.{Held}
 use Rattle.fan_zone.specs.declared.held.Seat.{Seat}
 use Rattle.fan_zone.specs.declared.rows.ZonePlan.{ZonePlan}
 use Rattle.fan_zone.specs.declared.rows.ZoneRow.{ZoneRow}
-use Rattle.fan_zone.specs.declared.holder.Holder.{Holder}
+use Rattle.live_sensors.specs.Sensors.{LiveSensors}
 use Rattle.fan_zone.specs.Passes.{thermal_setpoint}
 use Rattle.fan_zone.specs.Ticks.{ZonesView}
 use Rattle.fan_zone.specs.Sets.{Seating, role_of, role_of_class, zone_from, zone_of, held_of, free, kept_seat, seated, seated_free, seat_next, seat_all}
 use Rattle.fan_zone.specs.SetRows.{plan_of, zone_row_of, kept_zone, find_zone, fan_plan_of, fan_row_of}
 use Rattle.fan_zone.specs.Settings.{CanSet, HasZone, before, set_to, zone_rows_of}
-use Rattle.fan_zone.specs.Sound.{IsSound, HasSmallSetpoint}
+use Rattle.fan_zone.specs.IsSets.{Paired, Sits}
+use Rattle.fan_zone.specs.Sound.{IsSound, HasSmallSetpoint, held_id, zone_plan_id, fan_plan_id}
 use Rattle.fan_zone.proofs.Numbered.{all_tail, all_push, all_map}
 use Rattle.fan_zone.proofs.SeatLoop.{roomy_end}
 use Rattle.fan_zone.proofs.SetLaw.{roomy_start}
 use Rattle.fan_zone.proofs.Apart.{apart_set}
+use Rattle.fan_zone.proofs.SetMeaning.{set_means}
 
 -- what holds of each controller in any seat holds of all that sit
-abbrev AnySeat : List ZoneRow → List Holder → (Held → Type 0) → LiveControl → Type 0
+abbrev AnySeat : List ZoneRow → LiveSensors → (Held → Type 0) → LiveControl → Type 0
 AnySeat rows sensors P c = (seat : Seat) → P (held_of rows sensors c seat)
 
-all_free : (rows : List ZoneRow) (sensors : List Holder) (P : Held → Type 0) (s : Seating) (c : LiveControl) (o : Option ℕ) → AnySeat rows sensors P c
+all_free : (rows : List ZoneRow) (sensors : LiveSensors) (P : Held → Type 0) (s : Seating) (c : LiveControl) (o : Option ℕ) → AnySeat rows sensors P c
     → All P s.held → All P (seated_free rows sensors c s o).held
 all_free rows sensors P s c None here all = all
 all_free rows sensors P s c (Some n) here all = all_push P s.held (held_of rows sensors c (record { number = n; age = 0 })) all
     (here (record { number = n; age = 0 }))
 
-all_one : (rows : List ZoneRow) (sensors : List Holder) (P : Held → Type 0) (s : Seating) (c : LiveControl) (o : Option Seat) → AnySeat rows sensors P c
+all_one : (rows : List ZoneRow) (sensors : LiveSensors) (P : Held → Type 0) (s : Seating) (c : LiveControl) (o : Option Seat) → AnySeat rows sensors P c
     → All P s.held → All P (seated rows sensors c s o).held
 all_one rows sensors P s c (Some seat) here all = all_push P s.held (held_of rows sensors c seat) all (here seat)
 all_one rows sensors P s c None here all = all_free rows sensors P s c (free (kind_of c.item.setting) s.taken 0 s.bank) here all
 
-pub all_seated : (rows : List ZoneRow) (sensors : List Holder) (old : List Held) (P : Held → Type 0) (s : Seating) (cs : List LiveControl)
+pub all_seated : (rows : List ZoneRow) (sensors : LiveSensors) (old : List Held) (P : Held → Type 0) (s : Seating) (cs : List LiveControl)
     → All (AnySeat rows sensors P) cs → All P s.held → All P (seat_all rows sensors old s cs).held
 all_seated rows sensors old P s [] every all = all
 all_seated rows sensors old P s (c ∷ cs) every all =
@@ -97,11 +102,22 @@ in_zone old live c has =
     let f = zone_found old.zone_plans old.zone_rows c.item.zone 0 (zones live) has in
     subst (λ (o : Option ℕ). unwrap_or o 0 < length (zone_rows_of old live)) (sym f.1) (omega (arith, f.2))
 
-pub set_sound : (live : List Item) (sensors : List Holder) (old : ZonesView) → IsSound old → CanSet old live → IsSound (set_to live sensors old)
+ids_paired : (rows : List ZoneRow) (sensors : LiveSensors) (old : List Held) (start bank : List Seen) (cs : List LiveControl) (hs : List Held)
+    → Paired (Sits rows sensors old start bank) cs hs → map held_id hs ≡ map id_of cs
+ids_paired rows sensors old start bank [] [] sit = refl
+ids_paired rows sensors old start bank [] (h ∷ hs) sit = absurd sit
+ids_paired rows sensors old start bank (c ∷ cs) [] sit = absurd sit
+ids_paired rows sensors old start bank (c ∷ cs) (h ∷ hs) sit =
+    let one : h.id ≡ c.id = ap (λ (held : Held). held.id) sit.0.record_is in
+    ap (λ (id : ItemId). id ∷ map held_id hs) one
+    ∙ ap (λ (l : List ItemId). c.id ∷ l) (ids_paired rows sensors old start bank cs hs sit.1)
+
+pub set_sound : (live : List Item) (sensors : LiveSensors) (old : ZonesView) → IsSound old → CanSet old live → IsSound (set_to live sensors old)
 set_sound live sensors old s can =
     let cs = controls live in
     let rows = zone_rows_of old live in
     let start = before old.held old.bank live in
+    let new = set_to live sensors old in
     let r = roomy_end rows sensors old.held start cs (roomy_start old live s can) in
     record {
       seats = r.seats;
@@ -115,4 +131,9 @@ set_sound live sensors old s can =
       plans = length-map (zones live) plan_of ∙ sym (length-map (zones live) (zone_row_of old.zone_plans old.zone_rows));
       lows = all_map plan_of (λ (plan : ZonePlan). IsMilli plan.setting.min_thermal.0) (zones live) (λ k d lt. (can.settings k d lt).min_thermal);
       fans = length-map (fans live) (fan_plan_of cs) ∙ sym (length-map (fans live) (fan_row_of old.fan_plans old.fan_rows));
+      few_zones = omega (arith, can.few_zones, length-map (zones live) (zone_row_of old.zone_plans old.zone_rows));
+      few_fans = omega (arith, can.few_fans, length-map (fans live) (fan_row_of old.fan_plans old.fan_rows));
+      held_ids = subst (IsDistinct id_eq) (sym (ids_paired rows sensors old.held old.bank new.bank cs new.held (set_means live sensors old s can).sit)) can.ids;
+      zone_ids = subst (IsDistinct id_eq) (sym (map-map zone_plan_id plan_of (zones live))) can.zone_ids;
+      fan_ids = subst (IsDistinct id_eq) (sym (map-map fan_plan_id (fan_plan_of cs) (fans live))) can.fan_ids;
     }

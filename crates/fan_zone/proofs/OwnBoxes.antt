@@ -11,7 +11,7 @@ use Rattle.ctl_face.specs.declared.sample.Sample.{Sample}
 use Rattle.ctl_face.specs.Seen.{Seen, stepped, unloaded}
 use Rattle.fan_zone.specs.Boxes.{box_at, kinds_of}
 use Rattle.fan_zone.specs.declared.held.Held.{Held}
-use Rattle.sensor_core.specs.Tables.{Table}
+use Rattle.sensor_core.specs.Sensors.{Sensor}
 use Rattle.fan_zone.specs.Passes.{pass, step_box, thermal_sample, fan_sample}
 use Rattle.fan_zone.specs.Sets.{is_taken}
 use Rattle.fan_zone.specs.Sound.{IsSound, Differ}
@@ -81,11 +81,12 @@ kinds_pass : (f : Held → Option Sample) (held : List Held) (bank : List Seen) 
 kinds_pass f [] bank = refl
 kinds_pass f (one ∷ more) bank = kinds_pass f more (step_box bank one.number (f one)) ∙ kinds_step bank one.number (f one)
 
-pub ticked_own : (sensors : Table) (now : ℕ) (strict : Bool) (old : ZonesView) → IsSound old → StepsOwnBoxes sensors now old (ticked sensors now strict old)
-ticked_own sensors now strict old s =
-    let thermal = thermal_sample sensors now in
-    let bank = thermal_bank sensors now old in
-    let fan = fan_sample sensors now (zone_rows_after sensors now old) in
+pub ticked_own : (slots : List (Option Sensor)) (now : ℕ) (strict : Bool) (old : ZonesView) → IsSound old
+    → StepsOwnBoxes slots now old (ticked slots now strict old)
+ticked_own slots now strict old s =
+    let thermal = thermal_sample slots now in
+    let bank = thermal_bank slots now old in
+    let fan = fan_sample slots now (zone_rows_after slots now old) in
     record {
       own = λ n one e.
           pass_own fan old.held bank n one s.apart (λ k z lt. omega (arith, (s.seats k z lt).within, length-pass thermal old.held old.bank)) e

@@ -14,7 +14,7 @@ use Rattle.fan_zone.proofs.EqualLemmas.{kind_self}
 use Rattle.fan_zone.specs.declared.held.Held.{Held}
 use Rattle.fan_zone.specs.declared.held.Seat.{Seat}
 use Rattle.fan_zone.specs.declared.rows.ZoneRow.{ZoneRow}
-use Rattle.fan_zone.specs.declared.holder.Holder.{Holder}
+use Rattle.live_sensors.specs.Sensors.{LiveSensors}
 use Rattle.fan_zone.specs.Sets.{Seating, kept_seat, is_taken, free, seated, seated_free, seat_next, held_of}
 use Rattle.fan_zone.specs.Seats.{IsValidControl, is_of, is_number_of, is_control_of, is_new_of, IsKept, KeepsBox, IsRoomy}
 use Rattle.fan_zone.specs.Sound.{IsSeated}
@@ -28,7 +28,7 @@ kept_head : (old : List Held) (taken : List ℕ) (bank : List Seen) (c : LiveCon
 kept_head old taken bank c left seat all e = all 0 c (omega arith) seat e
 
 -- one that kept its box
-roomy_kept : (rows : List ZoneRow) (sensors : List Holder) (old : List Held) (s : Seating) (c : LiveControl) (left : List LiveControl) (seat : Seat)
+roomy_kept : (rows : List ZoneRow) (sensors : LiveSensors) (old : List Held) (s : Seating) (c : LiveControl) (left : List LiveControl) (seat : Seat)
     → kept_seat old c.id ≡ Some seat → IsRoomy old s (c ∷ left)
     → IsRoomy old (seated rows sensors c s (Some seat)) left
 roomy_kept rows sensors old s c left seat e r =
@@ -62,7 +62,7 @@ free_there old s c left e r =
     omega (arith, full, new, r.room kind, count_cons (is_new_of old kind) c left))
 
 -- one that takes a free box
-roomy_new : (rows : List ZoneRow) (sensors : List Holder) (old : List Held) (s : Seating) (c : LiveControl) (left : List LiveControl) (n : ℕ)
+roomy_new : (rows : List ZoneRow) (sensors : LiveSensors) (old : List Held) (s : Seating) (c : LiveControl) (left : List LiveControl) (n : ℕ)
     → kept_seat old c.id ≡ None → free (kind_of c.item.setting) s.taken 0 s.bank ≡ Some n
     → IsRoomy old s (c ∷ left) → IsRoomy old (seated_free rows sensors c s (Some n)) left
 roomy_new rows sensors old s c left n e is r =
@@ -105,7 +105,7 @@ roomy_new rows sensors old s c left n e is r =
       typed = typed_loaded s.bank n set (sym f.kind_is) r.typed;
     }
 
-roomy_by : (rows : List ZoneRow) (sensors : List Holder) (old : List Held) (s : Seating) (c : LiveControl) (left : List LiveControl) (o : Option Seat)
+roomy_by : (rows : List ZoneRow) (sensors : LiveSensors) (old : List Held) (s : Seating) (c : LiveControl) (left : List LiveControl) (o : Option Seat)
     → kept_seat old c.id ≡ o → IsRoomy old s (c ∷ left)
     → IsRoomy old (seated rows sensors c s o) left
 roomy_by rows sensors old s c left (Some seat) e r = roomy_kept rows sensors old s c left seat e r
@@ -113,6 +113,6 @@ roomy_by rows sensors old s c left None e r =
     let f = free_there old s c left e r in
     subst (λ (o : Option ℕ). IsRoomy old (seated_free rows sensors c s o) left) (sym f.1) (roomy_new rows sensors old s c left f.0 e f.1 r)
 
-pub roomy_next : (rows : List ZoneRow) (sensors : List Holder) (old : List Held) (s : Seating) (c : LiveControl) (left : List LiveControl)
+pub roomy_next : (rows : List ZoneRow) (sensors : LiveSensors) (old : List Held) (s : Seating) (c : LiveControl) (left : List LiveControl)
     → IsRoomy old s (c ∷ left) → IsRoomy old (seat_next rows sensors old s c) left
 roomy_next rows sensors old s c left r = roomy_by rows sensors old s c left (kept_seat old c.id) refl r

@@ -1,6 +1,6 @@
 -- All controllers take their seats, one item after another.
 use Rattle.std.proofs.Common.{◌≡◌, ℕ, Bool, cond, ◌+◌, ◌<◌, ◌≤◌, List, [], ◌∷◌, ◌++◌, length, drop, get_or, Option, Some, None, IsSome, refl, ap, sym}
-use Rattle.std.proofs.Common.{◌∙◌, subst, arith}
+use Rattle.std.proofs.Common.{◌∙◌, subst, arith, Bor}
 use Rattle.std.proofs.lemmas.List.{append-nil, length-append, drop_more, drop_all, length_push}
 use Rattle.std.proofs.lemmas.List.Sums.{sum_by-append}
 use Rattle.std.specs.List.{All, count_by}
@@ -11,11 +11,11 @@ use Rattle.cfg_json.specs.declared.item.Item.{Item}
 use Rattle.cfg_json.specs.declared.item.ControlItem.{ControlItem}
 use Rattle.cfg_json.specs.declared.item.ItemPart.{ItemPart}
 use Rattle.cfg_json.specs.declared.item.ItemPart.TheVariants as parts
-use Rattle.fan_zone.specs.Live.{LiveControl, controls, with_control}
+use Rattle.fan_zone.specs.Live.{LiveControl, controls, items_of, with_control}
 use Rattle.fan_zone.specs.declared.held.Held.{Held}
 use Rattle.fan_zone.specs.declared.held.Seat.{Seat}
 use Rattle.fan_zone.specs.declared.rows.ZoneRow.{ZoneRow}
-use Rattle.fan_zone.specs.declared.holder.Holder.{Holder}
+use Rattle.live_sensors.specs.Sensors.{LiveSensors}
 use Rattle.fan_zone.specs.Sets.{Seating, kept_seat, free, seated, seated_free, seat_next, seat_all, held_of}
 use Rattle.fan_zone.specs.Seats.{is_new, IsReady, IsRoomy}
 use Rattle.fan_zone.proofs.Numbered.{all_cons}
@@ -44,19 +44,19 @@ pub record Grew (before after : Seating) (n new : ℕ) : Type 0 where
   pub held : length after.held ≤ length before.held + n
   pub taken : length after.taken ≤ length before.taken + new
 
-grew_free : (rows : List ZoneRow) (sensors : List Holder) (c : LiveControl) (s : Seating) (o : Option ℕ) → Grew s (seated_free rows sensors c s o) 1 1
+grew_free : (rows : List ZoneRow) (sensors : LiveSensors) (c : LiveControl) (s : Seating) (o : Option ℕ) → Grew s (seated_free rows sensors c s o) 1 1
 grew_free rows sensors c s None = record { held = omega arith; taken = omega arith }
 grew_free rows sensors c s (Some n) = record {
   held = omega (arith, length_push s.held (held_of rows sensors c (record { number = n; age = 0 })));
   taken = omega (arith, length_push s.taken n);
 }
 
-grew_by : (rows : List ZoneRow) (sensors : List Holder) (c : LiveControl) (s : Seating) (o : Option Seat)
+grew_by : (rows : List ZoneRow) (sensors : LiveSensors) (c : LiveControl) (s : Seating) (o : Option Seat)
     → Grew s (seated rows sensors c s o) 1 (cond {A = ℕ} (is_none o) 1 0)
 grew_by rows sensors c s (Some seat) = record { held = omega (arith, length_push s.held (held_of rows sensors c seat)); taken = omega arith }
 grew_by rows sensors c s None = grew_free rows sensors c s (free (kind_of c.item.setting) s.taken 0 s.bank)
 
-pub grew : (rows : List ZoneRow) (sensors : List Holder) (old : List Held) (s : Seating) (cs : List LiveControl)
+pub grew : (rows : List ZoneRow) (sensors : LiveSensors) (old : List Held) (s : Seating) (cs : List LiveControl)
     → Grew s (seat_all rows sensors old s cs) (length cs) (count_by (is_new old) cs)
 grew rows sensors old s [] = record { held = omega arith; taken = omega arith }
 grew rows sensors old s (c ∷ cs) =
@@ -66,12 +66,12 @@ grew rows sensors old s (c ∷ cs) =
     record { held = omega (arith, one.held, more.held); taken = omega (arith, one.taken, more.taken, count_cons (is_new old) c cs) }
 
 -- seats in two parts
-pub seat_append : (rows : List ZoneRow) (sensors : List Holder) (old : List Held) (s : Seating) (a b : List LiveControl)
+pub seat_append : (rows : List ZoneRow) (sensors : LiveSensors) (old : List Held) (s : Seating) (a b : List LiveControl)
     → seat_all rows sensors old s (a ++ b) ≡ seat_all rows sensors old (seat_all rows sensors old s a) b
 seat_append rows sensors old s [] b = refl
 seat_append rows sensors old s (c ∷ a) b = seat_append rows sensors old (seat_next rows sensors old s c) a b
 
-pub roomy_all : (rows : List ZoneRow) (sensors : List Holder) (old : List Held) (s : Seating) (a b : List LiveControl) → IsRoomy old s (a ++ b)
+pub roomy_all : (rows : List ZoneRow) (sensors : LiveSensors) (old : List Held) (s : Seating) (a b : List LiveControl) → IsRoomy old s (a ++ b)
     → IsRoomy old (seat_all rows sensors old s a) b
 roomy_all rows sensors old s [] b r = r
 roomy_all rows sensors old s (c ∷ a) b r = roomy_all rows sensors old (seat_next rows sensors old s c) a b (roomy_next rows sensors old s c (a ++ b) r)
@@ -93,12 +93,12 @@ ready_part old s id (parts.Mux part) left r = λ k d lt. absurd (omega arith)
 ready_part old s id parts.Passive left r = λ k d lt. absurd (omega arith)
 
 -- what the loop keeps
-pub record Seats (rows : List ZoneRow) (sensors : List Holder) (old : List Held) (live : List Item) (start now : Seating) (next_room taken_room : ℕ)
+pub record Seats (rows : List ZoneRow) (sensors : LiveSensors) (old : List Held) (live : List (Bor Item)) (start now : Seating) (next_room taken_room : ℕ)
     (n : ℕ) : Type 0 where
-  pub roomy : IsRoomy old now (controls (drop n live))
-  pub rest : seat_all rows sensors old now (controls (drop n live)) ≡ seat_all rows sensors old start (controls live)
-  pub next : length now.held + length (controls (drop n live)) ≤ next_room
-  pub taken : length now.taken + count_by (is_new old) (controls (drop n live)) ≤ taken_room
+  pub roomy : IsRoomy old now (controls (items_of (drop n live)))
+  pub rest : seat_all rows sensors old now (controls (items_of (drop n live))) ≡ seat_all rows sensors old start (controls (items_of live))
+  pub next : length now.held + length (controls (items_of (drop n live))) ≤ next_room
+  pub taken : length now.taken + count_by (is_new old) (controls (items_of (drop n live))) ≤ taken_room
 
 -- what an item asks for
 pub record Asks (old : List Held) (item : Item) (now : Seating) (next_room taken_room : ℕ) : Type 0 where
@@ -109,18 +109,20 @@ pub record Asks (old : List Held) (item : Item) (now : Seating) (next_room taken
 count_split : {A : Type 0} (p : A → Bool) (all some others : List A) → all ≡ some ++ others → count_by p all ≡ count_by p some + count_by p others
 count_split p all some others e = ap (count_by p) e ∙ sum_by-append (λ x. cond {A = ℕ} (p x) 1 0) some others
 
-split : (live : List Item) (n : ℕ) (d : Item) → n < length live → controls (drop n live) ≡ controls (get_or live n d ∷ []) ++ controls (drop (n + 1) live)
-split live n d lt = ap controls (drop_more live n d lt) ∙ controls_more (get_or live n d) (drop (n + 1) live)
+split : (live : List (Bor Item)) (n : ℕ) (d : Bor Item) → n < length live
+    → controls (items_of (drop n live)) ≡ controls ((get_or live n d).now ∷ []) ++ controls (items_of (drop (n + 1) live))
+split live n d lt =
+    ap (λ (l : List (Bor Item)). controls (items_of l)) (drop_more live n d lt) ∙ controls_more (get_or live n d).now (items_of (drop (n + 1) live))
 
-pub asks : (rows : List ZoneRow) (sensors : List Holder) (old : List Held) (live : List Item) (start now : Seating) (next_room taken_room n : ℕ) (d : Item)
-    → Seats rows sensors old live start now next_room taken_room n → n < length live
-    → Asks old (get_or live n d) now next_room taken_room
+pub asks : (rows : List ZoneRow) (sensors : LiveSensors) (old : List Held) (live : List (Bor Item)) (start now : Seating) (next_room taken_room n : ℕ)
+    (d : Bor Item) → Seats rows sensors old live start now next_room taken_room n → n < length live
+    → Asks old (get_or live n d).now now next_room taken_room
 asks rows sensors old live start now next_room taken_room n d s lt =
-    let item = get_or live n d in
-    let left = controls (drop (n + 1) live) in
+    let item = (get_or live n d).now in
+    let left = controls (items_of (drop (n + 1) live)) in
     let one = controls (item ∷ []) in
     let at = split live n d lt in
-    let size : length (controls (drop n live)) ≡ length one + length left = ap length at ∙ length-append one left in
+    let size : length (controls (items_of (drop n live))) ≡ length one + length left = ap length at ∙ length-append one left in
     let new = count_split (is_new old) _ one left at in
     record {
       next = omega (arith, s.next, size);
@@ -128,17 +130,17 @@ asks rows sensors old live start now next_room taken_room n d s lt =
       ready = ready_part old now item.id item.part left (subst (IsRoomy old now) at s.roomy);
     }
 
-pub seats_more : (rows : List ZoneRow) (sensors : List Holder) (old : List Held) (live : List Item) (start now after : Seating)
-    (next_room taken_room next_after taken_after n : ℕ) (d : Item)
+pub seats_more : (rows : List ZoneRow) (sensors : LiveSensors) (old : List Held) (live : List (Bor Item)) (start now after : Seating)
+    (next_room taken_room next_after taken_after n : ℕ) (d : Bor Item)
     → Seats rows sensors old live start now next_room taken_room n → n < length live → after
-    ≡ seat_all rows sensors old now (controls (get_or live n d ∷ [])) → next_room ≤ next_after → taken_room ≤ taken_after
+    ≡ seat_all rows sensors old now (controls ((get_or live n d).now ∷ [])) → next_room ≤ next_after → taken_room ≤ taken_after
     → Seats rows sensors old live start after next_after taken_after (n + 1)
 seats_more rows sensors old live start now after next_room taken_room next_after taken_after n d s lt is next taken =
-    let item = get_or live n d in
-    let left = controls (drop (n + 1) live) in
+    let item = (get_or live n d).now in
+    let left = controls (items_of (drop (n + 1) live)) in
     let one = controls (item ∷ []) in
     let at = split live n d lt in
-    let size : length (controls (drop n live)) ≡ length one + length left = ap length at ∙ length-append one left in
+    let size : length (controls (items_of (drop n live))) ≡ length one + length left = ap length at ∙ length-append one left in
     let new = count_split (is_new old) _ one left at in
     let grown : Grew now after (length one) (count_by (is_new old) one) =
     subst (λ (z : Seating). Grew now z (length one) (count_by (is_new old) one)) (sym is) (grew rows sensors old now one) in
@@ -150,12 +152,12 @@ seats_more rows sensors old live start now after next_room taken_room next_after
       taken = omega (arith, s.taken, new, grown.taken, taken);
     }
 
-pub seats_end : (rows : List ZoneRow) (sensors : List Holder) (old : List Held) (live : List Item) (start now : Seating) (next_room taken_room n : ℕ)
+pub seats_end : (rows : List ZoneRow) (sensors : LiveSensors) (old : List Held) (live : List (Bor Item)) (start now : Seating) (next_room taken_room n : ℕ)
     → Seats rows sensors old live start now next_room taken_room n → length live ≤ n
-    → now ≡ seat_all rows sensors old start (controls live)
+    → now ≡ seat_all rows sensors old start (controls (items_of live))
 seats_end rows sensors old live start now next_room taken_room n s le =
-    sym (ap (λ (l : List Item). seat_all rows sensors old now (controls l)) (drop_all n live le)) ∙ s.rest
+    sym (ap (λ (l : List (Bor Item)). seat_all rows sensors old now (controls (items_of l))) (drop_all n live le)) ∙ s.rest
 
-pub roomy_end : (rows : List ZoneRow) (sensors : List Holder) (old : List Held) (start : Seating) (cs : List LiveControl) → IsRoomy old start cs
+pub roomy_end : (rows : List ZoneRow) (sensors : LiveSensors) (old : List Held) (start : Seating) (cs : List LiveControl) → IsRoomy old start cs
     → IsRoomy old (seat_all rows sensors old start cs) []
 roomy_end rows sensors old start cs r = roomy_all rows sensors old start cs [] (subst (IsRoomy old start) (sym (append-nil cs)) r)

@@ -6,7 +6,7 @@ use Rattle.fan_zone.specs.Live.{controls}
 use Rattle.fan_zone.specs.Boxes.{box_at}
 use Rattle.cfg_json.specs.declared.item.Item.{Item}
 use Rattle.fan_zone.specs.declared.held.Held.{Held}
-use Rattle.fan_zone.specs.declared.holder.Holder.{Holder}
+use Rattle.live_sensors.specs.Sensors.{LiveSensors}
 use Rattle.fan_zone.specs.Rows.{numbered}
 use Rattle.fan_zone.specs.Ticks.{ZonesView}
 use Rattle.fan_zone.specs.Sets.{kept_numbers, is_taken, cleared_box}
@@ -32,7 +32,7 @@ false_by : (b : Bool) → ((b ≡ true) → ⊥) → b ≡ false
 false_by true h = absurd (h refl)
 false_by false h = refl
 
-pub set_means : (live : List Item) (sensors : List Holder) (old : ZonesView) → IsSound old → CanSet old live → IsSet old live sensors (set_to live sensors old)
+pub set_means : (live : List Item) (sensors : LiveSensors) (old : ZonesView) → IsSound old → CanSet old live → IsSet old live sensors (set_to live sensors old)
 set_means live sensors old s can =
     let cs = controls live in
     let rows = zone_rows_of old live in

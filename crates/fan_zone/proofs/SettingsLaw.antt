@@ -10,7 +10,7 @@ use Rattle.fan_zone.specs.Live.{LiveControl, controls, id_eq}
 use Rattle.fan_zone.specs.declared.held.Held.{Held}
 use Rattle.fan_zone.specs.declared.held.Seat.{Seat}
 use Rattle.fan_zone.specs.declared.rows.ZoneRow.{ZoneRow}
-use Rattle.fan_zone.specs.declared.holder.Holder.{Holder}
+use Rattle.live_sensors.specs.Sensors.{LiveSensors}
 use Rattle.fan_zone.specs.Passes.{pass, step_box, thermal_sample, fan_sample}
 use Rattle.fan_zone.specs.Sets.{find_held, kept_seat}
 use Rattle.fan_zone.specs.Settings.{HasSameSetting}
@@ -22,7 +22,7 @@ use Rattle.fan_zone.proofs.PassSteps.{setting_set}
 use Rattle.fan_zone.proofs.SetLaw.{kept_found}
 
 -- one that sits is loaded
-loaded_by : (rows : List ZoneRow) (sensors : List Holder) (old : ZonesView) (bank : List Seen) (control : LiveControl) (held : Held) (o : Option Seat)
+loaded_by : (rows : List ZoneRow) (sensors : LiveSensors) (old : ZonesView) (bank : List Seen) (control : LiveControl) (held : Held) (o : Option Seat)
     → kept_seat old.held control.id ≡ o → HasSameSetting old control → Sits rows sensors old.held old.bank bank control held
     → (box_at bank held.number).setting ≡ Some control.item.setting
 loaded_by rows sensors old bank control held None e same sits = ap (λ (seen : Seen). seen.setting) (sits.fresh e).1
@@ -32,7 +32,7 @@ loaded_by rows sensors old bank control held (Some seat) e same sits =
     let number : held.number ≡ there.0.number = ap (λ (s : Seat). s.number) (kept.0 ∙ sym there.2) in
     ap (λ (seen : Seen). seen.setting) (kept.1 ∙ ap (box_at old.bank) number) ∙ same there.0 there.1
 
-loaded_all : (rows : List ZoneRow) (sensors : List Holder) (old : ZonesView) (bank : List Seen) (cs : List LiveControl) (hs : List Held)
+loaded_all : (rows : List ZoneRow) (sensors : LiveSensors) (old : ZonesView) (bank : List Seen) (cs : List LiveControl) (hs : List Held)
     → All (HasSameSetting old) cs → Paired (Sits rows sensors old.held old.bank bank) cs hs → Paired (IsLoaded bank) cs hs
 loaded_all rows sensors old bank [] [] same sit = tt
 loaded_all rows sensors old bank [] (h ∷ hs) same sit = sit
@@ -88,11 +88,11 @@ found bank control (c ∷ cs) (h ∷ hs) keeps loaded held e =
 pub settings_stay : SettingsStay
 settings_stay = record {
   by_set = λ old new live sensors is same. loaded_all new.zone_rows sensors old new.bank (controls live) new.held same is.sit;
-  by_tick = λ sensors now strict view live loaded.
-      let thermal = thermal_sample sensors now in
-      let fan = fan_sample sensors now (zone_rows_after sensors now view) in
-      loaded_aged view.bank (bank_after sensors now view) (controls live) view.held (λ m.
-      setting_pass fan view.held (thermal_bank sensors now view) m ∙ setting_pass thermal view.held view.bank m) loaded;
+  by_tick = λ slots now strict view live loaded.
+      let thermal = thermal_sample slots now in
+      let fan = fan_sample slots now (zone_rows_after slots now view) in
+      loaded_aged view.bank (bank_after slots now view) (controls live) view.held (λ m.
+      setting_pass fan view.held (thermal_bank slots now view) m ∙ setting_pass thermal view.held view.bank m) loaded;
   next = λ view live after loaded keeps k d lt.
       found view.bank (slice_index_or (controls after) k d) (controls live) view.held (keeps k d lt) loaded;
 }

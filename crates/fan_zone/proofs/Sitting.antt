@@ -15,7 +15,7 @@ use Rattle.fan_zone.specs.Boxes.{box_at, kinds_of}
 use Rattle.fan_zone.specs.declared.held.Held.{Held}
 use Rattle.fan_zone.specs.declared.held.Seat.{Seat}
 use Rattle.fan_zone.specs.declared.rows.ZoneRow.{ZoneRow}
-use Rattle.fan_zone.specs.declared.holder.Holder.{Holder}
+use Rattle.live_sensors.specs.Sensors.{LiveSensors}
 use Rattle.fan_zone.specs.Sets.{Seating, kept_seat, kept_numbers, with_number, is_taken, free, held_of, seated, seated_free, seat_next, seat_all}
 use Rattle.fan_zone.specs.Seats.{IsRoomy}
 use Rattle.fan_zone.specs.IsSets.{Sits, Paired, fresh_box}
@@ -31,7 +31,7 @@ pub record Stays (before after : Seating) (number : ℕ) : Type 0 where
   pub taken : is_taken after.taken number ≡ true
   pub box_is : box_at after.bank number ≡ box_at before.bank number
 
-stays_free : (rows : List ZoneRow) (sensors : List Holder) (c : LiveControl) (s : Seating) (number : ℕ) (o : Option ℕ)
+stays_free : (rows : List ZoneRow) (sensors : LiveSensors) (c : LiveControl) (s : Seating) (number : ℕ) (o : Option ℕ)
     → free (kind_of c.item.setting) s.taken 0 s.bank ≡ o → is_taken s.taken number ≡ true
     → Stays s (seated_free rows sensors c s o) number
 stays_free rows sensors c s number None e is = record { taken = is; box_is = refl }
@@ -39,12 +39,12 @@ stays_free rows sensors c s number (Some n) e is =
     let f = free_box (kind_of c.item.setting) s.taken s.bank n e in
     record { taken = taken_still s.taken (n ∷ []) number is; box_is = box_kept s.bank s.taken n number c.item.setting f.untaken is }
 
-stays_one : (rows : List ZoneRow) (sensors : List Holder) (c : LiveControl) (s : Seating) (number : ℕ) (o : Option Seat) → is_taken s.taken number ≡ true
+stays_one : (rows : List ZoneRow) (sensors : LiveSensors) (c : LiveControl) (s : Seating) (number : ℕ) (o : Option Seat) → is_taken s.taken number ≡ true
     → Stays s (seated rows sensors c s o) number
 stays_one rows sensors c s number (Some seat) is = record { taken = is; box_is = refl }
 stays_one rows sensors c s number None is = stays_free rows sensors c s number (free (kind_of c.item.setting) s.taken 0 s.bank) refl is
 
-pub stays_all : (rows : List ZoneRow) (sensors : List Holder) (old : List Held) (s : Seating) (cs : List LiveControl) (number : ℕ) → is_taken s.taken number
+pub stays_all : (rows : List ZoneRow) (sensors : LiveSensors) (old : List Held) (s : Seating) (cs : List LiveControl) (number : ℕ) → is_taken s.taken number
     ≡ true → Stays s (seat_all rows sensors old s cs) number
 stays_all rows sensors old s [] number is = record { taken = is; box_is = refl }
 stays_all rows sensors old s (c ∷ cs) number is =
@@ -53,17 +53,17 @@ stays_all rows sensors old s (c ∷ cs) number is =
     record { taken = more.taken; box_is = more.box_is ∙ one.box_is }
 
 -- kinds stay
-kinds_free : (rows : List ZoneRow) (sensors : List Holder) (c : LiveControl) (s : Seating) (o : Option ℕ)
+kinds_free : (rows : List ZoneRow) (sensors : LiveSensors) (c : LiveControl) (s : Seating) (o : Option ℕ)
     → kinds_of (seated_free rows sensors c s o).bank ≡ kinds_of s.bank
 kinds_free rows sensors c s None = refl
 kinds_free rows sensors c s (Some n) = kinds_loaded s.bank n c.item.setting
 
-kinds_one : (rows : List ZoneRow) (sensors : List Holder) (c : LiveControl) (s : Seating) (o : Option Seat)
+kinds_one : (rows : List ZoneRow) (sensors : LiveSensors) (c : LiveControl) (s : Seating) (o : Option Seat)
     → kinds_of (seated rows sensors c s o).bank ≡ kinds_of s.bank
 kinds_one rows sensors c s (Some seat) = refl
 kinds_one rows sensors c s None = kinds_free rows sensors c s (free (kind_of c.item.setting) s.taken 0 s.bank)
 
-pub kinds_all : (rows : List ZoneRow) (sensors : List Holder) (old : List Held) (s : Seating) (cs : List LiveControl)
+pub kinds_all : (rows : List ZoneRow) (sensors : LiveSensors) (old : List Held) (s : Seating) (cs : List LiveControl)
     → kinds_of (seat_all rows sensors old s cs).bank ≡ kinds_of s.bank
 kinds_all rows sensors old s [] = refl
 kinds_all rows sensors old s (c ∷ cs) = kinds_all rows sensors old (seat_next rows sensors old s c) cs ∙ kinds_one rows sensors c s (kept_seat old c.id)
@@ -73,7 +73,7 @@ pub record Untouched (base : List ℕ) (start : List Seen) (s : Seating) : Type 
   pub taken : (number : ℕ) → is_taken base number ≡ true → is_taken s.taken number ≡ true
   pub still : (number : ℕ) → is_taken base number ≡ true → box_at s.bank number ≡ box_at start number
 
-pub untouched_next : (rows : List ZoneRow) (sensors : List Holder) (old : List Held) (base : List ℕ) (start : List Seen) (s : Seating) (c : LiveControl)
+pub untouched_next : (rows : List ZoneRow) (sensors : LiveSensors) (old : List Held) (base : List ℕ) (start : List Seen) (s : Seating) (c : LiveControl)
     → Untouched base start s → Untouched base start (seat_next rows sensors old s c)
 untouched_next rows sensors old base start s c u = record {
   taken = λ number is. (stays_one rows sensors c s number (kept_seat old c.id) (u.taken number is)).taken;
@@ -84,7 +84,7 @@ abbrev pub numbers : List Held → List ℕ
 numbers held = map number_of held
 
 -- how those sit that take their seats from here on
-pub record Sat (rows : List ZoneRow) (sensors : List Holder) (old : List Held) (start : List Seen) (s : Seating) (cs : List LiveControl) : Type 0 where
+pub record Sat (rows : List ZoneRow) (sensors : LiveSensors) (old : List Held) (start : List Seen) (s : Seating) (cs : List LiveControl) : Type 0 where
   pub more : List Held
   pub held : (seat_all rows sensors old s cs).held ≡ s.held ++ more
   pub sit : Paired (Sits rows sensors old start (seat_all rows sensors old s cs).bank) cs more
@@ -111,7 +111,7 @@ noted_by number o seat rest more e rest_more is = noted_or (nat_eq seat.number n
     (subst (λ (p : Option Seat). is_taken (with_number p rest) number ≡ true) e is)
 
 -- one that kept its box sits
-sat_kept : (rows : List ZoneRow) (sensors : List Holder) (old : List Held) (base : List ℕ) (start : List Seen) (s : Seating) (c : LiveControl)
+sat_kept : (rows : List ZoneRow) (sensors : LiveSensors) (old : List Held) (base : List ℕ) (start : List Seen) (s : Seating) (c : LiveControl)
     (cs : List LiveControl) (seat : Seat) → kept_seat old c.id ≡ Some seat
     → Untouched base start s → is_taken base seat.number ≡ true → Sat rows sensors old start (seated rows sensors c s (Some seat)) cs
     → seat_next rows sensors old s c ≡ seated rows sensors c s (Some seat) → Sat rows sensors old start s (c ∷ cs)
@@ -154,7 +154,7 @@ last_taken taken n number is not = last_or (is_taken taken number) (nat_eq n num
     (sym (list_any-append (λ (one : ℕ). nat_eq one number) taken (n ∷ [])) ∙ is) not
 
 -- one that takes a free box sits
-sat_new : (rows : List ZoneRow) (sensors : List Holder) (old : List Held) (start : List Seen) (s : Seating) (c : LiveControl) (cs : List LiveControl)
+sat_new : (rows : List ZoneRow) (sensors : LiveSensors) (old : List Held) (start : List Seen) (s : Seating) (c : LiveControl) (cs : List LiveControl)
     (n : ℕ) → kept_seat old c.id ≡ None
     → free (kind_of c.item.setting) s.taken 0 s.bank ≡ Some n → Sat rows sensors old start (seated_free rows sensors c s (Some n)) cs
     → seat_next rows sensors old s c ≡ seated_free rows sensors c s (Some n)
@@ -190,10 +190,10 @@ sat_new rows sensors old start s c cs n e is t same =
           ∙ get_or-set_other s.bank n number (loaded (box_at s.bank n) set) (unloaded PidKind) (other_number n number o.0));
     }
 
-abbrev SatFrom : List ZoneRow → List Holder → List Held → List ℕ → List Seen → List LiveControl → Type 0
+abbrev SatFrom : List ZoneRow → LiveSensors → List Held → List ℕ → List Seen → List LiveControl → Type 0
 SatFrom rows sensors old base start cs = (s : Seating) → IsRoomy old s cs → Untouched base start s → Sat rows sensors old start s cs
 
-sat_by : (rows : List ZoneRow) (sensors : List Holder) (old : List Held) (base : List ℕ) (start : List Seen) (s : Seating) (c : LiveControl)
+sat_by : (rows : List ZoneRow) (sensors : LiveSensors) (old : List Held) (base : List ℕ) (start : List Seen) (s : Seating) (c : LiveControl)
     (cs : List LiveControl) (o : Option Seat) → kept_seat old c.id ≡ o → IsRoomy old s (c ∷ cs)
     → Untouched base start s → IsNoted old base c → SatFrom rows sensors old base start cs → Sat rows sensors old start s (c ∷ cs)
 sat_by rows sensors old base start s c cs (Some seat) e r u noted rest =
@@ -211,7 +211,7 @@ sat_by rows sensors old base start s c cs None e r u noted rest =
     (untouched_next rows sensors old base start s c u)) in
     sat_new rows sensors old start s c cs f.0 e f.1 next same
 
-pub sat_all : (rows : List ZoneRow) (sensors : List Holder) (old : List Held) (base : List ℕ) (start : List Seen) (s : Seating) (cs : List LiveControl)
+pub sat_all : (rows : List ZoneRow) (sensors : LiveSensors) (old : List Held) (base : List ℕ) (start : List Seen) (s : Seating) (cs : List LiveControl)
     → IsRoomy old s cs → Untouched base start s → All (IsNoted old base) cs
     → Sat rows sensors old start s cs
 sat_all rows sensors old base start s [] r u noted = record {

@@ -1,6 +1,8 @@
 -- A tick keeps what is true of all zones.
 use Rattle.std.proofs.Common.{refl, ap, ◌≡◌, ℕ, zero, suc, ◌<◌, List, [], ◌∷◌, length, map, Option, Some, None, sym, ◌∙◌, subst, arith}
-use Rattle.std.specs.List.{All}
+use Rattle.std.specs.List.{All, IsDistinct}
+use Rattle.cfg_json.specs.declared.item.ItemId.{ItemId}
+use Rattle.fan_zone.specs.Live.{id_eq}
 use Rattle.std.proofs.lemmas.List.{length-set}
 use Rattle.std.proofs.lemmas.Option.{none-some}
 use Rattle.ctl_face.specs.declared.sample.Sample.{Sample}
@@ -11,7 +13,7 @@ use Rattle.fan_zone.specs.declared.held.Held.{Held}
 use Rattle.fan_zone.specs.declared.rows.ZoneRow.{ZoneRow}
 use Rattle.fan_zone.specs.declared.rows.FanRow.{FanRow}
 use Rattle.fan_zone.specs.Ticks.{ZonesView, aged}
-use Rattle.fan_zone.specs.Sound.{IsSound, IsSeated, AreSeated, AreSmall, AreInZones, HasSmallSetpoint, IsTyped, Differ, number_of}
+use Rattle.fan_zone.specs.Sound.{IsSound, IsSeated, AreSeated, AreSmall, AreInZones, HasSmallSetpoint, IsTyped, Differ, number_of, held_id}
 use Rattle.fan_zone.proofs.Numbered.{all_map, all_set, all_tail}
 
 in_zones_still : (rows next : List ZoneRow) (held : List Held) → length next ≡ length rows → AreInZones rows held → AreInZones next held
@@ -20,6 +22,10 @@ in_zones_still rows next held same all = λ k d lt. omega (arith, same, all k d 
 numbers_aged : (held : List Held) → map number_of (map aged held) ≡ map number_of held
 numbers_aged [] = refl
 numbers_aged (one ∷ more) = ap (λ (l : List ℕ). one.number ∷ l) (numbers_aged more)
+
+ids_aged : (held : List Held) → map held_id (map aged held) ≡ map held_id held
+ids_aged [] = refl
+ids_aged (one ∷ more) = ap (λ (l : List ItemId). one.id ∷ l) (ids_aged more)
 
 seated_aged : (bank : List Seen) (held : List Held) → AreSeated bank held → AreSeated bank (map aged held)
 seated_aged bank held seats = all_map aged (IsSeated bank) held (λ k d lt. let s = seats k d lt in record { within = s.within; loaded = s.loaded })
@@ -37,6 +43,11 @@ sound_aged old bank rows fans s seats small typed zones fan = record {
   plans = s.plans ∙ sym zones;
   lows = s.lows;
   fans = s.fans ∙ sym fan;
+  few_zones = omega (arith, s.few_zones, zones);
+  few_fans = omega (arith, s.few_fans, fan);
+  held_ids = subst (IsDistinct id_eq) (sym (ids_aged old.held)) s.held_ids;
+  zone_ids = s.zone_ids;
+  fan_ids = s.fan_ids;
 }
 
 pub typed_at : (bank : List Seen) (n : ℕ) → All IsTyped bank → IsTyped (box_at bank n)

@@ -1,18 +1,17 @@
 -- What holds of settings from one `set` to the next, and of samples.
-use Rattle.std.specs.Prelude.{◌≡◌, ℕ, Bool, true, ⊤, List, Some}
+use Rattle.std.specs.Prelude.{◌≡◌, ℕ, Bool, true, ⊤, List, Option, Some}
 use Rattle.std.specs.List.{All, AllByRecursion}
 use Rattle.std.specs.Option.{ForSome}
 use Rattle.bmc_base.specs.declared.milli.Milli.{Milli}
 use Rattle.sensor_core.specs.declared.setting.SensorSetting.{SensorSetting}
-use Rattle.sensor_core.specs.Sensors.{Outcome, Good, Lost, sensor_of}
+use Rattle.sensor_core.specs.Sensors.{Sensor, Outcome, Good, Lost, sensor_of}
 use Rattle.sensor_core.specs.Settings.{IsRaw, IsValidSetting}
-use Rattle.sensor_core.specs.Tables.{Table}
 use Rattle.cfg_json.specs.declared.item.Item.{Item}
 use Rattle.ctl_face.specs.Seen.{Seen}
 use Rattle.fan_zone.specs.Boxes.{box_at}
 use Rattle.fan_zone.specs.Live.{LiveControl, controls, id_eq}
 use Rattle.fan_zone.specs.declared.held.Held.{Held}
-use Rattle.fan_zone.specs.declared.holder.Holder.{Holder}
+use Rattle.live_sensors.specs.Sensors.{LiveSensors}
 use Rattle.fan_zone.specs.IsSets.{IsSet, Paired}
 use Rattle.fan_zone.specs.Settings.{HasSameSetting}
 use Rattle.fan_zone.specs.Passes.{sample_of}
@@ -34,10 +33,10 @@ KeepsSetting before control = All (λ (old : LiveControl). id_eq old.id control.
 -- controllers are loaded after `set`, and after each tick from then on; and where no controller changes its setting, the next `set` finds
 -- those that stay as it asks
 pub record SettingsStay : Type 0 where
-  pub by_set : (old new : ZonesView) (live : List Item) (sensors : List Holder)
+  pub by_set : (old new : ZonesView) (live : List Item) (sensors : LiveSensors)
       → IsSet old live sensors new → All (HasSameSetting old) (controls live) → AreLoaded live new
-  pub by_tick : (sensors : Table) (now : ℕ) (strict : Bool) (view : ZonesView) (live : List Item)
-      → AreLoaded live view → AreLoaded live (ticked sensors now strict view)
+  pub by_tick : (slots : List (Option Sensor)) (now : ℕ) (strict : Bool) (view : ZonesView) (live : List Item)
+      → AreLoaded live view → AreLoaded live (ticked slots now strict view)
   pub next : (view : ZonesView) (live next : List Item)
       → AreLoaded live view → All (KeepsSetting (controls live)) (controls next) → All (HasSameSetting view) (controls next)
 

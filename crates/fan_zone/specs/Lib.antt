@@ -3,6 +3,7 @@ pub mod Inputs
 pub mod Best
 pub mod Passes
 pub mod Rows
+pub mod RowSteps
 pub mod Ticks
 pub mod Failsafe
 pub mod Sound

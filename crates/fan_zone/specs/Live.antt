@@ -1,5 +1,6 @@
 -- What zones read of the live items: the controllers, the zones and the fans, each in item order.
-use Rattle.std.specs.Prelude.{ℕ, ◌==◌, Bool, ◌&&◌, List, [], ◌∷◌}
+use Rattle.std.specs.Prelude.{ℕ, ◌==◌, Bool, true, false, ◌&&◌, List, [], ◌∷◌, map}
+use Rattle.std.specs.Borrow.{Bor}
 use Rattle.std.specs.Option.{option_eq}
 use Rattle.bmc_base.specs.Places.{place_eq}
 use Rattle.cfg_json.specs.declared.expose.ZoneSetting.{ZoneSetting}
@@ -8,6 +9,19 @@ use Rattle.cfg_json.specs.declared.item.Item.{Item}
 use Rattle.cfg_json.specs.declared.item.ItemId.{ItemId}
 use Rattle.cfg_json.specs.declared.item.ItemPart.{ItemPart}
 use Rattle.cfg_json.specs.declared.item.ItemPart.TheVariants as parts
+
+-- the items behind some references
+abbrev pub items_of : List (Bor Item) → List Item
+items_of refs = map (λ ref. ref.now) refs
+
+-- whether an item acts in zones: it is a zone, a fan or a controller
+abbrev pub acts : ItemPart → Bool
+acts (parts.Zone setting) = true
+acts parts.Fan = true
+acts (parts.Control item) = true
+acts (parts.Sensor sensor) = false
+acts (parts.Mux part) = false
+acts parts.Passive = false
 
 -- whether two ids are one
 abbrev pub id_eq : ItemId → ItemId → Bool
@@ -48,6 +62,9 @@ with_zone id name (parts.Control item) more = more
 with_zone id name (parts.Mux part) more = more
 with_zone id name parts.Passive more = more
 
+abbrev pub zone_id : LiveZone → ItemId
+zone_id zone = zone.id
+
 -- the zones of some items
 abbrev pub zones : List Item → List LiveZone
 zones [] = []
@@ -65,6 +82,9 @@ with_fan id name (parts.Zone setting) more = more
 with_fan id name (parts.Control item) more = more
 with_fan id name (parts.Mux part) more = more
 with_fan id name parts.Passive more = more
+
+abbrev pub fan_id : LiveFan → ItemId
+fan_id fan = fan.id
 
 -- the fans of some items
 abbrev pub fans : List Item → List LiveFan

@@ -4,7 +4,7 @@ use Rattle.bmc_base.specs.declared.milli.Milli.{Milli}
 use Rattle.ctl_face.specs.declared.sample.Sample.{Sample}
 use Rattle.ctl_face.specs.Floors.{clamped}
 use Rattle.ctl_face.specs.Seen.{Seen, stepped}
-use Rattle.sensor_core.specs.Tables.{Table}
+use Rattle.sensor_core.specs.Sensors.{Sensor}
 use Rattle.fan_zone.specs.Boxes.{box_at}
 use Rattle.fan_zone.specs.declared.held.Held.{Held}
 use Rattle.fan_zone.specs.declared.held.Role.{Role}
@@ -39,9 +39,9 @@ thermal_sample_at (Some setpoint) false input = None
 thermal_sample_at (Some setpoint) true input = sample_at input setpoint
 
 -- a thermal controller takes part at the 1st, 11th, 21st and so on tick of its run, where an input is good
-abbrev pub thermal_sample : Table → ℕ → Held → Option Sample
-thermal_sample sensors now held =
-    thermal_sample_at (thermal_setpoint held.role) (nat_eq held.age 0) (input_of held.role (good_inputs sensors now held.inputs))
+abbrev pub thermal_sample : List (Option Sensor) → ℕ → Held → Option Sample
+thermal_sample slots now held =
+    thermal_sample_at (thermal_setpoint held.role) (nat_eq held.age 0) (input_of held.role (good_inputs slots now held.inputs))
 
 abbrev pub shown : Option ZoneRow → Milli
 shown None = milli (pos 0)
@@ -56,9 +56,9 @@ fan_sample_at None input setpoint = Some (sample_of (unwrap_or input (pos 0)) se
 fan_sample_at (Some thermal) input setpoint = None
 
 -- a fan controller takes part at each tick of its run, by the setpoint that its zone shows
-abbrev pub fan_sample : Table → ℕ → List ZoneRow → Held → Option Sample
-fan_sample sensors now rows held =
-    fan_sample_at (thermal_setpoint held.role) (input_of held.role (good_inputs sensors now held.inputs)) (shown_setpoint rows held.zone)
+abbrev pub fan_sample : List (Option Sensor) → ℕ → List ZoneRow → Held → Option Sample
+fan_sample slots now rows held =
+    fan_sample_at (thermal_setpoint held.role) (input_of held.role (good_inputs slots now held.inputs)) (shown_setpoint rows held.zone)
 
 abbrev pub step_box : List Seen → ℕ → Option Sample → List Seen
 step_box bank number None = bank

@@ -10,7 +10,7 @@ use Rattle.fan_zone.specs.declared.rows.ZonePlan.{ZonePlan}
 use Rattle.fan_zone.specs.declared.rows.ZoneRow.{ZoneRow}
 use Rattle.fan_zone.specs.declared.rows.FanPlan.{FanPlan}
 use Rattle.fan_zone.specs.declared.rows.FanRow.{FanRow}
-use Rattle.sensor_core.specs.Tables.{Table}
+use Rattle.sensor_core.specs.Sensors.{Sensor}
 use Rattle.fan_zone.specs.Inputs.{has_bad_input}
 use Rattle.fan_zone.specs.Passes.{milli, thermal_setpoint}
 
@@ -50,8 +50,8 @@ abbrev pub setpoint_of : ℤ → ℕ → List Held → List Seen → ℤ
 setpoint_of low zone held bank = fold int_max low (thermal_outputs zone held bank)
 
 -- whether an input of one of the controllers of the zone is bad
-abbrev pub is_in_failsafe : Table → ℕ → ℕ → List Held → Bool
-is_in_failsafe sensors now zone held = list_any (λ (one : Held). nat_eq one.zone zone && has_bad_input sensors now one.inputs) held
+abbrev pub is_in_failsafe : List (Option Sensor) → ℕ → ℕ → List Held → Bool
+is_in_failsafe slots now zone held = list_any (λ (one : Held). nat_eq one.zone zone && has_bad_input slots now one.inputs) held
 
 abbrev pub min_thermal : Option ZonePlan → ℤ
 min_thermal None = pos 0
@@ -61,10 +61,10 @@ abbrev pub failsafe_percent : Option ZonePlan → ℤ
 failsafe_percent None = pos 0
 failsafe_percent (Some plan) = plan.setting.failsafe.0
 
-abbrev pub zone_row : Table → ℕ → List ZonePlan → List Held → List Seen → ℕ → ZoneRow → ZoneRow
-zone_row sensors now plans held bank zone row = record {
+abbrev pub zone_row : List (Option Sensor) → ℕ → List ZonePlan → List Held → List Seen → ℕ → ZoneRow → ZoneRow
+zone_row slots now plans held bank zone row = record {
   name = row.name;
-  failsafe = is_in_failsafe sensors now zone held;
+  failsafe = is_in_failsafe slots now zone held;
   setpoint = Some (milli (setpoint_of (min_thermal (slice_get plans zone)) zone held bank));
 }
 

@@ -29,9 +29,17 @@ kept_zone name (Some row) = record { name = name; failsafe = row.failsafe; setpo
 abbrev pub zone_row_of : List ZonePlan → List ZoneRow → LiveZone → ZoneRow
 zone_row_of plans rows zone = kept_zone zone.name (find_zone zone.id plans rows)
 
+-- whether a controller commands fans
+abbrev pub commands_fans : ControlItem → Bool
+commands_fans item = is_none (thermal_setpoint (role_of item.setting))
+
+-- whether one of some controllers does
+abbrev pub some_command_fans : List LiveControl → Bool
+some_command_fans controls = list_any (λ (control : LiveControl). commands_fans control.item) controls
+
 -- whether a controller commands fans, and names this one as an output
 abbrev pub outputs_to : List ℕ → ControlItem → Bool
-outputs_to name item = is_none (thermal_setpoint (role_of item.setting)) && list_any (bytes_eq name) item.outputs
+outputs_to name item = commands_fans item && list_any (bytes_eq name) item.outputs
 
 -- the first controller that does, the first of them being n
 abbrev pub first_from : ℕ → List ℕ → List LiveControl → Option ℕ

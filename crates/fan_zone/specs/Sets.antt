@@ -17,14 +17,9 @@ use Rattle.fan_zone.specs.declared.held.Seat.{Seat}
 use Rattle.fan_zone.specs.declared.held.Role.{Role}
 use Rattle.fan_zone.specs.declared.held.Role.TheVariants.{Fan, Temp, Margin}
 use Rattle.fan_zone.specs.declared.rows.ZoneRow.{ZoneRow}
-use Rattle.fan_zone.specs.declared.holder.Holder.{Holder}
+use Rattle.live_sensors.specs.Sensors.{LiveSensors, slot_of}
 use Rattle.fan_zone.specs.Live.{LiveControl, id_eq}
 use Rattle.fan_zone.specs.Rows.{numbered}
-
--- the slot of the first sensor with this name
-abbrev pub slot_of : List Holder → List ℕ → Option ℕ
-slot_of [] name = None
-slot_of (holder ∷ more) name = if bytes_eq holder.name name then Some holder.slot else slot_of more name
 
 abbrev pub role_of_class : PidClass → Milli → Role
 role_of_class FanClass setpoint = Fan
@@ -45,7 +40,7 @@ abbrev pub zone_of : List ZoneRow → List ℕ → Option ℕ
 zone_of rows name = zone_from 0 rows name
 
 -- the record of a controller in a seat
-abbrev pub held_of : List ZoneRow → List Holder → LiveControl → Seat → Held
+abbrev pub held_of : List ZoneRow → LiveSensors → LiveControl → Seat → Held
 held_of rows sensors control seat = record {
   id = control.id;
   role = role_of control.item.setting;
@@ -100,7 +95,7 @@ pub record Seating : Type 0 where
 abbrev pub seating : List Held → List ℕ → List Seen → Seating
 seating held taken bank = record { held = held; taken = taken; bank = bank }
 
-abbrev pub seated_free : List ZoneRow → List Holder → LiveControl → Seating → Option ℕ → Seating
+abbrev pub seated_free : List ZoneRow → LiveSensors → LiveControl → Seating → Option ℕ → Seating
 seated_free rows sensors control before None = before
 seated_free rows sensors control before (Some number) = record {
   held = before.held ++ held_of rows sensors control (record { number = number; age = 0 }) ∷ [];
@@ -108,14 +103,14 @@ seated_free rows sensors control before (Some number) = record {
   bank = set before.bank number (loaded (box_at before.bank number) control.item.setting);
 }
 
-abbrev pub seated : List ZoneRow → List Holder → LiveControl → Seating → Option Seat → Seating
+abbrev pub seated : List ZoneRow → LiveSensors → LiveControl → Seating → Option Seat → Seating
 seated rows sensors control before (Some seat) = record before { held = before.held ++ held_of rows sensors control seat ∷ [] }
 seated rows sensors control before None =
     seated_free rows sensors control before (free (kind_of control.item.setting) before.taken 0 before.bank)
 
 -- one more controller takes its seat: the one that it kept, or the first free box of its kind, loaded
-abbrev pub seat_next : List ZoneRow → List Holder → List Held → Seating → LiveControl → Seating
+abbrev pub seat_next : List ZoneRow → LiveSensors → List Held → Seating → LiveControl → Seating
 seat_next rows sensors old before control = seated rows sensors control before (kept_seat old control.id)
 
-abbrev pub seat_all : List ZoneRow → List Holder → List Held → Seating → List LiveControl → Seating
+abbrev pub seat_all : List ZoneRow → LiveSensors → List Held → Seating → List LiveControl → Seating
 seat_all rows sensors old before controls = fold (seat_next rows sensors old) before controls

@@ -1,17 +1,18 @@
 -- What `set` asks for, and what it gives.
 use Rattle.std.specs.Prelude.{◌≡◌, ℕ, ◌≤◌, bytes_eq, true, List, [], map, length, Some, count_by}
-use Rattle.std.specs.List.{All, list_any, IsDistinct}
+use Rattle.std.specs.List.{All, list_any}
 use Rattle.ctl_face.specs.declared.kind.Kind.{Kind}
 use Rattle.ctl_face.specs.Kinds.{kind_eq}
 use Rattle.ctl_face.specs.Seen.{Seen}
-use Rattle.fan_zone.specs.Live.{id_eq, id_of, LiveControl, controls, LiveZone, zones, fans}
+use Rattle.fan_zone.specs.Live.{id_of, LiveControl, controls, LiveZone, zone_id, zones, fan_id, fans}
 use Rattle.fan_zone.specs.Boxes.{box_at, kinds_of}
 use Rattle.cfg_json.specs.Configs.{IsValidZone}
 use Rattle.cfg_json.specs.declared.item.Item.{Item}
 use Rattle.fan_zone.specs.declared.held.Held.{Held}
 use Rattle.fan_zone.specs.declared.rows.ZoneRow.{ZoneRow}
-use Rattle.fan_zone.specs.declared.holder.Holder.{Holder}
+use Rattle.live_sensors.specs.Sensors.{LiveSensors}
 use Rattle.fan_zone.specs.Ticks.{ZonesView}
+use Rattle.fan_zone.specs.Sound.{HaveOwnIds, most_zones, most_fans}
 use Rattle.fan_zone.specs.Sets.{Seating, find_held, kept_numbers, cleared, seat_all}
 use Rattle.fan_zone.specs.SetRows.{plan_of, zone_row_of, fan_plan_of, fan_row_of}
 use Rattle.fan_zone.specs.Seats.{IsValidControl, is_control_of}
@@ -25,22 +26,17 @@ HasSameSetting old control =
 abbrev pub HasZone : List Item → LiveControl → Type 0
 HasZone live control = list_any (λ (zone : LiveZone). bytes_eq zone.name control.item.zone) (zones live) ≡ true
 
--- the most zones, and the most fans
-abbrev pub most_zones : ℕ
-most_zones = 32
-
-abbrev pub most_fans : ℕ
-most_fans = 128
-
--- what `set` asks for: there are no more controllers than boxes, of each kind too, and no more zones and fans than there is room for; controllers
--- have ids of their own, valid settings and few inputs, and stand in one of the zones; the numbers of zones are in their ranges; and a controller
--- that was there has the setting that it had
+-- what `set` asks for: there are no more controllers than boxes, of each kind too, and no more zones and fans than there is room for; controllers,
+-- zones and fans have ids of their own; controllers have valid settings and few inputs, and stand in one of the zones; the numbers of zones are in
+-- their ranges; and a controller that was there has the setting that it had
 pub record CanSet (old : ZonesView) (live : List Item) : Type 0 where
   pub few : length (controls live) ≤ length (kinds_of old.bank)
   pub room : (kind : Kind) → count_by (is_control_of kind) (controls live) ≤ count_by (λ (each : Kind). kind_eq each kind) (kinds_of old.bank)
   pub few_zones : length (zones live) ≤ most_zones
   pub few_fans : length (fans live) ≤ most_fans
-  pub ids : IsDistinct id_eq (map id_of (controls live))
+  pub ids : HaveOwnIds id_of (controls live)
+  pub zone_ids : HaveOwnIds zone_id (zones live)
+  pub fan_ids : HaveOwnIds fan_id (fans live)
   pub valid : All IsValidControl (controls live)
   pub settings : All (λ (zone : LiveZone). IsValidZone zone.setting) (zones live)
   pub placed : All (HasZone live) (controls live)
@@ -53,10 +49,10 @@ before held bank live = record { held = []; taken = kept_numbers held (controls 
 abbrev pub zone_rows_of : ZonesView → List Item → List ZoneRow
 zone_rows_of old live = map (zone_row_of old.zone_plans old.zone_rows) (zones live)
 
-abbrev pub seating_of : ZonesView → List Item → List Holder → Seating
+abbrev pub seating_of : ZonesView → List Item → LiveSensors → Seating
 seating_of old live sensors = seat_all (zone_rows_of old live) sensors old.held (before old.held old.bank live) (controls live)
 
-abbrev pub set_to : List Item → List Holder → ZonesView → ZonesView
+abbrev pub set_to : List Item → LiveSensors → ZonesView → ZonesView
 set_to live sensors old = record {
   bank = (seating_of old live sensors).bank;
   held = (seating_of old live sensors).held;

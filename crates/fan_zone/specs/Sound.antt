@@ -1,7 +1,7 @@
 -- What is true of all zones.
-use Rattle.std.specs.Prelude.{◌≡◌, ◌<◌, length, IsSome, List, false, [], ◌∷◌, map, ℕ}
+use Rattle.std.specs.Prelude.{◌≡◌, ◌<◌, ◌≤◌, length, IsSome, List, false, [], ◌∷◌, map, ℕ}
 use Rattle.fan_zone.specs.Sets.{is_taken}
-use Rattle.std.specs.List.{All}
+use Rattle.std.specs.List.{All, IsDistinct}
 use Rattle.std.specs.Option.{ForSome}
 use Rattle.ctl_face.specs.Ranges.{IsMilli}
 use Rattle.ctl_face.specs.Seen.{Seen}
@@ -10,6 +10,9 @@ use Rattle.fan_zone.specs.Boxes.{box_at}
 use Rattle.fan_zone.specs.declared.held.Held.{Held}
 use Rattle.fan_zone.specs.declared.rows.ZonePlan.{ZonePlan}
 use Rattle.fan_zone.specs.declared.rows.ZoneRow.{ZoneRow}
+use Rattle.fan_zone.specs.declared.rows.FanPlan.{FanPlan}
+use Rattle.cfg_json.specs.declared.item.ItemId.{ItemId}
+use Rattle.fan_zone.specs.Live.{id_eq}
 use Rattle.fan_zone.specs.Passes.{thermal_setpoint}
 use Rattle.fan_zone.specs.Ticks.{ZonesView}
 
@@ -49,6 +52,26 @@ abbrev pub Differ : List ℕ → Type 0
 Differ [] = Unit {0}
 Differ (number ∷ more) = (is_taken more number ≡ false) × Differ more
 
+-- no id twice
+abbrev pub HaveOwnIds : {A : Type 0} → (A → ItemId) → List A → Type 0
+HaveOwnIds id_in list = IsDistinct id_eq (map id_in list)
+
+abbrev pub held_id : Held → ItemId
+held_id held = held.id
+
+abbrev pub zone_plan_id : ZonePlan → ItemId
+zone_plan_id plan = plan.id
+
+abbrev pub fan_plan_id : FanPlan → ItemId
+fan_plan_id plan = plan.id
+
+-- the most zones, and the most fans
+abbrev pub most_zones : ℕ
+most_zones = 32
+
+abbrev pub most_fans : ℕ
+most_fans = 128
+
 pub record IsSound (view : ZonesView) : Type 0 where
   pub seats : AreSeated view.bank view.held
   pub outputs : AreSmall view.bank
@@ -59,6 +82,11 @@ pub record IsSound (view : ZonesView) : Type 0 where
   pub plans : length view.zone_plans ≡ length view.zone_rows
   pub lows : AreSmallPlans view.zone_plans
   pub fans : length view.fan_plans ≡ length view.fan_rows
+  pub few_zones : length view.zone_rows ≤ most_zones
+  pub few_fans : length view.fan_rows ≤ most_fans
+  pub held_ids : HaveOwnIds held_id view.held
+  pub zone_ids : HaveOwnIds zone_plan_id view.zone_plans
+  pub fan_ids : HaveOwnIds fan_plan_id view.fan_plans
 
 -- the setpoint that is shown is in range
 abbrev pub HasSmallRow : ZoneRow → Type 0

@@ -1,12 +1,12 @@
 -- One tick of the zones.
-use Rattle.std.specs.Prelude.{ℕ, ◌+◌, ◌%◌, Bool, List, [], map}
+use Rattle.std.specs.Prelude.{ℕ, ◌+◌, ◌%◌, Bool, List, [], map, Option}
 use Rattle.ctl_face.specs.Seen.{Seen}
 use Rattle.fan_zone.specs.declared.held.Held.{Held}
 use Rattle.fan_zone.specs.declared.rows.ZonePlan.{ZonePlan}
 use Rattle.fan_zone.specs.declared.rows.ZoneRow.{ZoneRow}
 use Rattle.fan_zone.specs.declared.rows.FanPlan.{FanPlan}
 use Rattle.fan_zone.specs.declared.rows.FanRow.{FanRow}
-use Rattle.sensor_core.specs.Tables.{Table}
+use Rattle.sensor_core.specs.Sensors.{Sensor}
 use Rattle.fan_zone.specs.Passes.{pass, thermal_sample, fan_sample}
 use Rattle.fan_zone.specs.Rows.{numbered, zone_row, fan_row}
 
@@ -39,29 +39,29 @@ abbrev pub aged : Held → Held
 aged held = record held { age = (held.age + 1) % 10 }
 
 -- the boxes after the thermal pass
-abbrev pub thermal_bank : Table → ℕ → ZonesView → List Seen
-thermal_bank sensors now old = pass (thermal_sample sensors now) old.held old.bank
+abbrev pub thermal_bank : List (Option Sensor) → ℕ → ZonesView → List Seen
+thermal_bank slots now old = pass (thermal_sample slots now) old.held old.bank
 
 -- the setpoints and the modes of zones
-abbrev pub zone_rows_after : Table → ℕ → ZonesView → List ZoneRow
-zone_rows_after sensors now old = numbered (zone_row sensors now old.zone_plans old.held (thermal_bank sensors now old)) 0 old.zone_rows
+abbrev pub zone_rows_after : List (Option Sensor) → ℕ → ZonesView → List ZoneRow
+zone_rows_after slots now old = numbered (zone_row slots now old.zone_plans old.held (thermal_bank slots now old)) 0 old.zone_rows
 
 -- the boxes after the fan pass
-abbrev pub bank_after : Table → ℕ → ZonesView → List Seen
-bank_after sensors now old = pass (fan_sample sensors now (zone_rows_after sensors now old)) old.held (thermal_bank sensors now old)
+abbrev pub bank_after : List (Option Sensor) → ℕ → ZonesView → List Seen
+bank_after slots now old = pass (fan_sample slots now (zone_rows_after slots now old)) old.held (thermal_bank slots now old)
 
 -- the duties of fans
-abbrev pub fan_rows_after : Table → ℕ → Bool → ZonesView → List FanRow
-fan_rows_after sensors now strict old =
-    numbered (fan_row strict old.held (bank_after sensors now old) old.zone_plans (zone_rows_after sensors now old) old.fan_plans) 0 old.fan_rows
+abbrev pub fan_rows_after : List (Option Sensor) → ℕ → Bool → ZonesView → List FanRow
+fan_rows_after slots now strict old =
+    numbered (fan_row strict old.held (bank_after slots now old) old.zone_plans (zone_rows_after slots now old) old.fan_plans) 0 old.fan_rows
 
 -- the zones after a tick: the thermal pass, setpoints and modes of zones, the fan pass, and duties of fans
-abbrev pub ticked : Table → ℕ → Bool → ZonesView → ZonesView
-ticked sensors now strict old = record {
-  bank = bank_after sensors now old;
+abbrev pub ticked : List (Option Sensor) → ℕ → Bool → ZonesView → ZonesView
+ticked slots now strict old = record {
+  bank = bank_after slots now old;
   held = map aged old.held;
   zone_plans = old.zone_plans;
-  zone_rows = zone_rows_after sensors now old;
+  zone_rows = zone_rows_after slots now old;
   fan_plans = old.fan_plans;
-  fan_rows = fan_rows_after sensors now strict old;
+  fan_rows = fan_rows_after slots now strict old;
 }

@@ -1,9 +1,9 @@
 //! Steps the controllers of zones over a bank of boxes that the caller made, and tells the duty of each fan.
 #![tactic(auto)]
 
+mod acting;
 mod bank;
 mod held;
-mod holder;
 mod law;
 mod passes;
 mod reading;
@@ -16,8 +16,8 @@ mod showing;
 mod tests;
 mod zones;
 
+pub use acting::acts;
 pub use held::{Held, Inputs, Role, Seat};
-pub use holder::Holder;
 pub use law::{settings_stay, values_fit};
 pub use rows::{FanPlan, FanRow, ZonePlan, ZoneRow};
 pub use zones::Zones;

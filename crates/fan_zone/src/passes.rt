@@ -51,7 +51,7 @@ fn sample_of(input: i64, setpoint: Milli) -> Sample
 // What a thermal controller steps on at this tick, if it takes part.
 fn thermal_sample(sensors: &SensorTable, now: u64, held: &Held) -> Option<Sample>
     requires { HasSmallSetpoint held.now }
-    ensures value { result ≡ thermal_sample sensors.now now held.now }
+    ensures value { result ≡ thermal_sample sensors.now.slots now held.now }
     ensures valid { ForSome result IsValidSample }
 {
     let setpoint = thermal_setpoint(held.role)?;
@@ -77,7 +77,7 @@ fn shown_setpoint(rows: &[ZoneRow], zone: usize) -> Milli
 // What a fan controller steps on at this tick.
 fn fan_sample(sensors: &SensorTable, now: u64, rows: &[ZoneRow], held: &Held) -> Option<Sample>
     requires { AreSmallRows rows.now }
-    ensures value { result ≡ fan_sample sensors.now now rows.now held.now }
+    ensures value { result ≡ fan_sample sensors.now.slots now rows.now held.now }
     ensures valid { ForSome result IsValidSample }
 {
     if thermal_setpoint(held.role).is_some() {
@@ -113,7 +113,7 @@ pub(crate) fn step_thermals<C: Controller>(
     requires seats { AreSeated bank.old held.now }
     requires small { AreSmall bank.old }
     requires setpoints { All HasSmallSetpoint held.now }
-    ensures state { bank.new ≡ pass (thermal_sample sensors.now now) held.now bank.old }
+    ensures state { bank.new ≡ pass (thermal_sample sensors.now.slots now) held.now bank.old }
     ensures seats { AreSeated bank.new held.now }
     ensures small { AreSmall bank.new }
 {
@@ -134,7 +134,7 @@ pub(crate) fn step_fans<C: Controller>(
     requires seats { AreSeated bank.old held.now }
     requires small { AreSmall bank.old }
     requires rows { AreSmallRows rows.now }
-    ensures state { bank.new ≡ pass (fan_sample sensors.now now rows.now) held.now bank.old }
+    ensures state { bank.new ≡ pass (fan_sample sensors.now.slots now rows.now) held.now bank.old }
     ensures seats { AreSeated bank.new held.now }
     ensures small { AreSmall bank.new }
 {

@@ -8,7 +8,7 @@ use sensor_core::{Sensor, SensorTable};
 
 // The sensor of an input.
 fn sensor_of(sensors: &SensorTable, input: Option<usize>) -> Option<&Sensor>
-    ensures { option_copied result ≡ sensor_of sensors.now input }
+    ensures { option_copied result ≡ sensor_of sensors.now.slots input }
 {
     match input {
         None => None,
@@ -18,7 +18,7 @@ fn sensor_of(sensors: &SensorTable, input: Option<usize>) -> Option<&Sensor>
 
 // Whether an input is bad.
 fn is_bad_input(sensors: &SensorTable, now: u64, input: Option<usize>) -> bool
-    ensures { result ≡ is_bad_input sensors.now now input }
+    ensures { result ≡ is_bad_input sensors.now.slots now input }
 {
     match sensor_of(sensors, input) {
         None => true,
@@ -28,7 +28,7 @@ fn is_bad_input(sensors: &SensorTable, now: u64, input: Option<usize>) -> bool
 
 // The value of an input that is not bad.
 fn good_input(sensors: &SensorTable, now: u64, input: Option<usize>) -> Option<Milli>
-    ensures { result ≡ good_input sensors.now now input }
+    ensures { result ≡ good_input sensors.now.slots now input }
 {
     match sensor_of(sensors, input) {
         None => None,
@@ -44,7 +44,7 @@ fn good_input(sensors: &SensorTable, now: u64, input: Option<usize>) -> Option<M
 
 /// Whether one of the inputs is bad.
 pub(crate) fn has_bad_input(sensors: &SensorTable, now: u64, inputs: &[Option<usize>]) -> bool
-    ensures { result ≡ has_bad_input sensors.now now inputs.now }
+    ensures { result ≡ has_bad_input sensors.now.slots now inputs.now }
 {
     inputs
         .iter()
@@ -101,7 +101,7 @@ pub(crate) fn input(
     role: Role,
     inputs: &[Option<usize>],
 ) -> Option<i64>
-    ensures { result ≡ input_of role (good_inputs sensors.now now inputs.now) }
+    ensures { result ≡ input_of role (good_inputs sensors.now.slots now inputs.now) }
 {
     let mut best = None;
     for input in inputs {

@@ -2,8 +2,10 @@ ghost use Rattle.std.specs.Prelude.{◌≡◌, ◌+◌, ◌≤◌, ◌<◌, ◌+
 ghost use Rattle.std.specs.Option.{MatchOption};
 ghost use Rattle.std.specs.Vec.{vec_capacity};
 ghost use Rattle.std.specs.List.{list_any};
-ghost use Rattle.fan_zone.specs.Live.{controls, fans, zones};
-ghost use Rattle.fan_zone.specs.SetRows.{outputs_to, fan_plan_of, fan_row_of, find_fan, find_zone, first_from, kept_zone, plan_of, zone_row_of};
+ghost use Rattle.fan_zone.specs.Live.{controls, fans, items_of, zones};
+ghost use Rattle.fan_zone.specs.Sound.{HaveOwnIds, fan_plan_id, zone_plan_id};
+ghost use Rattle.fan_zone.specs.SetRows.{commands_fans, outputs_to, some_command_fans, first_from};
+ghost use Rattle.fan_zone.specs.SetRows.{fan_plan_of, fan_row_of, find_fan, find_zone, kept_zone, plan_of, zone_row_of};
 
 use crate::passes::thermal_setpoint;
 use crate::resolve::{role_of, same_id, same_name};
@@ -12,26 +14,51 @@ use crate::seats::{put, trade};
 use bmc_base::Name;
 use cfg_json::{ControlItem, Item, ItemId, ItemPart};
 
-// The row of the zone with this id.
-fn find_zone<'r>(plans: &[ZonePlan], rows: &'r [ZoneRow], id: &ItemId) -> Option<&'r ZoneRow>
-    requires { length plans.now ≡ length rows.now }
+// The row of the zone with this id. Zones mostly come in the order in which they came before, so it is looked for where the
+// cursor stands, and only then from the first one on. The cursor then stands behind it.
+fn find_zone<'r>(
+    plans: &[ZonePlan],
+    rows: &'r [ZoneRow],
+    cursor: &mut usize,
+    id: &ItemId,
+) -> Option<&'r ZoneRow>
+    requires same { length plans.now ≡ length rows.now }
+    requires ids { HaveOwnIds zone_plan_id plans.now }
     ensures { option_copied result ≡ find_zone id.now plans.now rows.now }
 {
+    let at = *cursor;
+    if at < plans.len() && same_id(&plans[at].id, id) {
+        *cursor = at + 1;
+        return Some(&rows[at]);
+    }
     for number in 0..plans.len() {
         if same_id(&plans[number].id, id) {
+            *cursor = number + 1;
             return Some(&rows[number]);
         }
     }
     None
 }
 
-// The row of the fan with this id.
-fn find_fan<'r>(plans: &[FanPlan], rows: &'r [FanRow], id: &ItemId) -> Option<&'r FanRow>
-    requires { length plans.now ≡ length rows.now }
+// The row of the fan with this id, which is looked for as a zone is.
+fn find_fan<'r>(
+    plans: &[FanPlan],
+    rows: &'r [FanRow],
+    cursor: &mut usize,
+    id: &ItemId,
+) -> Option<&'r FanRow>
+    requires same { length plans.now ≡ length rows.now }
+    requires ids { HaveOwnIds fan_plan_id plans.now }
     ensures { option_copied result ≡ find_fan id.now plans.now rows.now }
 {
+    let at = *cursor;
+    if at < plans.len() && same_id(&plans[at].id, id) {
+        *cursor = at + 1;
+        return Some(&rows[at]);
+    }
     for number in 0..plans.len() {
         if same_id(&plans[number].id, id) {
+            *cursor = number + 1;
             return Some(&rows[number]);
         }
     }
@@ -39,12 +66,19 @@ fn find_fan<'r>(plans: &[FanPlan], rows: &'r [FanRow], id: &ItemId) -> Option<&'
 }
 
 // What a zone shows before its next tick.
-fn zone_row_of(plans: &[ZonePlan], rows: &[ZoneRow], id: &ItemId, name: &Name) -> ZoneRow
-    requires { length plans.now ≡ length rows.now }
+fn zone_row_of(
+    plans: &[ZonePlan],
+    rows: &[ZoneRow],
+    cursor: &mut usize,
+    id: &ItemId,
+    name: &Name,
+) -> ZoneRow
+    requires same { length plans.now ≡ length rows.now }
+    requires ids { HaveOwnIds zone_plan_id plans.now }
     ensures { result ≡ kept_zone name.now (find_zone id.now plans.now rows.now) }
 {
     let name = name.copied();
-    match find_zone(plans, rows, id) {
+    match find_zone(plans, rows, cursor, id) {
         None => ZoneRow {
             name,
             failsafe: false,
@@ -59,12 +93,19 @@ fn zone_row_of(plans: &[ZonePlan], rows: &[ZoneRow], id: &ItemId, name: &Name) -
 }
 
 // What a fan shows before its next tick.
-fn fan_row_of(plans: &[FanPlan], rows: &[FanRow], id: &ItemId, name: &Name) -> FanRow
-    requires { length plans.now ≡ length rows.now }
+fn fan_row_of(
+    plans: &[FanPlan],
+    rows: &[FanRow],
+    cursor: &mut usize,
+    id: &ItemId,
+    name: &Name,
+) -> FanRow
+    requires same { length plans.now ≡ length rows.now }
+    requires ids { HaveOwnIds fan_plan_id plans.now }
     ensures { result ≡ fan_row_of plans.now rows.now (record { id = id.now; name = name.now }) }
 {
     let name = name.copied();
-    match find_fan(plans, rows, id) {
+    match find_fan(plans, rows, cursor, id) {
         None => FanRow { name, duty: None },
         Some(row) => FanRow {
             name,
@@ -73,12 +114,32 @@ fn fan_row_of(plans: &[FanPlan], rows: &[FanRow], id: &ItemId, name: &Name) -> F
     }
 }
 
+// Whether a controller commands fans.
+fn commands_fans(control: &ControlItem) -> bool
+    ensures { result ≡ commands_fans control.now }
+{
+    thermal_setpoint(role_of(&control.setting)).is_none()
+}
+
+// Whether one of the controllers commands fans.
+fn some_command_fans(live: &[&Item]) -> bool
+    ensures { result ≡ some_command_fans (controls (items_of live.now)) }
+{
+    for item in live {
+        if let ItemPart::Control(control) = &item.part {
+            if commands_fans(control.get()) {
+                return true;
+            }
+        }
+    }
+    false
+}
+
 // Whether it is a fan controller that outputs to this name.
 fn outputs_to(control: &ControlItem, name: &Name) -> bool
     ensures { result ≡ outputs_to name.now control.now }
 {
-    thermal_setpoint(role_of(&control.setting)).is_none()
-        && has_name(control.outputs.as_slice(), name)
+    commands_fans(control) && has_name(control.outputs.as_slice(), name)
 }
 
 // Whether a name is among the names.
@@ -88,10 +149,15 @@ fn has_name(names: &[Name], name: &Name) -> bool
     names.iter().any(|one| same_name(name, one))
 }
 
-// The number of the controller that holds a fan.
-fn holder(live: &[Item], name: &Name) -> Option<usize>
-    ensures { result ≡ first_from 0 name.now (controls live.now) }
+// The number of the controller that holds a fan. Where no controller commands fans, it does not look.
+#[tactic(auto, using(crate::proofs::FindRows::held_by_none))]
+fn holder(live: &[&Item], some_command: bool, name: &Name) -> Option<usize>
+    requires { some_command ≡ some_command_fans (controls (items_of live.now)) }
+    ensures { result ≡ first_from 0 name.now (controls (items_of live.now)) }
 {
+    if !some_command {
+        return None;
+    }
     let mut number = 0;
     for item in live {
         if let ItemPart::Control(control) = &item.part {
@@ -110,11 +176,13 @@ fn add_zone(
     next_rows: &mut Vec<ZoneRow>,
     plans: &[ZonePlan],
     rows: &[ZoneRow],
+    cursor: &mut usize,
     item: &Item,
 )
     requires plans { length next_plans.old.items + length (zones (item.now ∷ [])) ≤ vec_capacity next_plans.old }
     requires rows { length next_rows.old.items + length (zones (item.now ∷ [])) ≤ vec_capacity next_rows.old }
     requires same { length plans.now ≡ length rows.now }
+    requires ids { HaveOwnIds zone_plan_id plans.now }
     ensures plans { next_plans.new.items ≡ next_plans.old.items ++ map plan_of (zones (item.now ∷ [])) }
     ensures rows { next_rows.new.items ≡ next_rows.old.items ++ map (zone_row_of plans.now rows.now) (zones (item.now ∷ [])) }
     ensures room_plans { vec_capacity next_plans.old ≤ vec_capacity next_plans.new }
@@ -128,7 +196,10 @@ fn add_zone(
                 setting: *setting,
             },
         );
-        put(next_rows, zone_row_of(plans, rows, &item.id, &item.name));
+        put(
+            next_rows,
+            zone_row_of(plans, rows, cursor, &item.id, &item.name),
+        );
     }
 }
 
@@ -138,13 +209,17 @@ fn add_fan(
     next_rows: &mut Vec<FanRow>,
     plans: &[FanPlan],
     rows: &[FanRow],
-    live: &[Item],
+    cursor: &mut usize,
+    live: &[&Item],
+    some_command: bool,
     item: &Item,
 )
     requires plans { length next_plans.old.items + length (fans (item.now ∷ [])) ≤ vec_capacity next_plans.old }
     requires rows { length next_rows.old.items + length (fans (item.now ∷ [])) ≤ vec_capacity next_rows.old }
     requires same { length plans.now ≡ length rows.now }
-    ensures plans { next_plans.new.items ≡ next_plans.old.items ++ map (fan_plan_of (controls live.now)) (fans (item.now ∷ [])) }
+    requires ids { HaveOwnIds fan_plan_id plans.now }
+    requires command { some_command ≡ some_command_fans (controls (items_of live.now)) }
+    ensures plans { next_plans.new.items ≡ next_plans.old.items ++ map (fan_plan_of (controls (items_of live.now))) (fans (item.now ∷ [])) }
     ensures rows { next_rows.new.items ≡ next_rows.old.items ++ map (fan_row_of plans.now rows.now) (fans (item.now ∷ [])) }
     ensures room_plans { vec_capacity next_plans.old ≤ vec_capacity next_plans.new }
     ensures room_rows { vec_capacity next_rows.old ≤ vec_capacity next_rows.new }
@@ -154,10 +229,13 @@ fn add_fan(
             next_plans,
             FanPlan {
                 id: item.id,
-                holder: holder(live, &item.name),
+                holder: holder(live, some_command, &item.name),
             },
         );
-        put(next_rows, fan_row_of(plans, rows, &item.id, &item.name));
+        put(
+            next_rows,
+            fan_row_of(plans, rows, cursor, &item.id, &item.name),
+        );
     }
 }
 
@@ -167,18 +245,20 @@ pub(crate) fn add_zones(
     next_rows: &mut Vec<ZoneRow>,
     plans: &[ZonePlan],
     rows: &[ZoneRow],
-    live: &[Item],
+    live: &[&Item],
 )
-    requires plans { length next_plans.old.items + length (zones live.now) ≤ vec_capacity next_plans.old }
-    requires rows { length next_rows.old.items + length (zones live.now) ≤ vec_capacity next_rows.old }
+    requires plans { length next_plans.old.items + length (zones (items_of live.now)) ≤ vec_capacity next_plans.old }
+    requires rows { length next_rows.old.items + length (zones (items_of live.now)) ≤ vec_capacity next_rows.old }
     requires same { length plans.now ≡ length rows.now }
-    ensures plans { next_plans.new.items ≡ next_plans.old.items ++ map plan_of (zones live.now) }
-    ensures rows { next_rows.new.items ≡ next_rows.old.items ++ map (zone_row_of plans.now rows.now) (zones live.now) }
+    requires ids { HaveOwnIds zone_plan_id plans.now }
+    ensures plans { next_plans.new.items ≡ next_plans.old.items ++ map plan_of (zones (items_of live.now)) }
+    ensures rows { next_rows.new.items ≡ next_rows.old.items ++ map (zone_row_of plans.now rows.now) (zones (items_of live.now)) }
     ensures room_plans { vec_capacity next_plans.old ≤ vec_capacity next_plans.new }
     ensures room_rows { vec_capacity next_rows.old ≤ vec_capacity next_rows.new }
 {
+    let mut cursor = 0;
     for item in live {
-        add_zone(next_plans, next_rows, plans, rows, item);
+        add_zone(next_plans, next_rows, plans, rows, &mut cursor, item);
     }
 }
 
@@ -188,18 +268,30 @@ pub(crate) fn add_fans(
     next_rows: &mut Vec<FanRow>,
     plans: &[FanPlan],
     rows: &[FanRow],
-    live: &[Item],
+    live: &[&Item],
 )
-    requires plans { length next_plans.old.items + length (fans live.now) ≤ vec_capacity next_plans.old }
-    requires rows { length next_rows.old.items + length (fans live.now) ≤ vec_capacity next_rows.old }
+    requires plans { length next_plans.old.items + length (fans (items_of live.now)) ≤ vec_capacity next_plans.old }
+    requires rows { length next_rows.old.items + length (fans (items_of live.now)) ≤ vec_capacity next_rows.old }
     requires same { length plans.now ≡ length rows.now }
-    ensures plans { next_plans.new.items ≡ next_plans.old.items ++ map (fan_plan_of (controls live.now)) (fans live.now) }
-    ensures rows { next_rows.new.items ≡ next_rows.old.items ++ map (fan_row_of plans.now rows.now) (fans live.now) }
+    requires ids { HaveOwnIds fan_plan_id plans.now }
+    ensures plans { next_plans.new.items ≡ next_plans.old.items ++ map (fan_plan_of (controls (items_of live.now))) (fans (items_of live.now)) }
+    ensures rows { next_rows.new.items ≡ next_rows.old.items ++ map (fan_row_of plans.now rows.now) (fans (items_of live.now)) }
     ensures room_plans { vec_capacity next_plans.old ≤ vec_capacity next_plans.new }
     ensures room_rows { vec_capacity next_rows.old ≤ vec_capacity next_rows.new }
 {
+    let some_command = some_command_fans(live);
+    let mut cursor = 0;
     for item in live {
-        add_fan(next_plans, next_rows, plans, rows, live, item);
+        add_fan(
+            next_plans,
+            next_rows,
+            plans,
+            rows,
+            &mut cursor,
+            live,
+            some_command,
+            item,
+        );
     }
 }
 
@@ -209,15 +301,16 @@ pub(crate) fn renew_zones(
     rows: &mut Vec<ZoneRow>,
     next_plans: &mut Vec<ZonePlan>,
     next_rows: &mut Vec<ZoneRow>,
-    live: &[Item],
+    live: &[&Item],
 )
     requires plans_empty { next_plans.old.items ≡ [] }
     requires rows_empty { next_rows.old.items ≡ [] }
-    requires plans_room { length (zones live.now) ≤ vec_capacity next_plans.old }
-    requires rows_room { length (zones live.now) ≤ vec_capacity next_rows.old }
+    requires plans_room { length (zones (items_of live.now)) ≤ vec_capacity next_plans.old }
+    requires rows_room { length (zones (items_of live.now)) ≤ vec_capacity next_rows.old }
     requires same { length plans.old.items ≡ length rows.old.items }
-    ensures plans { plans.new.items ≡ map plan_of (zones live.now) }
-    ensures rows { rows.new.items ≡ map (zone_row_of plans.old.items rows.old.items) (zones live.now) }
+    requires ids { HaveOwnIds zone_plan_id plans.old.items }
+    ensures plans { plans.new.items ≡ map plan_of (zones (items_of live.now)) }
+    ensures rows { rows.new.items ≡ map (zone_row_of plans.old.items rows.old.items) (zones (items_of live.now)) }
     ensures plans_empty { next_plans.new.items ≡ [] }
     ensures rows_empty { next_rows.new.items ≡ [] }
     ensures plans_room { vec_capacity next_plans.old ≤ vec_capacity plans.new }
@@ -236,15 +329,16 @@ pub(crate) fn renew_fans(
     rows: &mut Vec<FanRow>,
     next_plans: &mut Vec<FanPlan>,
     next_rows: &mut Vec<FanRow>,
-    live: &[Item],
+    live: &[&Item],
 )
     requires plans_empty { next_plans.old.items ≡ [] }
     requires rows_empty { next_rows.old.items ≡ [] }
-    requires plans_room { length (fans live.now) ≤ vec_capacity next_plans.old }
-    requires rows_room { length (fans live.now) ≤ vec_capacity next_rows.old }
+    requires plans_room { length (fans (items_of live.now)) ≤ vec_capacity next_plans.old }
+    requires rows_room { length (fans (items_of live.now)) ≤ vec_capacity next_rows.old }
     requires same { length plans.old.items ≡ length rows.old.items }
-    ensures plans { plans.new.items ≡ map (fan_plan_of (controls live.now)) (fans live.now) }
-    ensures rows { rows.new.items ≡ map (fan_row_of plans.old.items rows.old.items) (fans live.now) }
+    requires ids { HaveOwnIds fan_plan_id plans.old.items }
+    ensures plans { plans.new.items ≡ map (fan_plan_of (controls (items_of live.now))) (fans (items_of live.now)) }
+    ensures rows { rows.new.items ≡ map (fan_row_of plans.old.items rows.old.items) (fans (items_of live.now)) }
     ensures plans_empty { next_plans.new.items ≡ [] }
     ensures rows_empty { next_rows.new.items ≡ [] }
     ensures plans_room { vec_capacity next_plans.old ≤ vec_capacity plans.new }

@@ -1,14 +1,16 @@
 ghost use Rattle.std.specs.Prelude.{◌≡◌, bytes_eq, ◌+◌, ◌≤◌, ◌<◌, ◌++◌, [], ◌∷◌, None, Some, length, map, unwrap_or};
 ghost use Rattle.std.specs.Vec.{vec_capacity, vec_len};
 ghost use Rattle.fan_zone.specs.Live.{id_eq};
-ghost use Rattle.fan_zone.specs.Sets.{find_held, held_of, kept_seat, role_of, seat_of, slot_of, zone_of};
+ghost use Rattle.fan_zone.specs.Sets.{find_held, held_of, kept_seat, role_of, seat_of, zone_of};
+ghost use Rattle.fan_zone.specs.Sound.{HaveOwnIds, held_id};
+ghost use Rattle.live_sensors.specs.Sensors.{slot_of};
 
 use crate::held::{Held, Inputs, Role, Seat};
-use crate::holder::Holder;
 use crate::rows::ZoneRow;
 use bmc_base::{Milli, Name};
 use cfg_json::{ControlItem, ItemId, Names};
 use ctl_face::{PidClass, Setting};
+use live_sensors::LiveSensors;
 
 /// Whether two names are the same.
 pub(crate) fn same_name(name: &Name, other: &Name) -> bool
@@ -22,18 +24,6 @@ pub(crate) fn same_id(id: &ItemId, other: &ItemId) -> bool
     ensures { result ≡ id_eq id.now other.now }
 {
     id == other
-}
-
-// The slot of the first sensor with this name.
-fn slot_of(sensors: &[Holder], name: &Name) -> Option<usize>
-    ensures { result ≡ slot_of sensors.now name.now }
-{
-    for holder in sensors {
-        if same_name(&holder.name, name) {
-            return Some(holder.slot);
-        }
-    }
-    None
 }
 
 // The number of the zone with this name.
@@ -63,14 +53,14 @@ pub(crate) fn role_of(setting: &Setting) -> Role
 }
 
 // The slots of these names.
-fn inputs_of(sensors: &[Holder], names: &Names) -> Inputs
+fn inputs_of(sensors: &LiveSensors, names: &Names) -> Inputs
     requires { length names.now ≤ 16 }
     ensures { result ≡ map (slot_of sensors.now) names.now }
 {
     let names = names.as_slice();
     let mut inputs = Inputs::new();
     for name in names {
-        inputs.push(slot_of(sensors, name));
+        inputs.push(sensors.slot(name));
     }
     inputs
 }
@@ -78,7 +68,7 @@ fn inputs_of(sensors: &[Holder], names: &Names) -> Inputs
 /// The record of a controller in a seat.
 pub(crate) fn held_of(
     rows: &[ZoneRow],
-    sensors: &[Holder],
+    sensors: &LiveSensors,
     id: &ItemId,
     item: &ControlItem,
     seat: Seat,
@@ -96,16 +86,34 @@ pub(crate) fn held_of(
     }
 }
 
-/// The seat that a controller had.
-pub(crate) fn kept_seat(old: &[Held], id: &ItemId) -> Option<Seat>
+// The seat of a controller that is held.
+fn seat_of(held: &Held) -> Seat
+    ensures { result ≡ seat_of held.now }
+{
+    Seat {
+        number: held.number,
+        age: held.age,
+    }
+}
+
+/// The seat that a controller had. It is looked for where the cursor stands, and only then from the first one on. The cursor
+/// then stands behind it.
+pub(crate) fn kept_seat(old: &[Held], cursor: &mut usize, id: &ItemId) -> Option<Seat>
+    requires { HaveOwnIds held_id old.now }
     ensures { result ≡ kept_seat old.now id.now }
 {
-    for held in old {
+    let at = *cursor;
+    if at < old.len() {
+        let held = &old[at];
         if same_id(&held.id, id) {
-            return Some(Seat {
-                number: held.number,
-                age: held.age,
-            });
+            *cursor = at + 1;
+            return Some(seat_of(held));
+        }
+    }
+    for number in 0..old.len() {
+        if same_id(&old[number].id, id) {
+            *cursor = number + 1;
+            return Some(seat_of(&old[number]));
         }
     }
     None

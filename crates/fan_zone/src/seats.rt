@@ -1,4 +1,4 @@
-ghost use Rattle.fan_zone.specs.Live.{LiveControl, controls};
+ghost use Rattle.fan_zone.specs.Live.{LiveControl, controls, items_of};
 ghost use Rattle.fan_zone.specs.Settings.{before};
 ghost use Rattle.std.specs.Prelude.{◌≡◌, ◌+◌, ◌≤◌, ◌<◌, ◌++◌, [], ◌∷◌, None, Some, IsSome, length, slice_set, count_by};
 ghost use Rattle.std.specs.List.{All, fold};
@@ -8,15 +8,16 @@ ghost use Rattle.ctl_face.specs.Seen.{loaded};
 ghost use Rattle.ctl_face.specs.Kinds.{kind_of};
 ghost use Rattle.fan_zone.specs.Boxes.{box_at};
 ghost use Rattle.fan_zone.specs.Sets.{seating, free, held_of, kept_numbers, kept_seat, seat_all, seat_next};
+ghost use Rattle.fan_zone.specs.Sound.{HaveOwnIds, held_id};
 ghost use Rattle.fan_zone.specs.Seats.{is_new, IsReady, IsRoomy};
 
 use crate::bank::Bank;
 use crate::held::{Held, Seat};
-use crate::holder::Holder;
 use crate::resolve::{held_of, kept_seat};
 use crate::rows::ZoneRow;
 use cfg_json::{ControlItem, Item, ItemId, ItemPart};
 use ctl_face::{Controller, Setting};
+use live_sensors::LiveSensors;
 use std::mem::swap;
 
 /// One more element, where there is room.
@@ -29,26 +30,29 @@ pub(crate) fn put<T: Drop>(list: &mut Vec<T>, element: T)
 }
 
 // Notes the box of an item, if it is a controller that keeps one.
-fn keep_item(taken: &mut Vec<usize>, old: &[Held], item: &Item)
-    requires { length taken.old.items + length (controls (item.now ∷ [])) ≤ vec_capacity taken.old }
+fn keep_item(taken: &mut Vec<usize>, old: &[Held], cursor: &mut usize, item: &Item)
+    requires room { length taken.old.items + length (controls (item.now ∷ [])) ≤ vec_capacity taken.old }
+    requires ids { HaveOwnIds held_id old.now }
     ensures items { taken.new.items ≡ taken.old.items ++ kept_numbers old.now (controls (item.now ∷ [])) }
     ensures room { vec_capacity taken.old ≤ vec_capacity taken.new }
 {
     if let ItemPart::Control(_) = &item.part {
-        if let Some(seat) = kept_seat(old, &item.id) {
+        if let Some(seat) = kept_seat(old, cursor, &item.id) {
             put(taken, seat.number);
         }
     }
 }
 
 /// Notes the boxes that are kept.
-pub(crate) fn keep_all(taken: &mut Vec<usize>, old: &[Held], live: &[Item])
-    requires { length taken.old.items + length (controls live.now) ≤ vec_capacity taken.old }
-    ensures items { taken.new.items ≡ taken.old.items ++ kept_numbers old.now (controls live.now) }
+pub(crate) fn keep_all(taken: &mut Vec<usize>, old: &[Held], live: &[&Item])
+    requires room { length taken.old.items + length (controls (items_of live.now)) ≤ vec_capacity taken.old }
+    requires ids { HaveOwnIds held_id old.now }
+    ensures items { taken.new.items ≡ taken.old.items ++ kept_numbers old.now (controls (items_of live.now)) }
     ensures room { vec_capacity taken.old ≤ vec_capacity taken.new }
 {
+    let mut cursor = 0;
     for item in live {
-        keep_item(taken, old, item);
+        keep_item(taken, old, &mut cursor, item);
     }
 }
 
@@ -79,20 +83,22 @@ fn seat_control<C: Controller>(
     taken: &mut Vec<usize>,
     next: &mut Vec<Held>,
     old: &[Held],
+    cursor: &mut usize,
     rows: &[ZoneRow],
-    sensors: &[Holder],
+    sensors: &LiveSensors,
     id: &ItemId,
     control: &ControlItem,
 )
     requires next { length next.old.items < vec_capacity next.old }
     requires taken { kept_seat old.now id.now ≡ None → length taken.old.items < vec_capacity taken.old }
     requires ready { IsReady old.now (seating next.old.items taken.old.items bank.old) (record { id = id.now; item = control.now }) }
+    requires ids { HaveOwnIds held_id old.now }
     ensures seating { seating next.new.items taken.new.items bank.new
         ≡ seat_next rows.now sensors.now old.now (seating next.old.items taken.old.items bank.old) (record { id = id.now; item = control.now }) }
     ensures room_next { vec_capacity next.old ≤ vec_capacity next.new }
     ensures room_taken { vec_capacity taken.old ≤ vec_capacity taken.new }
 {
-    let seat = match kept_seat(old, id) {
+    let seat = match kept_seat(old, cursor, id) {
         Some(seat) => seat,
         None => seat_new(bank, taken, &control.setting),
     };
@@ -105,13 +111,15 @@ fn seat_item<C: Controller>(
     taken: &mut Vec<usize>,
     next: &mut Vec<Held>,
     old: &[Held],
+    cursor: &mut usize,
     rows: &[ZoneRow],
-    sensors: &[Holder],
+    sensors: &LiveSensors,
     item: &Item,
 )
     requires next { length next.old.items + length (controls (item.now ∷ [])) ≤ vec_capacity next.old }
     requires taken { length taken.old.items + count_by (is_new old.now) (controls (item.now ∷ [])) ≤ vec_capacity taken.old }
     requires ready { All (IsReady old.now (seating next.old.items taken.old.items bank.old)) (controls (item.now ∷ [])) }
+    requires ids { HaveOwnIds held_id old.now }
     ensures seating { seating next.new.items taken.new.items bank.new
         ≡ seat_all rows.now sensors.now old.now (seating next.old.items taken.old.items bank.old) (controls (item.now ∷ [])) }
     ensures room_next { vec_capacity next.old ≤ vec_capacity next.new }
@@ -123,6 +131,7 @@ fn seat_item<C: Controller>(
             taken,
             next,
             old,
+            cursor,
             rows,
             sensors,
             &item.id,
@@ -138,19 +147,21 @@ pub(crate) fn seat_live<C: Controller>(
     next: &mut Vec<Held>,
     old: &[Held],
     rows: &[ZoneRow],
-    sensors: &[Holder],
-    live: &[Item],
+    sensors: &LiveSensors,
+    live: &[&Item],
 )
-    requires next { length next.old.items + length (controls live.now) ≤ vec_capacity next.old }
-    requires taken { length taken.old.items + count_by (is_new old.now) (controls live.now) ≤ vec_capacity taken.old }
-    requires roomy { IsRoomy old.now (seating next.old.items taken.old.items bank.old) (controls live.now) }
+    requires next { length next.old.items + length (controls (items_of live.now)) ≤ vec_capacity next.old }
+    requires taken { length taken.old.items + count_by (is_new old.now) (controls (items_of live.now)) ≤ vec_capacity taken.old }
+    requires roomy { IsRoomy old.now (seating next.old.items taken.old.items bank.old) (controls (items_of live.now)) }
+    requires ids { HaveOwnIds held_id old.now }
     ensures seating { seating next.new.items taken.new.items bank.new
-        ≡ seat_all rows.now sensors.now old.now (seating next.old.items taken.old.items bank.old) (controls live.now) }
+        ≡ seat_all rows.now sensors.now old.now (seating next.old.items taken.old.items bank.old) (controls (items_of live.now)) }
     ensures room_next { vec_capacity next.old ≤ vec_capacity next.new }
     ensures room_taken { vec_capacity taken.old ≤ vec_capacity taken.new }
 {
+    let mut cursor = 0;
     for item in live {
-        seat_item(bank, taken, next, old, rows, sensors, item);
+        seat_item(bank, taken, next, old, &mut cursor, rows, sensors, item);
     }
 }
 
@@ -173,16 +184,19 @@ pub(crate) fn renew_seats<C: Controller>(
     taken: &mut Vec<usize>,
     next: &mut Vec<Held>,
     rows: &[ZoneRow],
-    sensors: &[Holder],
-    live: &[Item],
+    sensors: &LiveSensors,
+    live: &[&Item],
 )
     requires taken_empty { taken.old.items ≡ [] }
     requires next_empty { next.old.items ≡ [] }
-    requires taken_room { length (controls live.now) ≤ vec_capacity taken.old }
-    requires next_room { length (controls live.now) ≤ vec_capacity next.old }
-    requires roomy { IsRoomy held.old.items (before held.old.items bank.old live.now) (controls live.now) }
-    ensures bank { bank.new ≡ (seat_all rows.now sensors.now held.old.items (before held.old.items bank.old live.now) (controls live.now)).bank }
-    ensures held { held.new.items ≡ (seat_all rows.now sensors.now held.old.items (before held.old.items bank.old live.now) (controls live.now)).held }
+    requires taken_room { length (controls (items_of live.now)) ≤ vec_capacity taken.old }
+    requires next_room { length (controls (items_of live.now)) ≤ vec_capacity next.old }
+    requires roomy { IsRoomy held.old.items (before held.old.items bank.old (items_of live.now)) (controls (items_of live.now)) }
+    requires ids { HaveOwnIds held_id held.old.items }
+    ensures bank { bank.new
+        ≡ (seat_all rows.now sensors.now held.old.items (before held.old.items bank.old (items_of live.now)) (controls (items_of live.now))).bank }
+    ensures held { held.new.items
+        ≡ (seat_all rows.now sensors.now held.old.items (before held.old.items bank.old (items_of live.now)) (controls (items_of live.now))).held }
     ensures taken_empty { taken.new.items ≡ [] }
     ensures next_empty { next.new.items ≡ [] }
     ensures taken_room { vec_capacity taken.old ≤ vec_capacity taken.new }

@@ -2,9 +2,10 @@ ghost use Rattle.std.specs.Prelude.{◌≡◌, ◌<◌, None, Some, length, map,
 ghost use Rattle.std.specs.List.{All};
 ghost use Rattle.std.specs.Option.{ForSome};
 ghost use Rattle.ctl_face.specs.Ranges.{IsMilli};
-ghost use Rattle.fan_zone.specs.Rows.{commanded, failsafe_percent, fan_row, held_at, held_duty, is_failsafe, is_in_failsafe, min_thermal, numbered};
-ghost use Rattle.fan_zone.specs.Rows.{raised, setpoint_of, thermal_output, zone_row};
-ghost use Rattle.fan_zone.specs.Sound.{AreInZones, AreSeated, AreSmall, AreSmallPlans, AreSmallRows, IsSeated};
+ghost use Rattle.fan_zone.specs.Rows.{commanded, failsafe_percent, fan_row, held_at, held_duty, is_failsafe, min_thermal, numbered};
+ghost use Rattle.fan_zone.specs.Rows.{raised, thermal_output, zone_row};
+ghost use Rattle.fan_zone.specs.RowSteps.{bare_row, with_held};
+ghost use Rattle.fan_zone.specs.Sound.{AreInZones, AreSeated, AreSmall, AreSmallPlans, AreSmallRows, HasSmallRow, IsSeated};
 ghost use Rattle.fan_zone.specs.Ticks.{aged};
 
 use crate::bank::Bank;
@@ -16,21 +17,14 @@ use bmc_base::Milli;
 use ctl_face::Controller;
 use sensor_core::SensorTable;
 
-// Whether an input of one of the controllers of a zone is bad.
-fn is_in_failsafe(sensors: &SensorTable, now: u64, zone: usize, held: &[Held]) -> bool
-    ensures { result ≡ is_in_failsafe sensors.now now zone held.now }
-{
-    held.iter().any(|one| one.zone == zone && has_bad_input(sensors, now, one.inputs.as_slice()))
-}
-
-// The last output of a controller, if it is a thermal one of the zone.
-fn thermal_output<C: Controller>(bank: &Bank<C>, zone: usize, held: &Held) -> Option<i64>
+// The last output of a controller, if it is a thermal one.
+fn thermal_output<C: Controller>(bank: &Bank<C>, held: &Held) -> Option<i64>
     requires seat { IsSeated bank.now held.now }
     requires small { AreSmall bank.now }
-    ensures value { result ≡ thermal_output zone bank.now held.now }
+    ensures value { result ≡ thermal_output held.now.zone bank.now held.now }
     ensures small { ForSome result IsMilli }
 {
-    if held.zone == zone && thermal_setpoint(held.role).is_some() {
+    if thermal_setpoint(held.role).is_some() {
         bank.output(held.number)
     } else {
         None
@@ -51,20 +45,42 @@ fn raised(best: i64, output: Option<i64>) -> i64
     }
 }
 
-// The greatest of the least setpoint and the outputs of the thermal controllers of a zone.
-fn setpoint<C: Controller>(bank: &Bank<C>, held: &[Held], zone: usize, low: Milli) -> Milli
-    requires seats { AreSeated bank.now held.now }
-    requires small { AreSmall bank.now }
-    requires low { IsMilli low.0 }
-    ensures value { result.0 ≡ setpoint_of low.0 zone held.now bank.now }
-    ensures small { IsMilli result.0 }
+// Shows each zone as if it had no controllers.
+fn show_bare(rows: &mut [ZoneRow], plans: &[ZonePlan])
+    requires plans { length plans.now ≡ length rows.old }
+    requires lows { AreSmallPlans plans.now }
+    ensures rows { rows.new ≡ numbered (bare_row plans.now) 0 rows.old }
+    ensures small { AreSmallRows rows.new }
 {
-    let mut best = low.0;
-    for one in held {
-        let output = thermal_output(bank, zone, one);
-        best = raised(best, output);
+    for zone in 0..rows.len() {
+        let low = plans[zone].setting.min_thermal;
+        let row = &mut rows[zone];
+        row.failsafe = false;
+        row.setpoint = Some(low);
     }
-    Milli(best)
+}
+
+// Adds a controller to what its zone shows: a bad input puts the zone in failsafe, and a thermal output raises its setpoint.
+fn show_held<C: Controller>(
+    row: &mut ZoneRow,
+    held: &Held,
+    bank: &Bank<C>,
+    sensors: &SensorTable,
+    now: u64,
+)
+    requires seat { IsSeated bank.now held.now }
+    requires small { AreSmall bank.now }
+    requires row { HasSmallRow row.old }
+    ensures row { row.new ≡ with_held sensors.now.slots now bank.now held.now row.old }
+    ensures small { HasSmallRow row.new }
+{
+    // Inputs are read only until one is bad: the others change nothing.
+    if !row.failsafe {
+        row.failsafe = has_bad_input(sensors, now, held.inputs.as_slice());
+    }
+    if let Some(best) = row.setpoint {
+        row.setpoint = Some(Milli(raised(best.0, thermal_output(bank, held))));
+    }
 }
 
 /// Shows the setpoint and the mode of each zone.
@@ -79,17 +95,15 @@ pub(crate) fn show_zones<C: Controller>(
     requires seats { AreSeated bank.now held.now }
     requires small { AreSmall bank.now }
     requires plans { length plans.now ≡ length rows.old }
+    requires zones { AreInZones rows.old held.now }
     requires lows { AreSmallPlans plans.now }
-    ensures rows { rows.new ≡ numbered (zone_row sensors.now now plans.now held.now bank.now) 0 rows.old }
+    ensures rows { rows.new ≡ numbered (zone_row sensors.now.slots now plans.now held.now bank.now) 0 rows.old }
     ensures small { AreSmallRows rows.new }
 {
-    for zone in 0..rows.len() {
-        let low = plans[zone].setting.min_thermal;
-        let failsafe = is_in_failsafe(sensors, now, zone, held);
-        let setpoint = setpoint(bank, held, zone, low);
-        let row = &mut rows[zone];
-        row.failsafe = failsafe;
-        row.setpoint = Some(setpoint);
+    show_bare(rows, plans);
+    // A controller touches the row of its own zone alone, so a tick costs zones plus controllers, and not their product.
+    for one in held {
+        show_held(&mut rows[one.zone], one, bank, sensors, now);
     }
 }
 

@@ -1,16 +1,19 @@
 ghost use Rattle.std.specs.Prelude.{◌≡◌, ◌<◌, ◌^◌, [], ◌∷◌, ◌++◌, take, drop, List, IfOk};
+ghost use Rattle.inventory.specs.Items.{IsValidPart};
 ghost use Rattle.cfg_json.specs.declared.item.Item.{Item};
+ghost use Rattle.fan_zone.specs.Live.{items_of};
 ghost use Rattle.fan_zone.specs.Ticks.{no_zones};
 ghost use Rattle.fan_zone.specs.Machine.{Stays, boxes, control_of, fan_pid, item_of, machine, margin_pid, pid_of, row_of, stairs, temp_pid, zone_of};
 
-use crate::{Holder, Zones};
+use crate::Zones;
 use bmc_base::{Milli, Name};
-use cfg_json::{Boxed, ControlItem, Item, ItemId, ItemPart, Names, ZoneSetting};
+use cfg_json::{Boxed, ControlItem, Item, ItemId, ItemPart, Names, SensorItem, ZoneSetting};
 use ctl_face::{
     Controller, CtlState, Kind, PidClass, PidSetting, Sample, Setting, StepRow, StepSetting,
 };
 use ctl_kinds::{PidBox, StepBox};
-use sensor_core::{Limit, Sensor, SensorSetting, SensorTable};
+use live_sensors::LiveSensors;
+use sensor_core::{Limit, SensorSetting, SensorTable};
 use std::alloc::Global;
 use std::process::Abort;
 use std::test::Fail;
@@ -247,13 +250,25 @@ fn machine(alloc: Global, first: u32) -> Result<Vec<Item>, Fail>
     Ok(items)
 }
 
+// References to some items.
+fn references<'i>(alloc: Global, items: &'i [Item]) -> Result<Vec<&'i Item>, Fail>
+    ensures { IfOk result (λ live. items_of live.items ≡ items.now) }
+{
+    let mut live = Vec::new(alloc);
+    for item in items {
+        live.push(item)?;
+    }
+    Ok(live)
+}
+
 // Zones of the machine.
-fn first_zones(alloc: Global, sensors: &[Holder]) -> Result<Zones<AnyBox>, Fail>
+fn first_zones(alloc: Global, sensors: &LiveSensors) -> Result<Zones<AnyBox>, Fail>
     ensures { IfOk result (λ zones. Stays (machine 0) zones) }
 {
     let mut zones = no_zones(alloc)?;
     let items = machine(alloc, 0)?;
-    zones.set(&items, sensors);
+    let live = references(alloc, &items)?;
+    zones.set(&live, sensors);
     Ok(zones)
 }
 
@@ -261,13 +276,14 @@ fn first_zones(alloc: Global, sensors: &[Holder]) -> Result<Zones<AnyBox>, Fail>
 fn same_zones<C: Controller>(
     alloc: Global,
     zones: &mut Zones<C>,
-    sensors: &[Holder],
+    sensors: &LiveSensors,
 ) -> Result<(), Fail>
     requires { Stays (machine 0) zones.old }
     ensures { Stays (machine 0) zones.new }
 {
     let items = machine(alloc, 0)?;
-    zones.set(&items, sensors);
+    let live = references(alloc, &items)?;
+    zones.set(&live, sensors);
     Ok(())
 }
 
@@ -276,12 +292,13 @@ fn same_zones<C: Controller>(
 fn next_zones<C: Controller>(
     alloc: Global,
     zones: &mut Zones<C>,
-    sensors: &[Holder],
+    sensors: &LiveSensors,
 ) -> Result<(), Fail>
     requires { Stays (machine 0) zones.old }
 {
     let items = machine(alloc, 100)?;
-    zones.set(&items, sensors);
+    let live = references(alloc, &items)?;
+    zones.set(&live, sensors);
     Ok(())
 }
 
@@ -293,20 +310,32 @@ const UNUSED: Limit = Limit {
     hysteresis: Milli(0),
 };
 
-// A sensor whose values are its raw numbers in thousandths.
-fn sensor(timeout: u32) -> Result<Sensor, Fail> {
-    let setting = SensorSetting {
+// The setting of a sensor whose values are its raw numbers in thousandths.
+fn setting(timeout: u32) -> SensorSetting {
+    SensorSetting {
         num: 1,
         den: 1,
         offset: Milli(0),
         timeout,
         limits: [UNUSED; 8],
         count: 0,
-    };
+    }
+}
+
+// Such a sensor.
+fn sensor(alloc: Global, timeout: u32) -> Result<ItemPart, Fail>
+    ensures { IfOk result IsValidPart }
+{
+    let setting = setting(timeout);
     if !setting.is_valid() {
         return Err(Fail::from("the setting is not valid"));
     }
-    Ok(Sensor::new(setting))
+    let sensor = SensorItem {
+        bus: None,
+        address: None,
+        setting,
+    };
+    Ok(ItemPart::Sensor(Boxed::new(alloc, sensor)?))
 }
 
 // The names of the sensors, and after how many ticks a reading is stale.
@@ -318,16 +347,30 @@ const SENSORS: [(&str, u32); 5] = [
     ("margin", 12),
 ];
 
-fn sensors(alloc: Global) -> Result<(SensorTable, Vec<Holder>), Fail> {
-    let mut table = SensorTable::new(alloc)?;
-    let mut holders = Vec::new(alloc);
+// A sensor item of a name.
+fn sensor_item(alloc: Global, text: &str, timeout: u32) -> Result<Item, Fail>
+    ensures { IfOk result (λ item. IsValidPart item.part) }
+{
+    item(0, text, sensor(alloc, timeout)?)
+}
+
+fn come(sensors: &mut LiveSensors, alloc: Global, text: &str, timeout: u32) -> Result<(), Fail> {
+    sensors.reserve(alloc, 1)?;
+    sensors.settle(&[], &[sensor_item(alloc, text, timeout)?]);
+    Ok(())
+}
+
+fn go(sensors: &mut LiveSensors, alloc: Global, text: &str) -> Result<(), Fail> {
+    sensors.settle(&[sensor_item(alloc, text, 0)?], &[]);
+    Ok(())
+}
+
+fn sensors(alloc: Global) -> Result<LiveSensors, Fail> {
+    let mut sensors = LiveSensors::new(alloc)?;
     for (text, timeout) in SENSORS {
-        table.reserve(alloc, 1)?;
-        let slot = table.put(sensor(timeout)?);
-        let name = name(text)?;
-        holders.push(Holder { name, slot })?;
+        come(&mut sensors, alloc, text, timeout)?;
     }
-    Ok((table, holders))
+    Ok(sensors)
 }
 
 // What sensors tell before some ticks, each by its place above: a reading in thousandths, or five losses. And what the zones
@@ -340,23 +383,30 @@ struct Row {
     duties: [i64; 2],
 }
 
-fn tell(
-    table: &mut SensorTable,
-    holders: &[Holder],
-    told: &[(usize, Option<i64>)],
+fn tell_once(
+    sensors: &mut LiveSensors,
+    name: &Name,
+    reading: Option<i64>,
     now: u64,
 ) -> Result<(), Fail> {
+    let Some(slot) = sensors.slot(name) else {
+        return Err(Fail::from("there is no such sensor"));
+    };
+    match reading {
+        Some(raw) => sensors.good(slot, raw, now)?,
+        None => sensors.lost(slot),
+    }
+    Ok(())
+}
+
+fn tell(sensors: &mut LiveSensors, told: &[(usize, Option<i64>)], now: u64) -> Result<(), Fail> {
     for (place, reading) in told {
-        let Some(holder) = holders.get(*place) else {
+        let Some((text, _)) = SENSORS.get(*place) else {
             return Err(Fail::from("there is no such sensor"));
         };
+        let name = name(text)?;
         for _ in 0..5 {
-            if let Some(sensor) = table.get_mut(holder.slot) {
-                match reading {
-                    Some(raw) => sensor.good(*raw, now)?,
-                    None => sensor.lost(),
-                }
-            }
+            tell_once(sensors, &name, *reading, now)?;
         }
     }
     Ok(())
@@ -409,8 +459,7 @@ fn tick<C: Controller>(
 fn play<C: Controller>(
     rt: &impl Abort,
     zones: &mut Zones<C>,
-    table: &mut SensorTable,
-    holders: &[Holder],
+    sensors: &mut LiveSensors,
     first: u64,
     rows: &[Row],
 ) -> Result<u64, Fail>
@@ -418,14 +467,14 @@ fn play<C: Controller>(
 {
     let mut now = first;
     for row in rows {
-        tell(table, holders, row.told, now)?;
-        tick(rt, zones, table, row, now);
+        tell(sensors, row.told, now)?;
+        tick(rt, zones, sensors.table(), row, now);
         now = now.saturating_add(row.ticks);
     }
     Ok(now)
 }
 
-const ROWS: [Row; 12] = [
+const ROWS: &[Row] = &[
     Row {
         told: &[
             (0, Some(25_000)),
@@ -533,18 +582,44 @@ const NEXT: [Row; 1] = [Row {
     duties: [10_000, 75_000],
 }];
 
+// Plays the rows, with the same items again between them. Returns the next tick.
+fn play_rows<C: Controller>(
+    rt: &impl Abort,
+    alloc: Global,
+    zones: &mut Zones<C>,
+    sensors: &mut LiveSensors,
+) -> Result<u64, Fail>
+    requires { Stays (machine 0) zones.old }
+    ensures { Stays (machine 0) zones.new }
+{
+    let now = play(rt, zones, sensors, 1, &ROWS[..8])?;
+    same_zones(alloc, zones, sensors)?;
+    play(rt, zones, sensors, now, &ROWS[8..])
+}
+
+// Plays the row of the other machine.
+fn play_next<C: Controller>(
+    rt: &impl Abort,
+    alloc: Global,
+    zones: &mut Zones<C>,
+    sensors: &mut LiveSensors,
+    now: u64,
+) -> Result<(), Fail>
+    requires { Stays (machine 0) zones.old }
+{
+    go(sensors, alloc, "margin")?;
+    next_zones(alloc, zones, sensors)?;
+    assert_eq!(rt; zone_shown(zones, 1), Some((false, None)));
+    assert_eq!(rt; duty_shown(zones, 2), Some(None));
+    play(rt, zones, sensors, now, &NEXT)?;
+    Ok(())
+}
+
 #[test]
 fn two_zones(rt: HostRuntime) -> Result<(), Fail> {
-    let (mut table, holders) = sensors(rt.alloc())?;
-    let mut zones = first_zones(rt.alloc(), &holders)?;
+    let mut sensors = sensors(rt.alloc())?;
+    let mut zones = first_zones(rt.alloc(), &sensors)?;
     assert_eq!(rt; zone_shown(&zones, 0), Some((false, None)));
-    let now = play(&rt, &mut zones, &mut table, &holders, 1, &ROWS[..8])?;
-    same_zones(rt.alloc(), &mut zones, &holders)?;
-    let now = play(&rt, &mut zones, &mut table, &holders, now, &ROWS[8..])?;
-    assert!(rt; holders.len() == 5);
-    next_zones(rt.alloc(), &mut zones, &holders[..4])?;
-    assert_eq!(rt; zone_shown(&zones, 1), Some((false, None)));
-    assert_eq!(rt; duty_shown(&zones, 2), Some(None));
-    play(&rt, &mut zones, &mut table, &holders, now, &NEXT)?;
-    Ok(())
+    let now = play_rows(&rt, rt.alloc(), &mut zones, &mut sensors)?;
+    play_next(&rt, rt.alloc(), &mut zones, &mut sensors, now)
 }

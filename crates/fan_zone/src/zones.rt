@@ -1,15 +1,16 @@
-ghost use Rattle.std.specs.Prelude.{◌≡◌, ◌<◌, ◌^◌, [], IfOk, length, map};
+ghost use Rattle.std.specs.Prelude.{◌≡◌, ◌<◌, ◌≤◌, ◌^◌, [], IfOk, length, map};
 ghost use Rattle.std.specs.List.{All};
 ghost use Rattle.ctl_face.specs.Seen.{unloaded};
 ghost use Rattle.fan_zone.specs.IsSets.{IsSet};
 ghost use Rattle.fan_zone.specs.IsTicks.{StepsOwnBoxes};
 ghost use Rattle.fan_zone.specs.Settings.{CanSet, set_to};
+ghost use Rattle.fan_zone.specs.Live.{items_of};
 ghost use Rattle.fan_zone.specs.Failsafe.{IsFailsafe};
+ghost use Rattle.fan_zone.specs.Sound.{most_fans, most_zones};
 ghost use Rattle.fan_zone.specs.Ticks.{no_zones, ticked};
 
 use crate::bank::Bank;
 use crate::held::Held;
-use crate::holder::Holder;
 use crate::passes::{step_fans, step_thermals};
 use crate::renew::{renew_fans, renew_zones};
 use crate::rows::{FanPlan, FanRow, ZonePlan, ZoneRow};
@@ -18,6 +19,7 @@ use crate::showing::{grow_ages, show_fans, show_zones};
 use bmc_base::OutOfMemory;
 use cfg_json::Item;
 use ctl_face::Controller;
+use live_sensors::LiveSensors;
 use sensor_core::SensorTable;
 use std::alloc::Global;
 use std::marker::Model;
@@ -50,8 +52,8 @@ impl<C: Controller> Model for Zones<C> {
     ghost use Rattle.fan_zone.specs.Ticks.{ZonesView, view_of};
     ghost use Rattle.std.specs.Prelude.{length};
     ghost use Rattle.std.specs.Vec.{vec_capacity};
-    ghost use Rattle.fan_zone.specs.Settings.{HasRoom, most_zones, most_fans};
-    ghost use Rattle.fan_zone.specs.Sound.{IsSound};
+    ghost use Rattle.fan_zone.specs.Settings.{HasRoom};
+    ghost use Rattle.fan_zone.specs.Sound.{IsSound, most_zones, most_fans};
 
     ghost Value = { ZonesView };
 
@@ -69,6 +71,7 @@ impl<C: Controller> Model for Zones<C> {
 impl<C: Controller> Zones<C> {
     /// Returns no zones, over a bank of boxes that are not loaded. All memory that is ever needed is taken here: for as many
     /// controllers as there are boxes, for 32 zones and for 128 fans.
+    #[tactic(auto, using(crate::proofs::FindRows::none_alike))]
     pub fn new(alloc: Global, bank: Vec<C>) -> Result<Zones<C>, OutOfMemory>
         requires { All (λ seen. seen ≡ unloaded seen.kind) (map C.seen bank.items) }
         ensures { IfOk result (λ zones. zones ≡ no_zones (map C.seen bank.items)) }
@@ -95,10 +98,10 @@ impl<C: Controller> Zones<C> {
     /// A controller that was there keeps its box with its state, and its age. Each other box is unloaded, and then each new
     /// controller gets a box of its kind: of those that no controller has, the one with the least number, loaded and blank.
     /// A zone or a fan that was there shows what it showed, until the next tick. Takes no memory.
-    pub fn set(&mut self, live: &[Item], sensors: &[Holder])
-        requires { CanSet self.old live.now }
-        ensures means { IsSet self.old live.now sensors.now self.new }
-        ensures exact { self.new ≡ set_to live.now sensors.now self.old }
+    pub fn set(&mut self, live: &[&Item], sensors: &LiveSensors)
+        requires { CanSet self.old (items_of live.now) }
+        ensures means { IsSet self.old (items_of live.now) sensors.now self.new }
+        ensures exact { self.new ≡ set_to (items_of live.now) sensors.now self.old }
     {
         renew_zones(
             &mut self.zone_plans,
@@ -130,9 +133,9 @@ impl<C: Controller> Zones<C> {
     /// each fan controller steps by the setpoint of its zone; and then each fan shows its duty. In failsafe a fan gets the
     /// zone's FailSafePercent at the least, and in strict mode exactly that. Takes no memory.
     pub fn tick(&mut self, sensors: &SensorTable, now: u64, strict: bool)
-        ensures ticked { self.new ≡ ticked sensors.now now strict self.old }
-        ensures failsafe { IsFailsafe sensors.now now strict self.new }
-        ensures steps { StepsOwnBoxes sensors.now now self.old self.new }
+        ensures ticked { self.new ≡ ticked sensors.now.slots now strict self.old }
+        ensures failsafe { IsFailsafe sensors.now.slots now strict self.new }
+        ensures steps { StepsOwnBoxes sensors.now.slots now self.old self.new }
     {
         step_thermals(&mut self.bank, &self.held, sensors, now);
         show_zones(
@@ -156,16 +159,18 @@ impl<C: Controller> Zones<C> {
         grow_ages(&mut self.held);
     }
 
-    /// Borrows what is shown of the zones, in item order.
+    /// Borrows what is shown of the zones, in item order. There are at most 32.
     pub fn zone_rows(&self) -> &[ZoneRow]
-        ensures { result.now ≡ self.now.zone_rows }
+        ensures rows { result.now ≡ self.now.zone_rows }
+        ensures few { length result.now ≤ most_zones }
     {
         &self.zone_rows
     }
 
-    /// Borrows what is shown of the fans, in item order.
+    /// Borrows what is shown of the fans, in item order. There are at most 128.
     pub fn fan_rows(&self) -> &[FanRow]
-        ensures { result.now ≡ self.now.fan_rows }
+        ensures rows { result.now ≡ self.now.fan_rows }
+        ensures few { length result.now ≤ most_fans }
     {
         &self.fan_rows
     }

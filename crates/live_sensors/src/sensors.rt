@@ -81,6 +81,13 @@ impl LiveSensors {
         self.start_all(new);
     }
 
+    /// Borrows the sensors by slot.
+    pub fn table(&self) -> &SensorTable
+        ensures { result.now.slots ≡ self.now.slots }
+    {
+        &self.table
+    }
+
     /// Returns the slot of a name, if the name has a sensor.
     pub fn slot(&self, name: &Name) -> Option<usize>
         ensures slot { result ≡ slot_of self.now name.now }

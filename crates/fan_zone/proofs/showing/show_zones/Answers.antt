@@ -1,31 +1,25 @@
-use Rattle.std.proofs.Common.{arith, subst, get_or}
+use Rattle.std.proofs.Common.{arith, ◌<◌, length, subst, sym}
 use Rattle.fan_zone.specs.declared.rows.ZoneRow.{ZoneRow}
-use Rattle.std.proofs.lemmas.Option.{same_Some}
-use Rattle.ctl_face.specs.Ranges.{IsMilli}
-use Rattle.bmc_base.specs.declared.milli.Milli.{Milli}
-use Rattle.fan_zone.specs.Rows.{zone_row}
-use Rattle.fan_zone.specs.Sound.{HasSmallRow}
-use Rattle.fan_zone.proofs.Numbers.{numbered_more, written_more, written_end}
-use Rattle.fan_zone.proofs.RowFacts.{zone_written}
+use Rattle.fan_zone.specs.declared.held.Held.{Held}
+use Rattle.fan_zone.proofs.Shown.{shown_start, shown_more, shown_end}
 use Rattle.fan_zone.proofs.showing.show_zones.Goals as goal
 
-pub loop-zone-preserved : goal.loop-zone-preserved
-loop-zone-preserved g c =
-    let held = c.args.held.now in
-    let bank = c.args.bank.now in
-    let plans = c.args.plans.now in
-    let sensors = c.args.sensors.now in
-    let row : ZoneRow = c.index-rows-zone.result in (
-      numbered_more (zone_row sensors c.args.now plans held bank) c.args.rows.now c.loop-zone.rows c.loop-zone.zone row _ c.loop-zone.invariant.0
-          (omega (arith, c.loop-zone.auto.rows, c.loop-zone-test.true))
-          (zone_written sensors c.args.now plans held bank c.loop-zone.zone _ (get_or c.loop-zone.rows c.loop-zone.zone row)
-          c.is_in_failsafe-failsafe.result c.setpoint-setpoint.result (omega (arith, c.requires.plans, c.loop-zone-test.true))
-          c.is_in_failsafe-failsafe.ensures
-          c.setpoint-setpoint.ensures.value),
-      written_more HasSmallRow c.loop-zone.rows c.loop-zone.zone _ c.loop-zone.invariant.1 (omega (arith, c.loop-zone.auto.rows, c.loop-zone-test.true))
-          (λ x e. subst (λ (m : Milli). IsMilli m.0) (same_Some c.setpoint-setpoint.result x e) c.setpoint-setpoint.ensures.small),
-    )
+pub loop-one-init : goal.loop-one-init
+loop-one-init g c =
+    shown_start c.args.sensors.now.slots c.args.now c.args.plans.now c.args.held.now c.args.bank.now c.args.rows.now c.show_bare.new.rows
+    c.show_bare.ensures.rows c.show_bare.ensures.small
 
-pub returns-clause-small : goal.returns-clause-small
-returns-clause-small g c = written_end HasSmallRow c.loop-zone.rows c.loop-zone.zone c.loop-zone.invariant.1
-    (omega (arith, c.loop-zone.auto.rows, c.loop-zone-test.false))
+pub loop-one-preserved : goal.loop-one-preserved
+loop-one-preserved g c =
+    let one : Held = c.one-item.result in
+    let row : ZoneRow = c.index-rows-one.result in
+    shown_more c.args.sensors.now.slots c.args.now c.args.plans.now c.args.held.now c.args.bank.now c.args.rows.now c.loop-one.rows c.loop-one.one-index
+    one row c.show_held.new.row c.loop-one.invariant c.loop-one-test.true c.one-item.is
+    (subst (λ (h : Held). h.zone < length c.loop-one.rows) (sym c.one-item.is)
+    (omega (arith, c.requires.zones c.loop-one.one-index one c.loop-one-test.true, c.loop-one.auto.rows, c.show_bare.auto.rows)))
+    c.show_held.ensures.row c.show_held.ensures.small
+
+pub returns-clause-rows : goal.returns-clause-rows
+returns-clause-rows g c =
+    shown_end c.args.sensors.now.slots c.args.now c.args.plans.now c.args.held.now c.args.bank.now c.args.rows.now c.loop-one.rows c.loop-one.one-index
+    c.loop-one.invariant (omega (arith, c.loop-one-test.false))

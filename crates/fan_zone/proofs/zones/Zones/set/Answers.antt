@@ -1,5 +1,6 @@
 use Rattle.std.proofs.Common.{◌≡◌, ap, sym, ◌∙◌, subst, arith, length}
 use Rattle.fan_zone.specs.Ticks.{ZonesView, view_of}
+use Rattle.fan_zone.specs.Live.{items_of}
 use Rattle.fan_zone.specs.Sound.{IsSound}
 use Rattle.fan_zone.specs.Settings.{CanSet, set_to}
 use Rattle.fan_zone.specs.IsSets.{IsSet}
@@ -12,14 +13,14 @@ use Rattle.fan_zone.proofs.zones.Zones.set.Goals as goal
 pub renew_seats-requires-clause-roomy : goal.renew_seats-requires-clause-roomy
 renew_seats-requires-clause-roomy g c =
     let i = c.self.inside in
-    let live = c.args.live.now in
+    let live = items_of c.args.live.now in
     let old = view_of i.bank i.held.items i.zone_plans.items i.zone_rows.items i.fan_plans.items i.fan_rows.items in
     roomy_start old live c.self.invariant.0 (subst (λ (v : ZonesView). CanSet v live) (sym c.self.view_is) c.requires)
 
 pub invariant_of-self : goal.invariant_of-self
 invariant_of-self g c =
     let i = c.self.inside in
-    let live = c.args.live.now in
+    let live = items_of c.args.live.now in
     let sensors = c.args.sensors.now in
     let old = view_of i.bank i.held.items i.zone_plans.items i.zone_rows.items i.fan_plans.items i.fan_rows.items in
     let new = view_of c.renew_seats.new.bank c.renew_seats.new.held.items c.renew_zones.new.plans.items c.renew_zones.new.rows.items
@@ -77,7 +78,7 @@ invariant_of-self g c =
 pub returns : goal.returns
 returns g c =
     let i = c.self.inside in
-    let live = c.args.live.now in
+    let live = items_of c.args.live.now in
     let sensors = c.args.sensors.now in
     let old = view_of i.bank i.held.items i.zone_plans.items i.zone_rows.items i.fan_plans.items i.fan_rows.items in
     let new = view_of c.renew_seats.new.bank c.renew_seats.new.held.items c.renew_zones.new.plans.items c.renew_zones.new.rows.items

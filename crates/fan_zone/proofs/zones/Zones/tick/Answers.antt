@@ -19,7 +19,7 @@ use Rattle.fan_zone.proofs.zones.Zones.tick.Goals as goal
 pub returns : goal.returns
 returns g c =
     let i = c.self.inside in
-    let sensors = c.args.sensors.now in
+    let slots = c.args.sensors.now.slots in
     let now = c.args.now in
     let strict = c.args.strict in
     let old : ZonesView = record {
@@ -37,7 +37,7 @@ returns g c =
     with_items_is i.fan_rows c.show_fans.new.fans (c.show_fans.auto.fans ∙ c.deref_mut-2.ensures.len) in
     let held_is : (with_items i.held c.grow_ages.new.held).items ≡ c.grow_ages.new.held =
     with_items_is i.held c.grow_ages.new.held (c.grow_ages.auto.held ∙ c.deref_mut-3.ensures.len) in
-    let calls : Calls sensors now strict old c.step_thermals.new.bank (with_items i.zone_rows c.show_zones.new.rows).items c.step_fans.new.bank
+    let calls : Calls slots now strict old c.step_thermals.new.bank (with_items i.zone_rows c.show_zones.new.rows).items c.step_fans.new.bank
     (with_items i.fan_rows c.show_fans.new.fans).items (with_items i.held c.grow_ages.new.held).items =
     record {
       thermals = cc (c.step_thermals.ensures.state, c.deref.ensures.value);
@@ -64,12 +64,12 @@ returns g c =
       fan_rows =
           (with_items i.fan_rows c.show_fans.new.fans).items;
     } in
-    let is = calls_tick sensors now strict old _ _ _ _ _ calls in
+    let is = calls_tick slots now strict old _ _ _ _ _ calls in
     record {
-      ticked = is ∙ ap (ticked sensors now strict) c.self.view_is;
-      failsafe = subst (IsFailsafe sensors now strict) (sym is) (ticked_failsafe sensors now strict old c.self.invariant.0.zones c.self.invariant.0.fans);
-      steps = subst (λ (v : ZonesView). StepsOwnBoxes sensors now v new) c.self.view_is
-          (subst (StepsOwnBoxes sensors now old) (sym is) (ticked_own sensors now strict old c.self.invariant.0));
+      ticked = is ∙ ap (ticked slots now strict) c.self.view_is;
+      failsafe = subst (IsFailsafe slots now strict) (sym is) (ticked_failsafe slots now strict old c.self.invariant.0.zones c.self.invariant.0.fans);
+      steps = subst (λ (v : ZonesView). StepsOwnBoxes slots now v new) c.self.view_is
+          (subst (StepsOwnBoxes slots now old) (sym is) (ticked_own slots now strict old c.self.invariant.0));
     }
 
 pub invariant_of-self : goal.invariant_of-self
@@ -99,9 +99,9 @@ invariant_of-self g c =
     let zones : length rows ≡ length old.zone_rows = ap length rows_is ∙ (c.show_zones.auto.rows ∙ ap length c.deref_mut.ensures.value) in
     let fan : length fans ≡ length old.fan_rows = ap length fans_is ∙ (c.show_fans.auto.fans ∙ ap length c.deref_mut-2.ensures.value) in
     let typed_thermal : All IsTyped c.step_thermals.new.bank = subst (λ (b : List Seen). All IsTyped b) (sym c.step_thermals.ensures.state)
-    (typed_pass (thermal_sample c.args.sensors.now c.args.now) c.deref.result.now i.bank c.self.invariant.0.typed) in
+    (typed_pass (thermal_sample c.args.sensors.now.slots c.args.now) c.deref.result.now i.bank c.self.invariant.0.typed) in
     let typed : All IsTyped c.step_fans.new.bank = subst (λ (b : List Seen). All IsTyped b) (sym c.step_fans.ensures.state)
-    (typed_pass (fan_sample c.args.sensors.now c.args.now c.deref-5.result.now) c.deref-4.result.now c.step_thermals.new.bank typed_thermal) in
+    (typed_pass (fan_sample c.args.sensors.now.slots c.args.now c.deref-5.result.now) c.deref-4.result.now c.step_thermals.new.bank typed_thermal) in
     let family = λ (h : List Held). IsSound (record {
       bank = c.step_fans.new.bank;
       held = h;
@@ -113,9 +113,9 @@ invariant_of-self g c =
     }) in
     let sound = subst family (sym ages) (sound_aged old c.step_fans.new.bank rows fans c.self.invariant.0 seats c.step_fans.ensures.small typed zones fan) in
     let boxes : length c.step_fans.new.bank ≡ length i.bank =
-    ap length c.step_fans.ensures.state ∙ (length-pass (fan_sample c.args.sensors.now c.args.now c.deref-5.result.now) c.deref-4.result.now
+    ap length c.step_fans.ensures.state ∙ (length-pass (fan_sample c.args.sensors.now.slots c.args.now c.deref-5.result.now) c.deref-4.result.now
     c.step_thermals.new.bank
-    ∙ (ap length c.step_thermals.ensures.state ∙ length-pass (thermal_sample c.args.sensors.now c.args.now) c.deref.result.now i.bank)) in
+    ∙ (ap length c.step_thermals.ensures.state ∙ length-pass (thermal_sample c.args.sensors.now.slots c.args.now) c.deref.result.now i.bank)) in
     let next = c.self.invariant.1 in
     let taken = c.self.invariant.2 in (
       sound,
