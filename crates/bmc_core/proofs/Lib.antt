@@ -1,5 +1,10 @@
-pub mod AppliesLemmas
+pub mod NotesLemmas
 pub mod RowsLemmas
 pub mod BoardItemsLemmas
 pub mod LiveLemmas
 pub mod ListsLemmas
+pub mod ActingLemmas
+pub mod BegunLemmas
+pub mod CoreLemmas
+pub mod TickedLemmas
+pub mod FailsafeLemmas

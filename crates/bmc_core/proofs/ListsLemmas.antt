@@ -19,24 +19,30 @@ use Rattle.inventory.proofs.ListLemmas.{all_weaker}
 use Rattle.bmc_report.specs.BoardRows.{board_row}
 use Rattle.bmc_report.specs.Rows.{fru_row}
 use Rattle.bmc_report.specs.declared.topic.Topic.{Topic}
-use Rattle.bmc_report.specs.declared.topic.Topic.TheVariants.{Frus, Inventory, Sensors, Indexes}
+use Rattle.bmc_report.specs.declared.topic.Topic.TheVariants.{Frus, Inventory, Sensors, Zones, Indexes}
 use Rattle.live_sensors.specs.Items.{setting_in}
 use Rattle.live_sensors.specs.Sensors.{LiveSensors, sensor_in}
+use Rattle.fan_zone.specs.Live.{zones as live_zones, fans as live_fans}
+use Rattle.fan_zone.specs.Ticks.{ZonesView}
+use Rattle.fan_zone.specs.declared.rows.FanRow.{FanRow}
+use Rattle.fan_zone.specs.declared.rows.ZoneRow.{ZoneRow}
 use Rattle.bmc_machine.specs.Boards.{board_keys, boards, fields_at, name_of}
 use Rattle.bmc_machine.specs.Histories.{Step, standing, tick_of}
 use Rattle.bmc_machine.specs.Indexes.{boards_now, live_now}
 use Rattle.bmc_machine.specs.Lives.{item_sensor, outcomes, sensor_now}
 use Rattle.bmc_machine.specs.Names.{is_of}
 use Rattle.bmc_machine.specs.Refusals.{IsLegal}
-use Rattle.bmc_machine.specs.Shows.{board_lists, board_text, fru_list, index_list, index_rows, item_text, sensor_list, sensor_text, shown}
+use Rattle.bmc_machine.specs.Shows.{board_lists, board_text, fan_text, fru_list, index_list, index_rows, item_text, sensor_list, sensor_text, shown, zone_list, zone_text}
 use Rattle.bmc_machine.specs.Standings.{Fru, fields_of}
+use Rattle.bmc_machine.specs.Turns.{fan_now, zone_now}
+use Rattle.bmc_machine.specs.Zones.{ZonesStand}
 use Rattle.bmc_machine.proofs.LivesLemmas.{sensor_is}
 use Rattle.bmc_machine.proofs.SettledLemmas.{AreNamedOnce, live_once, none_behind, of_sensors}
 use Rattle.bmc_watch.specs.Watches.{WatchView, WatchStands, fru_entry, view_boards, view_list}
 use Rattle.bmc_watch.proofs.ItemsLemmas.{IsAlike, busy_alike}
 use Rattle.bmc_watch.proofs.WatchesLemmas.{boards_are, fields_are, known_by_place, live_is}
 use Rattle.bmc_core.specs.Cores.{CoreView, Stands}
-use Rattle.bmc_core.specs.Lists.{board_rows, core_list, entry_rows, inventory_rows, item_sensor_row, kept_rows, sensor_of_item, sensor_rows}
+use Rattle.bmc_core.specs.Lists.{board_rows, core_list, entry_rows, inventory_rows, item_sensor_row, kept_rows, sensor_of_item, sensor_rows, zones_list}
 use Rattle.bmc_core.proofs.LiveLemmas.{all_told_rows, told_rows}
 
 -- the rows of elements that have the same rows
@@ -99,11 +105,11 @@ module _ (past : List Step) (sensors : LiveSensors) (stood : (name : List ℕ) �
           ap (option_and_then (λ (setting : SensorSetting). sensor_in sensors item.name)) some
           ∙ stood item.name ∙ sensor_is past item.name (Some item) (holds (of_sensors item.part ∙ ap is_some some))
 
-  sensors_are : IsLegal past → sensor_rows sensors 0 (live_now past) ≡ sensor_list past
+  sensors_are : IsLegal past → sensor_rows sensors (tick_of past) (live_now past) ≡ sensor_list past
   unfolding sensor_list
   sensors_are legal =
-      rows_alike (item_sensor_row sensors 0) (λ (item : Item). sensor_text item.name (tick_of past) (item_sensor past item)) (live_now past)
-      (all_weaker _ _ (λ (item : Item) holds. ap (sensor_text item.name 0) (shows item holds)) (live_now past)
+      rows_alike (item_sensor_row sensors (tick_of past)) (λ (item : Item). sensor_text item.name (tick_of past) (item_sensor past item)) (live_now past)
+      (all_weaker _ _ (λ (item : Item) holds. ap (sensor_text item.name (tick_of past)) (shows item holds)) (live_now past)
       (each_holds (live_now past) (live_once past legal)))
 
 -- ---- boards and their items
@@ -139,9 +145,23 @@ module _ (watch : WatchView) (past : List Step) (stood : WatchStands watch past)
 
 -- ---- all topics
 
+-- rows that are those of what is live
+rows_of : {X R : Type 0} (text : R → List ℕ) (row : X → R) (xs : List X) → flat_map text (map row xs) ≡ flat_map (λ (x : X). text (row x)) xs
+rows_of text row [] = refl
+rows_of text row (x ∷ xs) = ap (λ (later : List ℕ). text (row x) ++ later) (rows_of text row xs)
+
+zones_are : (zones : ZonesView) (sensors : LiveSensors) (past : List Step) → ZonesStand zones sensors past → zones_list zones ≡ zone_list past
+unfolding zone_list
+zones_are zones sensors past stood =
+    ap₂ (λ (rows : List ZoneRow) (fans : List FanRow). flat_map zone_text rows ++ flat_map fan_text fans) stood.zone_rows stood.fan_rows
+    ∙ ap₂ (λ (first later : List ℕ). first ++ later) (rows_of zone_text (zone_now past) (live_zones (live_now past)))
+    (rows_of fan_text (fan_now past) (live_fans (live_now past)))
+
 pub lists_are : (topic : Topic) (core : CoreView) (past : List Step) → Stands core past → core_list topic core ≡ shown topic past
-lists_are Frus core past stood = ap entry_rows stood.watch.entries ∙ frus_are (standing past).configs (standing past).frus
-lists_are Inventory core past stood = boards_same core.watch past stood.watch
+lists_are Frus core past stood = ap entry_rows stood.senses.watch.entries ∙ frus_are (standing past).configs (standing past).frus
+lists_are Inventory core past stood = boards_same core.senses.watch past stood.senses.watch
 lists_are Sensors core past stood =
-    ap (sensor_rows core.sensors 0) (live_is core.watch past stood.watch) ∙ sensors_are past core.sensors stood.sensors stood.watch.legal
-lists_are Indexes core past stood = indexes_are core.watch past stood.watch
+    ap₂ (sensor_rows core.senses.sensors) stood.senses.ticks (live_is core.senses.watch past stood.senses.watch)
+    ∙ sensors_are past core.senses.sensors stood.senses.sensors stood.senses.watch.legal
+lists_are Zones core past stood = zones_are core.zones core.senses.sensors past stood.zones
+lists_are Indexes core past stood = indexes_are core.senses.watch past stood.senses.watch

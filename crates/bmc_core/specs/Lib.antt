@@ -1,3 +1,6 @@
+pub mod Senses
 pub mod Cores
+pub mod Acting
+pub mod Failsafe
 pub mod Acts
 pub mod Lists

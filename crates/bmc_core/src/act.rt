@@ -14,4 +14,6 @@ pub enum Act<'a, L: Ledger> {
     Good(&'a Name, i64),
     /// A reading of the sensor of this name was lost.
     Lost(&'a Name),
+    /// A tick of 100 milliseconds passes.
+    Tick,
 }

@@ -2,10 +2,12 @@
 #![tactic(auto)]
 
 mod act;
+mod acting;
 mod board_list;
 mod core_state;
 mod fault;
 mod lists;
+mod senses;
 
 pub use act::Act;
 pub use core_state::Core;

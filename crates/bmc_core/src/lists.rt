@@ -3,13 +3,15 @@ ghost use Rattle.std.specs.List.{flat_map};
 ghost use Rattle.inventory.specs.Indexes.{kept_of, index_in};
 ghost use Rattle.inventory.specs.Items.{live};
 ghost use Rattle.bmc_report.specs.BoardRows.{index_row};
+ghost use Rattle.bmc_machine.specs.Shows.{zone_text, fan_text};
 ghost use Rattle.bmc_watch.specs.Watches.{view_items};
 ghost use Rattle.bmc_core.specs.Lists.{item_sensor_row, row_if_live, sensor_rows, kept_rows};
 
 use bmc_base::{Ledger, Name, OutOfMemory};
-use bmc_report::{SensorRow, push_index_row, push_sensor_row};
+use bmc_report::{SensorRow, push_fan_row, push_index_row, push_sensor_row, push_zone_row};
 use bmc_watch::Watch;
 use cfg_json::{Item, ItemPart, Shelf};
+use fan_zone::{FanRow, ZoneRow};
 use inventory::{BoardKey, IndexKeep};
 use live_sensors::LiveSensors;
 
@@ -129,4 +131,37 @@ pub(crate) fn push_indexes<L: Ledger>(
         push_kept(&config.name(), keep, number as u32, text)?;
     }
     Ok(())
+}
+
+// Appends the rows of zones.
+fn push_zone_rows(rows: &[ZoneRow], text: &mut String) -> Result<(), OutOfMemory>
+    ensures { OnOk result (string_bytes text.new ≡ string_bytes text.old ++ flat_map zone_text rows.now) }
+{
+    for row in rows {
+        push_zone_row(text, &row.name, row.failsafe, row.setpoint)?;
+    }
+    Ok(())
+}
+
+// Appends the rows of fans.
+fn push_fan_rows(rows: &[FanRow], text: &mut String) -> Result<(), OutOfMemory>
+    ensures { OnOk result (string_bytes text.new ≡ string_bytes text.old ++ flat_map fan_text rows.now) }
+{
+    for row in rows {
+        push_fan_row(text, &row.name, row.duty)?;
+    }
+    Ok(())
+}
+
+/// Appends the rows of zones, and then of fans.
+#[tactic(auto, using(std::proofs::Common::append_assoc))]
+pub(crate) fn push_zones(
+    zones: &[ZoneRow],
+    fans: &[FanRow],
+    text: &mut String,
+) -> Result<(), OutOfMemory>
+    ensures { OnOk result (string_bytes text.new ≡ string_bytes text.old ++ (flat_map zone_text zones.now ++ flat_map fan_text fans.now)) }
+{
+    push_zone_rows(zones, text)?;
+    push_fan_rows(fans, text)
 }

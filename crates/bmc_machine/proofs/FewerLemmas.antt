@@ -124,7 +124,7 @@ module _ {X : Type 0} where
       by true = refl
       by false = refl
 
-  filter_both : (test pass : X → Bool) (xs : List X) → filter test (filter pass xs) ≡ filter (λ x. pass x && test x) xs
+  pub filter_both : (test pass : X → Bool) (xs : List X) → filter test (filter pass xs) ≡ filter (λ x. pass x && test x) xs
   filter_both test pass [] = refl
   filter_both test pass (first ∷ xs) = by (pass first) (filter_both test pass xs)
     where
@@ -134,7 +134,7 @@ module _ {X : Type 0} where
       by true rest = ap (λ (later : List X). cond (test first) (first ∷ later) later) rest
       by false rest = rest
 
-  length_weaker : (test other : X → Bool) → ((x : X) → Shows (test x) (other x)) → (xs : List X) → length (filter test xs) ≤ length (filter other xs)
+  pub length_weaker : (test other : X → Bool) → ((x : X) → Shows (test x) (other x)) → (xs : List X) → length (filter test xs) ≤ length (filter other xs)
   length_weaker test other shows [] = omega arith
   length_weaker test other shows (first ∷ xs) = by (test first) (other first) (shows first) (length_weaker test other shows xs)
     where

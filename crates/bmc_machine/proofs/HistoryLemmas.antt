@@ -1,5 +1,5 @@
 -- Items add legal steps alone to a history.
-use Rattle.std.proofs.Common.{◌≡◌, ℕ, ◌+◌, ℤ, List, [], ◌∷◌, Option, Some, None, refl}
+use Rattle.std.proofs.Common.{◌≡◌, ℕ, zero, suc, ◌+◌, ℤ, List, [], ◌∷◌, Option, Some, None, refl}
 use Rattle.std.specs.Prelude.{Result, Ok, Err}
 use Rattle.bmc_base.specs.Places.{Place}
 use Rattle.bmc_text.specs.Items.{Item, Line, LineTooLong, Block, BlockTooLong, BlockShort}
@@ -13,10 +13,16 @@ use Rattle.cfg_json.specs.Configs.{Config}
 use Rattle.cfg_json.specs.Documents.{config_read}
 use Rattle.cfg_json.specs.Verdicts.{Verdict, Accepted, BadPattern, LargePattern}
 use Rattle.cfg_json.specs.declared.config_fault.ConfigFault.{ConfigFault}
-use Rattle.bmc_machine.specs.Histories.{Step, Configure, Plug, Unplug, Read, Lose}
+use Rattle.bmc_machine.specs.Histories.{Step, Configure, Plug, Unplug, Read, Lose, Tick}
 use Rattle.bmc_machine.specs.Refusals.{command_refusal, config_refusal, refusal_after, IsLegalStep, IsLegal}
-use Rattle.bmc_machine.specs.Answers.{past_refused, answer_by, answer_step, answer_command, answer_broken, answer_config, answer}
+use Rattle.bmc_machine.specs.Answers.{past_refused, answer_by, answer_step, answer_command, answer_broken, answer_config, answer_ticks, answer}
 use Rattle.bmc_machine.specs.Answers.{first_verdict, later_verdicts, answers}
+
+-- ticks may follow any history
+ticks_are_legal : (n : ℕ) (past : List Step) → IsLegal past → IsLegal (answer_ticks n past).past
+unfolding answer_ticks IsLegal
+ticks_are_legal zero past legal = legal
+ticks_are_legal (suc n) past legal = ticks_are_legal n (Tick ∷ past) (legal, tt)
 
 module _ (line : Refusal → List ℕ) (past : List Step) (legal : IsLegal past) where
   -- what comes of a step, where it may follow once it is not refused, and what is left once it is
@@ -58,6 +64,7 @@ module _ (line : Refusal → List ℕ) (past : List Step) (legal : IsLegal past)
   command_is_legal (Ok (commands.Unplug place)) = unplug_is_legal place
   command_is_legal (Ok (commands.Good name raw)) = read_is_legal name raw
   command_is_legal (Ok (commands.Lost name)) = lose_is_legal name
+  command_is_legal (Ok (commands.Ticks n)) = ticks_are_legal n past legal
   command_is_legal (Ok (commands.Show topic)) = legal
   command_is_legal (Err fault) = broken_is_legal (command_refusal fault)
 

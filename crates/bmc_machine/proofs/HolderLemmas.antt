@@ -33,7 +33,7 @@ found_passes {X} Fact test (first ∷ xs) x facts found = by (test first) refl f
     by false is found rest = rest found
 
 -- where any passes the test, one that does has what each element has
-any_passes : {X : Type 0} (Fact : X → Type 0) (test : X → Bool) (xs : List X) → AllByRecursion Fact xs → list_any test xs ≡ true
+pub any_passes : {X : Type 0} (Fact : X → Type 0) (test : X → Bool) (xs : List X) → AllByRecursion Fact xs → list_any test xs ≡ true
     → (x : X) × Fact x × (test x ≡ true)
 any_passes Fact test [] facts any = absurd (cc)
 any_passes {X} Fact test (first ∷ xs) facts any = by (test first) refl any (any_passes Fact test xs facts.1)
@@ -95,7 +95,7 @@ module _ (family : Family) (name : List ℕ) where
   holder_has_id items item held = (holder_is (λ (item : Item). has_id items item.id ≡ true) items item (have_ids items) held).0
 
   -- the holder among live items is the holder among all
-  holder_live : (items : List Item) → holder (live items) family name ≡ holder items family name
+  pub holder_live : (items : List Item) → holder (live items) family name ≡ holder items family name
   unfolding live
   holder_live items = find_filter (has_name family name) (is_live items) items holds
     where
@@ -106,7 +106,7 @@ module _ (family : Family) (name : List ℕ) where
           ∙ ap (λ name. is_item item.id (holder items family name)) is.2 ∙ ap (is_item item.id) held ∙ id_itself item.id
 
 -- a live item of a family holds its name
-live_holds : (past : List Step) (family : Family) (item : Item) → IsLive past item → is_of family item ≡ true
+pub live_holds : (past : List Step) (family : Family) (item : Item) → IsLive past item → is_of family item ≡ true
     → holder (live_now past) family item.name ≡ Some item
 unfolding live_now
 live_holds past family item is of_family =

@@ -23,7 +23,7 @@ use Rattle.inventory.specs.declared.fault.InventoryFault.{InventoryFault}
 use Rattle.inventory.specs.declared.fault.InventoryFault.TheVariants as limits
 use Rattle.bmc_machine.specs.Standings.{Fru, is_at, is_present, without, Standing}
 use Rattle.bmc_machine.specs.Boards.{sights_of, boards, board_keys}
-use Rattle.bmc_machine.specs.Histories.{Step, Configure, Plug, RefusedPlug, Unplug, Read, Lose, after_step, standing}
+use Rattle.bmc_machine.specs.Histories.{Step, Strict, Configure, Plug, RefusedPlug, Unplug, Read, Lose, Tick, after_step, standing}
 use Rattle.bmc_machine.specs.Refusals.{limit_refusal, refusal_by_limit, ◌or_else◌, IsLegalStep, IsLegal}
 use Rattle.bmc_machine.proofs.FewerLemmas.{boards_fewer}
 
@@ -170,6 +170,7 @@ last_of None later none = none
 last_of (Some refusal) later none = absurd (cc)
 
 within_next : (past : List Step) (step : Step) → IsLegalStep past step → IsWithin (standing past) → IsWithin (after_step (standing past) step)
+within_next past Strict legal within = within
 within_next past (Configure config) legal within =
     not_refused _ (by (standing past).plugged (is_some (number_of (standing past).configs config.name))
     (nat_le most_configs (length (standing past).configs)) legal)
@@ -196,6 +197,7 @@ within_next past (RefusedPlug place bytes refusal) legal within = within
 within_next past (Unplug place) legal within = without_within (standing past) place within
 within_next past (Read name raw) legal within = within
 within_next past (Lose name) legal within = within
+within_next past Tick legal within = within
 
 pub limits_hold : (past : List Step) → IsLegal past → passed_limit (standing past).configs (board_keys (standing past)) ≡ None
 unfolding IsLegal standing board_keys passed_limit

@@ -11,7 +11,7 @@ use Rattle.sensor_core.specs.Sensors.{Outcome, Sensor, sensor_of, has_failed, ha
 use Rattle.sensor_core.specs.Settings.{limits_of}
 use Rattle.sensor_core.specs.declared.limit.Limit.{Limit}
 use Rattle.sensor_core.specs.declared.setting.SensorSetting.{SensorSetting}
-use Rattle.bmc_machine.specs.Histories.{Step, tick_of}
+use Rattle.bmc_machine.specs.Histories.{Step, is_tick, tick_of}
 use Rattle.bmc_machine.specs.Indexes.{live_now}
 use Rattle.live_sensors.specs.Items.{setting_in, blank_in}
 use Rattle.bmc_machine.specs.Lives.{has_id, outcome_of, IsNoOutcome, outcomes, item_sensor, sensor_now}
@@ -19,6 +19,7 @@ use Rattle.bmc_machine.specs.Refusals.{IsLegalStep}
 use Rattle.bmc_machine.specs.Changes.{inventory, changes_between, alarm_change, sensor_changes, changes_of_sensor, changes_of_item}
 use Rattle.bmc_machine.specs.Changes.{changes_of_sensors, changes}
 use Rattle.bmc_machine.proofs.HolderLemmas.{holder_was}
+use Rattle.bmc_machine.proofs.WaitingLemmas.{no_zone_changes}
 
 -- the sensor of an item after these outcomes
 abbrev pub sensor_after : Item → List Outcome → Option Sensor
@@ -84,9 +85,11 @@ module _ (past : List Step) (step : Step) (watched : IsNoOutcome step) where
           ap (changes_of_sensor item.name (item_sensor past item)) (sensor_same item lived) ∙ no_change item.name (item_sensor past item)
       by item false absent = refl
 
-  pub changes_watched : changes past step ≡ changes_between (inventory past) (inventory (step ∷ past))
-  changes_watched =
-      ap (λ (told : List Change). changes_between (inventory past) (inventory (step ∷ past)) ++ told) no_sensor_changes ∙ append-nil _
+  pub changes_watched : is_tick step ≡ false → changes past step ≡ changes_between (inventory past) (inventory (step ∷ past))
+  changes_watched still =
+      ap₂ (λ (sensors zones : List Change). changes_between (inventory past) (inventory (step ∷ past)) ++ sensors ++ zones) no_sensor_changes
+      (no_zone_changes past step still)
+      ∙ append-nil _ ∙ append-nil _
 
   -- an item that stays live keeps its sensor
   pub sensor_stays : (name : List ℕ) (item : Item) → IsLegalStep past step → holder (live_now (step ∷ past)) families.Sensor name ≡ Some item

@@ -36,7 +36,7 @@ all_enumerated Fact start (first ∷ xs) fact = (
   all_enumerated Fact (start + 1) xs (λ i position x is at. fact (suc i) position x (omega (arith, is)) at),
 )
 
-all_filter_map : {X Y : Type 0} (Fact : Y → Type 0) (Cause : X → Type 0) (image : X → Option Y)
+pub all_filter_map : {X Y : Type 0} (Fact : Y → Type 0) (Cause : X → Type 0) (image : X → Option Y)
     → ((x : X) → Cause x → (y : Y) → image x ≡ Some y → Fact y) → (xs : List X) → AllByRecursion Cause xs → AllByRecursion Fact (filter_map image xs)
 all_filter_map Fact Cause image gives [] causes = tt
 all_filter_map {X} {Y} Fact Cause image gives (first ∷ xs) causes =

@@ -14,7 +14,7 @@ use Rattle.sensor_core.specs.Settings.{IsValidSetting}
 use Rattle.sensor_core.specs.Updates.{good_after, lost_after, Takes}
 use Rattle.sensor_core.specs.declared.setting.SensorSetting.{SensorSetting}
 use Rattle.sensor_core.proofs.SensorsLemmas.{good_takes}
-use Rattle.bmc_machine.specs.Histories.{Step, Read, Lose, tick_of, is_idle_step}
+use Rattle.bmc_machine.specs.Histories.{Step, Read, Lose, tick_of, is_idle_step, is_tick}
 use Rattle.bmc_machine.specs.Indexes.{live_now}
 use Rattle.live_sensors.specs.Items.{setting_in}
 use Rattle.bmc_machine.specs.Lives.{has_id, outcome_of, outcomes, item_sensor, sensor_now}
@@ -22,6 +22,7 @@ use Rattle.bmc_machine.specs.Refusals.{IsLegal}
 use Rattle.bmc_machine.specs.Changes.{inventory, changes_between, changes_of_sensor, changes_of_item, changes}
 use Rattle.bmc_machine.proofs.IdleLemmas.{live_same, inventory_same, nothing_between}
 use Rattle.bmc_machine.proofs.HolderLemmas.{holder_name, holder_has_id}
+use Rattle.bmc_machine.proofs.WaitingLemmas.{no_zone_changes}
 use Rattle.bmc_machine.proofs.LivesLemmas.{sensor_after, sensor_next, sensor_is, no_change}
 use Rattle.bmc_machine.proofs.SettledLemmas.{AreNamedOnce, none_behind, of_sensors, live_once}
 
@@ -57,6 +58,7 @@ no_sensor item some other = by (setting_in item.part)
 -- ---- a step that tells the sensor of a name an outcome
 
 module _ (past : List Step) (step : Step) (name : List ℕ) (outcome : Outcome) (after : Sensor → Sensor) (idle : is_idle_step step ≡ true)
+    (still : is_tick step ≡ false)
     (tells : (other : List ℕ) → outcome_of other (tick_of (step ∷ past)) step ≡ cond (bytes_eq other name) (outcome ∷ []) [])
     (takes : IfSome (sensor_now past name) (λ (sensor : Sensor). Takes sensor (after sensor) outcome)) where
   -- an item that is live, and the name of which is that one or not
@@ -145,11 +147,14 @@ module _ (past : List Step) (step : Step) (name : List ℕ) (outcome : Outcome) 
 
   pub changes_told : IsLegal past → changes past step ≡ changes_of_sensor name (sensor_now past name) (sensor_now (step ∷ past) name)
   changes_told legal =
-      ap₂ (λ (first later : List Change). first ++ later)
+      ap₂ (λ (front zones : List Change). front ++ zones)
+      (ap₂ (λ (first later : List Change). first ++ later)
       (ap (changes_between (inventory past)) (inventory_same step past idle) ∙ nothing_between (inventory past))
       (ap (flat_map (changes_of_item past step)) (live_same step past idle)
       ∙ flat_one (changes_of_item past step) name (live_now past) (live_once past legal) quiet
-      ∙ one_change (holder (live_now past) families.Sensor name) refl)
+      ∙ one_change (holder (live_now past) families.Sensor name) refl))
+      (no_zone_changes past step still)
+      ∙ append-nil _
 
 -- ---- readings and losses
 
@@ -174,12 +179,12 @@ module _ (past : List Step) (name : List ℕ) (raw : ℤ) where
   pub sensors_taken : TakesReading → (other : List ℕ) → sensor_now (Read name raw ∷ past) other
       ≡ cond (bytes_eq other name) (option_map (λ sensor. good_after sensor raw (tick_of past)) (sensor_now past other)) (sensor_now past other)
   sensors_taken takes =
-      sensors_told past (Read name raw) name (Good raw (tick_of past)) (λ sensor. good_after sensor raw (tick_of past)) refl (λ other. refl) takes
+      sensors_told past (Read name raw) name (Good raw (tick_of past)) (λ sensor. good_after sensor raw (tick_of past)) refl refl (λ other. refl) takes
 
   pub changes_taken : TakesReading → IsLegal past
       → changes past (Read name raw) ≡ changes_of_sensor name (sensor_now past name) (sensor_now (Read name raw ∷ past) name)
   changes_taken takes =
-      changes_told past (Read name raw) name (Good raw (tick_of past)) (λ sensor. good_after sensor raw (tick_of past)) refl (λ other. refl) takes
+      changes_told past (Read name raw) name (Good raw (tick_of past)) (λ sensor. good_after sensor raw (tick_of past)) refl refl (λ other. refl) takes
 
   pub sensors_read : IfSome (sensor_now past name) (λ sensor. IsValidSetting sensor.setting) → (other : List ℕ) → sensor_now (Read name raw ∷ past) other
       ≡ cond (bytes_eq other name) (option_map (λ sensor. good_after sensor raw (tick_of past)) (sensor_now past other)) (sensor_now past other)
@@ -199,8 +204,8 @@ module _ (past : List Step) (name : List ℕ) where
 
   pub sensors_lost : (other : List ℕ) → sensor_now (Lose name ∷ past) other
       ≡ cond (bytes_eq other name) (option_map lost_after (sensor_now past other)) (sensor_now past other)
-  sensors_lost = sensors_told past (Lose name) name Lost lost_after refl (λ other. refl) any_takes
+  sensors_lost = sensors_told past (Lose name) name Lost lost_after refl refl (λ other. refl) any_takes
 
   pub changes_lost : IsLegal past
       → changes past (Lose name) ≡ changes_of_sensor name (sensor_now past name) (sensor_now (Lose name ∷ past) name)
-  changes_lost = changes_told past (Lose name) name Lost lost_after refl (λ other. refl) any_takes
+  changes_lost = changes_told past (Lose name) name Lost lost_after refl refl (λ other. refl) any_takes

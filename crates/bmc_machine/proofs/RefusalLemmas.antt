@@ -1,5 +1,5 @@
 -- What is refused leaves the moment and the indexes.
-use Rattle.std.proofs.Common.{◌≡◌, ℕ, List, ◌∷◌, true, Option, Some, None, refl, ap}
+use Rattle.std.proofs.Common.{◌≡◌, ℕ, zero, suc, List, ◌∷◌, true, false, Option, Some, None, refl, ap}
 use Rattle.std.specs.Prelude.{Result, Ok, Err}
 use Rattle.bmc_base.specs.Places.{Place}
 use Rattle.bmc_text.specs.Items.{Item, Line, LineTooLong, Block, BlockTooLong, BlockShort}
@@ -12,10 +12,10 @@ use Rattle.cfg_json.specs.Configs.{Config}
 use Rattle.cfg_json.specs.Documents.{config_read}
 use Rattle.cfg_json.specs.Verdicts.{Verdict, Accepted, BadPattern, LargePattern}
 use Rattle.cfg_json.specs.declared.config_fault.ConfigFault.{ConfigFault}
-use Rattle.bmc_machine.specs.Histories.{Step, Configure, Plug, RefusedPlug, Unplug, Read, Lose, standing}
+use Rattle.bmc_machine.specs.Histories.{Step, Strict, Configure, Plug, RefusedPlug, Unplug, Read, Lose, Tick, standing}
 use Rattle.bmc_machine.specs.Indexes.{kept}
 use Rattle.bmc_machine.specs.Refusals.{command_refusal, config_refusal, refusal_after}
-use Rattle.bmc_machine.specs.Answers.{past_refused, answer_by, answer_step, answer_command, answer_broken, answer_config, answer}
+use Rattle.bmc_machine.specs.Answers.{past_refused, answer_by, answer_step, answer_command, answer_broken, answer_config, answer_ticks, answer}
 use Rattle.bmc_machine.proofs.IndexLemmas.{kept_idle}
 
 -- ---- a plug that is refused
@@ -41,11 +41,18 @@ pub record IsAlike (past other : List Step) : Type 0 where
   pub standing : standing other ≡ standing past
   pub kept : (number : ℕ) → kept other number ≡ kept past number
 
+-- no tick is refused
+ticks_accepted : (n : ℕ) (past : List Step) → (answer_ticks n past).refused ≡ false
+unfolding answer_ticks
+ticks_accepted zero past = refl
+ticks_accepted (suc n) past = ticks_accepted n (Tick ∷ past)
+
 module _ (line : Refusal → List ℕ) (past : List Step) where
   the_same : IsAlike past past
   the_same = record { standing = refl; kept = λ number. refl }
 
   step_refused : (step : Step) (refusal : Refusal) → IsAlike past (past_refused past step refusal)
+  step_refused Strict refusal = the_same
   step_refused (Configure config) refusal = the_same
   step_refused (Plug place bytes) refusal =
       record { standing = standing_refused_plug past place bytes refusal; kept = kept_refused_plug past place bytes refusal }
@@ -53,6 +60,7 @@ module _ (line : Refusal → List ℕ) (past : List Step) where
   step_refused (Unplug place) refusal = the_same
   step_refused (Read name raw) refusal = the_same
   step_refused (Lose name) refusal = the_same
+  step_refused Tick refusal = the_same
 
   step_is_idle : (step : Step) → (answer_step line past step).refused ≡ true → IsAlike past (answer_step line past step).past
   step_is_idle step = by (refusal_after past step)
@@ -73,6 +81,7 @@ module _ (line : Refusal → List ℕ) (past : List Step) where
   command_is_idle (Ok (commands.Unplug place)) refused = step_is_idle (Unplug place) refused
   command_is_idle (Ok (commands.Good name raw)) refused = step_is_idle (Read name raw) refused
   command_is_idle (Ok (commands.Lost name)) refused = step_is_idle (Lose name) refused
+  command_is_idle (Ok (commands.Ticks n)) refused = absurd (let accepted = ticks_accepted n past in cc)
   command_is_idle (Ok (commands.Show topic)) refused = the_same
   command_is_idle (Err fault) refused = broken_is_idle (command_refusal fault)
 

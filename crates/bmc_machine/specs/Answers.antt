@@ -1,5 +1,5 @@
 -- The machine: it takes the items of a script in turn, and what it prints follows from what is present then.
-use Rattle.std.specs.Prelude.{ℕ, ◌+◌, Bool, true, false, ◌||◌, List, [], ◌∷◌, ◌++◌, Option, Some, None, Result, Ok, Err}
+use Rattle.std.specs.Prelude.{ℕ, zero, suc, ◌+◌, Bool, true, false, ◌||◌, List, [], ◌∷◌, ◌++◌, Option, Some, None, Result, Ok, Err}
 use Rattle.std.specs.List.{flat_map}
 use Rattle.bmc_text.specs.Items.{Item, Line, LineTooLong, Block, BlockTooLong, BlockShort, items_of, whole_items}
 use Rattle.bmc_script.specs.Commands.{command_of}
@@ -18,7 +18,7 @@ use Rattle.cfg_json.specs.Documents.{config_read}
 use Rattle.cfg_json.specs.Verdicts.{Verdict, Accepted, BadPattern, LargePattern}
 use Rattle.cfg_json.specs.declared.config_fault.ConfigFault.{ConfigFault}
 use Rattle.bmc_machine.specs.Shows.{shown}
-use Rattle.bmc_machine.specs.Histories.{Step, Configure, Plug, RefusedPlug, Unplug, Read, Lose, tick_of}
+use Rattle.bmc_machine.specs.Histories.{Step, Strict, Configure, Plug, RefusedPlug, Unplug, Read, Lose, Tick, tick_of}
 use Rattle.bmc_machine.specs.Refusals.{command_refusal, config_refusal, refusal_after}
 use Rattle.bmc_machine.specs.Changes.{changes}
 
@@ -27,6 +27,10 @@ pub record Answer : Type 0 where
   pub past : List Step
   pub text : List ℕ
   pub refused : Bool
+
+-- one answer, and then that of what follows
+abbrev pub and_then : Answer → Answer → Answer
+and_then first later = record { past = later.past; text = first.text ++ later.text; refused = first.refused || later.refused }
 
 -- nothing happens
 abbrev pub silent : List Step → Answer
@@ -47,11 +51,13 @@ refusing line past refusal = record { past = past; text = line refusal; refused 
 -- the history after a step that was refused: a plug joins it
 abbrev pub past_refused : List Step → Step → Refusal → List Step
 past_refused past (Plug place bytes) refusal = RefusedPlug place bytes refusal ∷ past
+past_refused past Strict refusal = past
 past_refused past (Configure config) refusal = past
 past_refused past (RefusedPlug place bytes reason) refusal = past
 past_refused past (Unplug place) refusal = past
 past_refused past (Read name raw) refusal = past
 past_refused past (Lose name) refusal = past
+past_refused past Tick refusal = past
 
 abbrev pub answer_by : Option Refusal → (Refusal → List ℕ) → List Step → Step → Answer
 answer_by None line past step = accepting past step
@@ -60,6 +66,11 @@ answer_by (Some refusal) line past step = refusing line (past_refused past step 
 -- what comes of a step
 abbrev pub answer_step : (Refusal → List ℕ) → List Step → Step → Answer
 answer_step line past step = answer_by (refusal_after past step) line past step
+
+-- so many ticks pass, each of which is accepted
+unfoldable pub answer_ticks : ℕ → List Step → Answer
+answer_ticks zero past = silent past
+answer_ticks (suc n) past = and_then (accepting past Tick) (answer_ticks n (Tick ∷ past))
 
 abbrev pub answer_broken : Option Refusal → (Refusal → List ℕ) → List Step → Answer
 answer_broken None line past = silent past
@@ -73,6 +84,7 @@ answer_command line past (Ok (commands.Plug place bytes)) = answer_step line pas
 answer_command line past (Ok (commands.Unplug place)) = answer_step line past (Unplug place)
 answer_command line past (Ok (commands.Good name raw)) = answer_step line past (Read name raw)
 answer_command line past (Ok (commands.Lost name)) = answer_step line past (Lose name)
+answer_command line past (Ok (commands.Ticks n)) = answer_ticks n past
 answer_command line past (Ok (commands.Show topic)) = showing past topic
 answer_command line past (Err fault) = answer_broken (command_refusal fault) line past
 
@@ -99,10 +111,6 @@ first_verdict (verdict ∷ verdicts) = verdict
 abbrev pub later_verdicts : List Verdict → List Verdict
 later_verdicts [] = []
 later_verdicts (verdict ∷ verdicts) = verdicts
-
--- one answer, and then that of the items that follow
-abbrev pub and_then : Answer → Answer → Answer
-and_then first later = record { past = later.past; text = first.text ++ later.text; refused = first.refused || later.refused }
 
 -- what comes of items from this number and this history on, one after another
 unfoldable pub answers : ℕ → List Step → List Verdict → List Item → Answer

@@ -1,7 +1,10 @@
--- What a step changes: the boards that go and those that come, the live items, and what sensors show.
+-- What a step changes: the boards that go and those that come, the live items, and what sensors, zones and fans show.
 use Rattle.std.specs.Prelude.{ℕ, ◌==◌, Bool, true, false, if◌then◌else◌, List, [], ◌∷◌, ◌++◌, length, map, filter_map, Option, Some, None, option_map}
 use Rattle.std.specs.List.{flat_map, enumerate_from}
 use Rattle.std.proofs.Math.Bool.{beq}
+use Rattle.std.specs.Option.{option_eq}
+use Rattle.std.specs.Ordering.{int_eq}
+use Rattle.bmc_base.specs.declared.milli.Milli.{Milli}
 use Rattle.bmc_base.specs.Places.{Place}
 use Rattle.cfg_json.specs.Configs.{Config}
 use Rattle.cfg_json.specs.declared.item.Item.{Item}
@@ -13,17 +16,19 @@ use Rattle.inventory.specs.Differences.{keys_left}
 use Rattle.inventory.specs.declared.board.BoardKey.{BoardKey}
 use Rattle.bmc_report.specs.declared.change.Change.{Change}
 use Rattle.bmc_report.specs.declared.change.Change.TheVariants as changes_of
-use Rattle.bmc_report.specs.declared.change.Change.TheVariants.{Board, Failure, Alarm}
+use Rattle.bmc_report.specs.declared.change.Change.TheVariants.{Board, Failure, Alarm, Zone, Duty}
 use Rattle.bmc_report.specs.declared.live_kind.LiveKind.{LiveKind}
 use Rattle.bmc_report.specs.declared.live_kind.LiveKind.TheVariants as kinds
 use Rattle.sensor_core.specs.Limits.{most_severe}
 use Rattle.sensor_core.specs.Sensors.{Sensor, has_failed, has_alarm}
 use Rattle.sensor_core.specs.Settings.{limits_of}
 use Rattle.sensor_core.specs.declared.limit.Limit.{Limit}
+use Rattle.fan_zone.specs.Live.{LiveZone, LiveFan, zones, fans}
 use Rattle.bmc_machine.specs.Boards.{boards, name_of}
 use Rattle.bmc_machine.specs.Histories.{Step, standing}
 use Rattle.bmc_machine.specs.Indexes.{kept, live_now}
 use Rattle.bmc_machine.specs.Lives.{has_id, item_sensor}
+use Rattle.bmc_machine.specs.Turns.{zone_now, fan_now}
 
 -- the configurations of one moment; by number the boards of each, and all that it ever had; and the items that are live
 pub record Inventory : Type 0 where
@@ -97,6 +102,33 @@ changes_of_item past step item =
 abbrev pub changes_of_sensors : List Step → Step → List Change
 changes_of_sensors past step = flat_map (changes_of_item past step) (live_now (step ∷ past))
 
--- the changes of a step: of boards and live items, and then of sensors
+-- a zone went into failsafe, or is normal again
+abbrev pub mode_change : List ℕ → Bool → Bool → List Change
+mode_change name was is = if beq was is then [] else Zone is name ∷ []
+
+-- a zone that was live before a step shows another mode than before
+abbrev pub changes_of_zone : List Step → Step → LiveZone → List Change
+changes_of_zone past step zone =
+    if has_id (live_now past) zone.id then mode_change zone.name (zone_now past zone).failsafe (zone_now (step ∷ past) zone).failsafe else []
+
+abbrev pub milli_eq : Milli → Milli → Bool
+milli_eq number other = int_eq number.0 other.0
+
+-- the duty of a fan is another
+abbrev pub duty_change : List ℕ → Option Milli → Option Milli → List Change
+duty_change name was None = []
+duty_change name was (Some duty) = if option_eq milli_eq was (Some duty) then [] else Duty name duty ∷ []
+
+-- a fan that was live before a step shows another duty than before
+abbrev pub changes_of_fan : List Step → Step → LiveFan → List Change
+changes_of_fan past step fan =
+    if has_id (live_now past) fan.id then duty_change fan.name (fan_now past fan).duty (fan_now (step ∷ past) fan).duty else []
+
+-- what live zones, and then live fans, show otherwise than before a step
+abbrev pub changes_of_zones : List Step → Step → List Change
+changes_of_zones past step =
+    flat_map (changes_of_zone past step) (zones (live_now (step ∷ past))) ++ flat_map (changes_of_fan past step) (fans (live_now (step ∷ past)))
+
+-- the changes of a step: of boards and live items, of sensors, and then of zones and fans
 abbrev pub changes : List Step → Step → List Change
-changes past step = changes_between (inventory past) (inventory (step ∷ past)) ++ changes_of_sensors past step
+changes past step = changes_between (inventory past) (inventory (step ∷ past)) ++ changes_of_sensors past step ++ changes_of_zones past step

@@ -5,9 +5,12 @@ pub mod Indexes
 pub mod Names
 pub mod Meetings
 pub mod Lives
+pub mod Turns
 pub mod Refusals
 pub mod Changes
 pub mod Shows
 pub mod Answers
 pub mod Ties
+pub mod Zones
+pub mod Banks
 pub mod Examples

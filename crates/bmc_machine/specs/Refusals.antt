@@ -11,7 +11,7 @@ use Rattle.cfg_json.specs.declared.config_fault.ConfigFault.TheVariants as fault
 use Rattle.bmc_script.specs.declared.command.ScriptFault.{ScriptFault}
 use Rattle.bmc_script.specs.declared.command.ScriptFault.TheVariants as lines
 use Rattle.bmc_report.specs.declared.refusal.Refusal.{Refusal}
-use Rattle.bmc_report.specs.declared.refusal.Refusal.TheVariants.{UnknownCommand, BadArguments, PlaceRange, BadHex}
+use Rattle.bmc_report.specs.declared.refusal.Refusal.TheVariants.{UnknownCommand, BadArguments, PlaceRange, TickLimit, BadHex}
 use Rattle.bmc_report.specs.declared.refusal.Refusal.TheVariants.{NotJson, Fraction, MissingKey, WrongKind, OutOfRange, ProbeSyntax}
 use Rattle.bmc_report.specs.declared.refusal.Refusal.TheVariants.{TemplateSyntax, MuxMatchOne, PatternSyntax, PatternTooLarge, ConfigAfterPlug}
 use Rattle.bmc_report.specs.declared.refusal.Refusal.TheVariants.{DuplicateName, ConfigLimit, Occupied}
@@ -28,7 +28,7 @@ use Rattle.inventory.specs.declared.fault.InventoryFault.{InventoryFault}
 use Rattle.inventory.specs.declared.fault.InventoryFault.TheVariants as limits
 use Rattle.bmc_machine.specs.Standings.{Standing, is_present}
 use Rattle.bmc_machine.specs.Boards.{board_keys}
-use Rattle.bmc_machine.specs.Histories.{Step, Configure, Plug, RefusedPlug, Unplug, Read, Lose, standing, after_step}
+use Rattle.bmc_machine.specs.Histories.{Step, Strict, Configure, Plug, RefusedPlug, Unplug, Read, Lose, Tick, standing, after_step}
 use Rattle.bmc_machine.specs.Indexes.{live_now}
 
 -- the refusal by a rule that bytes break to be a record; want of memory is no rule
@@ -50,6 +50,7 @@ abbrev pub command_refusal : ScriptFault → Option Refusal
 command_refusal lines.UnknownCommand = Some UnknownCommand
 command_refusal lines.BadArguments = Some BadArguments
 command_refusal lines.PlaceRange = Some PlaceRange
+command_refusal lines.TickLimit = Some TickLimit
 command_refusal lines.BadHex = Some BadHex
 command_refusal lines.OutOfMemory = None
 
@@ -101,6 +102,7 @@ is_unknown live name = is_none (holder live families.Sensor name)
 
 -- why a step is refused where this stands and these items are live, or none
 abbrev pub refusal_of : Standing → List Item → Step → Option Refusal
+refusal_of now live Strict = None
 refusal_of now live (Configure config) =
     if now.plugged then Some ConfigAfterPlug
     else if is_some (number_of now.configs config.name) then Some DuplicateName
@@ -116,6 +118,7 @@ refusal_of now live (Read name raw) =
     else if nat_lt most_raw (unsigned_abs raw) then Some ReadingRange
     else None
 refusal_of now live (Lose name) = if is_unknown live name then Some UnknownSensor else None
+refusal_of now live Tick = None
 
 -- why a step is refused after a history, or none
 abbrev pub refusal_after : List Step → Step → Option Refusal
@@ -123,12 +126,14 @@ refusal_after past step = refusal_of (standing past) (live_now past) step
 
 -- a step may follow a history: it is not refused there, or it says for which reason a plug is
 abbrev pub IsLegalStep : List Step → Step → Type 0
+IsLegalStep past Strict = ⊤
 IsLegalStep past (Configure config) = refusal_after past (Configure config) ≡ None
 IsLegalStep past (Plug place bytes) = refusal_after past (Plug place bytes) ≡ None
 IsLegalStep past (RefusedPlug place bytes refusal) = refusal_after past (Plug place bytes) ≡ Some refusal
 IsLegalStep past (Unplug place) = refusal_after past (Unplug place) ≡ None
 IsLegalStep past (Read name raw) = refusal_after past (Read name raw) ≡ None
 IsLegalStep past (Lose name) = refusal_after past (Lose name) ≡ None
+IsLegalStep past Tick = ⊤
 
 -- each step of a history may follow those before it
 unfoldable pub IsLegal : List Step → Type 0

@@ -15,14 +15,19 @@ use Rattle.inventory.specs.declared.board.Board.{Board}
 use Rattle.bmc_report.specs.BoardRows.{board_row, index_row, item_row}
 use Rattle.bmc_report.specs.Rows.{fru_row}
 use Rattle.bmc_report.specs.SensorRows.{sensor_row}
+use Rattle.bmc_report.specs.ZoneRows.{zone_row, fan_row}
 use Rattle.bmc_report.specs.declared.topic.Topic.{Topic}
-use Rattle.bmc_report.specs.declared.topic.Topic.TheVariants.{Frus, Inventory, Sensors, Indexes}
+use Rattle.bmc_report.specs.declared.topic.Topic.TheVariants.{Frus, Inventory, Sensors, Zones, Indexes}
 use Rattle.sensor_core.specs.Sensors.{Sensor, has_failed, age_at}
+use Rattle.fan_zone.specs.Live.{LiveZone, LiveFan, zones, fans}
+use Rattle.fan_zone.specs.declared.rows.ZoneRow.{ZoneRow}
+use Rattle.fan_zone.specs.declared.rows.FanRow.{FanRow}
 use Rattle.bmc_machine.specs.Standings.{Fru, fields_of}
 use Rattle.bmc_machine.specs.Boards.{fields_at, name_of}
 use Rattle.bmc_machine.specs.Histories.{Step, standing, tick_of}
 use Rattle.bmc_machine.specs.Indexes.{kept, boards_now, live_now}
 use Rattle.bmc_machine.specs.Lives.{has_id, item_sensor}
+use Rattle.bmc_machine.specs.Turns.{zone_now, fan_now}
 
 -- the row of a FRU that is present, read from its bytes
 abbrev pub row_of : Fru → List ℕ
@@ -40,6 +45,19 @@ sensor_text name tick (Some sensor) = sensor_row name sensor.value (has_failed s
 -- the list of live sensors, by board and expose
 unfoldable pub sensor_list : List Step → List ℕ
 sensor_list past = flat_map (λ (item : Item). sensor_text item.name (tick_of past) (item_sensor past item)) (live_now past)
+
+-- the row of a zone, and of a fan
+abbrev pub zone_text : ZoneRow → List ℕ
+zone_text row = zone_row row.name row.failsafe row.setpoint
+
+abbrev pub fan_text : FanRow → List ℕ
+fan_text row = fan_row row.name row.duty
+
+-- the list of live zones, and then of live fans, each by board and expose
+unfoldable pub zone_list : List Step → List ℕ
+zone_list past =
+    flat_map (λ (zone : LiveZone). zone_text (zone_now past zone)) (zones (live_now past))
+    ++ flat_map (λ (fan : LiveFan). fan_text (fan_now past fan)) (fans (live_now past))
 
 -- the rows of all boards that a configuration ever had, by index
 abbrev pub index_rows : List Config → (ℕ → List (Option Place)) → ℕ → List ℕ
@@ -89,4 +107,5 @@ abbrev pub shown : Topic → List Step → List ℕ
 shown Frus past = fru_list (standing past).frus
 shown Inventory past = board_lists past
 shown Sensors past = sensor_list past
+shown Zones past = zone_list past
 shown Indexes past = index_list past

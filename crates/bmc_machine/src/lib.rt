@@ -7,6 +7,7 @@ mod indexes;
 mod items;
 mod sensors;
 mod verdicts;
+mod zones;
 
 pub use examples::{
     boards_were_met, scripts_with_boards, scripts_with_configs, scripts_with_controllers,
@@ -20,3 +21,4 @@ pub use indexes::{indexes_are_kept, indexes_count};
 pub use items::{items_differ, items_stay, limits_hold};
 pub use sensors::{idle_steps, sensors_are_told, sensors_settle, sensors_stay, sensors_wait};
 pub use verdicts::verdicts_decide;
+pub use zones::zones_tick;

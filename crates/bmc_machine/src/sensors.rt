@@ -4,14 +4,14 @@ ghost use Rattle.inventory.specs.declared.family.Family.TheVariants as families;
 ghost use Rattle.inventory.specs.Items.{holder, items_less};
 ghost use Rattle.sensor_core.specs.Settings.{IsValidSetting};
 ghost use Rattle.sensor_core.specs.Updates.{good_after, lost_after};
-ghost use Rattle.bmc_machine.specs.Histories.{Step, Read, Lose, standing, is_idle_step, tick_of};
+ghost use Rattle.bmc_machine.specs.Histories.{Step, Read, Lose, standing, is_idle_step, is_tick, tick_of};
 ghost use Rattle.bmc_machine.specs.Indexes.{kept, boards_now, items_now, live_now};
 ghost use Rattle.live_sensors.specs.Items.{blank_in, settled};
 ghost use Rattle.bmc_machine.specs.Lives.{has_id, IsNoOutcome, sensor_now};
 ghost use Rattle.bmc_machine.specs.Refusals.{IsLegal};
 ghost use Rattle.bmc_machine.specs.Changes.{Inventory, inventory, changes_between, changes_of_sensor, changes_of_sensors, changes};
 
-/// A reading, a loss and a plug that is refused leave the configurations and the FRUs that are present, the boards with
+/// A reading, a loss, a tick and a plug that is refused leave the configurations and the FRUs that are present, the boards with
 /// their indexes, the items and what of them is live. From a moment to itself nothing changes.
 pub fn idle_steps()
     ensures standing { (step : Step) (past : List Step) → is_idle_step step ≡ true → standing (step ∷ past) ≡ standing past }
@@ -23,10 +23,12 @@ pub fn idle_steps()
     ensures nothing { (now : Inventory) → changes_between now now ≡ [] }
 {}
 
-/// A step that is no reading and no loss changes what no sensor shows, but which sensors there are.
+/// A step that is no reading and no loss changes what no sensor shows, but which sensors there are. If it is no tick either,
+/// no zone and no fan shows anything else than before.
 pub fn sensors_wait()
     ensures sensors { (past : List Step) (step : Step) → IsNoOutcome step → changes_of_sensors past step ≡ [] }
-    ensures changes { (past : List Step) (step : Step) → IsNoOutcome step → changes past step ≡ changes_between (inventory past) (inventory (step ∷ past)) }
+    ensures changes { (past : List Step) (step : Step) → IsNoOutcome step → is_tick step ≡ false
+        → changes past step ≡ changes_between (inventory past) (inventory (step ∷ past)) }
 {}
 
 /// Over a step of a legal history that is no reading and no loss, an item that stays live keeps its sensor. One that was not

@@ -12,3 +12,4 @@ pub mod StockLemmas
 pub mod ListedLemmas
 pub mod GrowthLemmas
 pub mod CountingLemmas
+pub mod PanelLemmas

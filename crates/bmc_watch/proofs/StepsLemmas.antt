@@ -152,7 +152,7 @@ plugged old new place bytes fields free whole room adds = record {
       let reason : refusal_after past (Plug place bytes) ≡ None =
       by_limit old past place bytes fields stood free whole room
       ∙ limit_is new (after_step (standing past) (Plug place bytes)) configs entries ∙ adds.fits in
-      accepted old new past (Plug place bytes) stood reason reason (λ name tick. refl) configs entries adds.plugged adds.moves;
+      accepted old new past (Plug place bytes) stood reason reason (λ name tick. refl) refl configs entries adds.plugged adds.moves;
   left = tt;
 }
 
@@ -188,7 +188,7 @@ unplugged old new place held removes = record {
   tried = λ past stood.
       let reason : refusal_after past (Unplug place) ≡ None =
       ap (λ (there : Bool). cond there None (Some NotPresent)) (is_known old past place true stood held) in
-      accepted old new past (Unplug place) stood reason reason (λ name tick. refl) (removes.configs ∙ stood.configs)
+      accepted old new past (Unplug place) stood reason reason (λ name tick. refl) refl (removes.configs ∙ stood.configs)
       (removes.entries ∙ ap (without_entry place) stood.entries ∙ without_is (standing past).configs place (standing past).frus)
       (removes.plugged ∙ stood.plugged) removes.moves;
   left = tt;
@@ -268,7 +268,7 @@ configured old new config never none other few configs entries same fits moves =
       let reason : refusal_after past (Configure config) ≡ None =
       config_by_limit old past config stood never other few
       ∙ limit_is new (after_step (standing past) (Configure config)) configs_are entries_are ∙ fits in
-      accepted old new past (Configure config) stood reason reason (λ name tick. refl) configs_are entries_are (same ∙ stood.plugged) moves;
+      accepted old new past (Configure config) stood reason reason (λ name tick. refl) refl configs_are entries_are (same ∙ stood.plugged) moves;
   left = tt;
 }
 

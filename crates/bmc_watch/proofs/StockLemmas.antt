@@ -2,7 +2,8 @@
 use Rattle.std.proofs.Common.{◌≡◌, ◌∙◌, ℕ, List, [], ◌∷◌, ◌++◌, map, length, Bool, true, false, not, cond, Option, Some, None, refl, sym, ap, ap₂}
 use Rattle.std.proofs.Common.{subst, subst₂, filter, filter_map, inl, inr, ◌≤◌}
 use Rattle.std.specs.Option.{option_eq}
-use Rattle.std.specs.Prelude.{option_and_then, option_map, IsSomeAnd}
+use Rattle.std.specs.Prelude.{bytes_eq, option_and_then, option_map, slice_index_or, IsSomeAnd}
+use Rattle.std.specs.Map.{lookup}
 use Rattle.std.specs.List.{AllByRecursion}
 use Rattle.std.specs.Ordering.{is_eq}
 use Rattle.std.proofs.lemmas.Bool.{or_left, or_right, or_cases}
@@ -286,11 +287,16 @@ told_by before items staged next is gone new = record {
 pub stock_is : (staged : Option (List Item)) (next now : List Item) → staged ≡ Some next → staged ≡ Some now → now ≡ next
 stock_is staged next now is taken = cc
 
+-- each name has the sensor that it had
+pub kept_sensor : (before now : LiveSensors) → AreKept before now → (name : List ℕ) → sensor_in now name ≡ sensor_in before name
+kept_sensor before now kept name =
+    λ i. option_and_then (λ slot. slice_index_or (kept.slots i) slot None) (lookup (bytes_eq name) (kept.names i))
+
 -- the sensors are settled as the live items go and come
 pub settles : (old new : WatchView) (gone fresh : List Item) (before staged now : LiveSensors) → gone ≡ live_left old new → fresh ≡ live_left new old
     → AreKept before staged → ((name : List ℕ) → sensor_in now name ≡ settled gone fresh name (sensor_in staged name)) → Settles old new before now
 settles old new gone fresh before staged now goes comes kept follow =
-    λ name. follow name ∙ (λ i. settled (goes i) (comes i) name (kept name i))
+    λ name. follow name ∙ (λ i. settled (goes i) (comes i) name (kept_sensor before staged kept name i))
 
 -- ---- limits
 

@@ -22,7 +22,7 @@ use Rattle.inventory.proofs.ListLemmas.{distinct_filter}
 use Rattle.bmc_report.specs.declared.refusal.Refusal.{Refusal}
 use Rattle.bmc_machine.specs.Standings.{Fru, Standing, is_at, fields_of}
 use Rattle.bmc_machine.specs.Boards.{sights_of, boards, board_keys, fields_at}
-use Rattle.bmc_machine.specs.Histories.{Step, Configure, Plug, RefusedPlug, Unplug, Read, Lose, standing}
+use Rattle.bmc_machine.specs.Histories.{Step, Strict, Configure, Plug, RefusedPlug, Unplug, Read, Lose, Tick, is_tick, standing}
 use Rattle.bmc_machine.specs.Lives.{IsNoOutcome}
 use Rattle.bmc_machine.specs.Indexes.{kept, boards_now, items_now, live_now}
 use Rattle.bmc_machine.specs.Refusals.{limit_refusal, refusal_by_limit, refusal_after, IsLegalStep, IsLegal}
@@ -154,11 +154,11 @@ kept_after old new past step legal before held after moves number =
 
 -- an accepted step joins the history, and the changes are its own
 pub accepted : (old new : WatchView) (past : List Step) (step : Step) → WatchStands old past → refusal_after past step ≡ None → IsLegalStep past step
-    → IsNoOutcome step → new.configs ≡ (standing (step ∷ past)).configs
+    → IsNoOutcome step → is_tick step ≡ false → new.configs ≡ (standing (step ∷ past)).configs
     → new.entries ≡ map (fru_entry (standing (step ∷ past)).configs) (standing (step ∷ past)).frus
     → new.plugged ≡ (standing (step ∷ past)).plugged → Moves old new → Accepts past step new
 unfolding IsLegal
-accepted old new past step stood reason legal watched configs entries plugged moves =
+accepted old new past step stood reason legal watched still configs entries plugged moves =
     let before = boards_are old (standing past) stood.configs stood.entries in
     let after = boards_are new (standing (step ∷ past)) configs entries in
     let held = kept_after old new past step (stood.legal, legal) before stood.kept after moves in
@@ -169,7 +169,7 @@ accepted old new past step stood reason legal watched configs entries plugged mo
           moves.changes
           ∙ ap₂ changes_between (inventory_is old past stood.legal stood.configs stood.entries before stood.kept)
           (inventory_is new (step ∷ past) (stood.legal, legal) configs entries after held)
-          ∙ sym (changes_watched past step watched);
+          ∙ sym (changes_watched past step watched still);
     }
 
 -- a state that stands does so also without its last changes
@@ -210,9 +210,11 @@ refused old new step refusal reasons left = record {
   where
     of : (step : Step) (past : List Step) → refusal_after past step ≡ Some refusal → WatchStands (record old { changes = [] }) past
         → WatchStands (record old { changes = [] }) (past_refused past step refusal)
+    of Strict past reason stood = stood
     of (Configure config) past reason stood = stood
     of (Plug place bytes) past reason stood = refused_plug _ past place bytes refusal stood reason
     of (RefusedPlug place bytes other) past reason stood = stood
     of (Unplug place) past reason stood = stood
     of (Read name raw) past reason stood = stood
     of (Lose name) past reason stood = stood
+    of Tick past reason stood = stood

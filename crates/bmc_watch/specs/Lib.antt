@@ -3,6 +3,7 @@ pub mod Watches
 pub mod Steps
 pub mod Settling
 pub mod Readings
+pub mod Panels
 pub mod Insides
 pub mod ItemSteps
 pub mod Counting

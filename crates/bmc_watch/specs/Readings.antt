@@ -3,9 +3,9 @@ use Rattle.std.specs.Prelude.{ℕ, ◌≡◌, ◌<◌, false, slice_index_or}
 use Rattle.sensor_core.specs.Sensors.{Sensor, has_failed, has_alarm}
 use Rattle.bmc_watch.specs.declared.readings.Glimpse.{Glimpse}
 
--- the most changes of a reading: a failure, and an alarm of each limit
+-- the most changes of a step that comes without an event of the bus: of a reading there are at most 9, and of a tick at most 160
 abbrev pub most_changes : ℕ
-most_changes = 9
+most_changes = 256
 
 -- a glimpse is of a sensor that shows this
 pub record Shows (glimpse : Glimpse) (sensor : Sensor) : Type 0 where

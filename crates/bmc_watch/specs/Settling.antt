@@ -7,9 +7,10 @@ use Rattle.live_sensors.specs.Sensors.{LiveSensors, sensor_in}
 use Rattle.bmc_report.specs.declared.refusal.Refusal.{Refusal}
 use Rattle.bmc_watch.specs.Watches.{WatchView, view_items}
 
--- each name has the sensor that it had
-abbrev pub AreKept : LiveSensors → LiveSensors → Type 0
-AreKept before now = (name : List ℕ) → sensor_in now name ≡ sensor_in before name
+-- each name has the slot that it had, and each slot the sensor
+pub record AreKept (before now : LiveSensors) : Type 0 where
+  pub names : now.names ≡ before.names
+  pub slots : now.slots ≡ before.slots
 
 -- the live items that are here and not there
 abbrev pub live_left : WatchView → WatchView → List Item

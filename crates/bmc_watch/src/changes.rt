@@ -11,6 +11,7 @@ ghost use Rattle.inventory.specs.Items.{IsValidItem};
 ghost use Rattle.std.specs.List.{All};
 ghost use Rattle.live_sensors.specs.Items.{settled};
 ghost use Rattle.live_sensors.specs.Sensors.{sensor_in};
+ghost use Rattle.bmc_watch.specs.Settling.{AreKept};
 
 use bmc_base::{Bytes, Ledger, OutOfMemory};
 use bmc_report::{Change, LiveKind};
@@ -90,7 +91,7 @@ pub(crate) fn stage_changes(
         ≤ vec_capacity changes.new) }
     ensures more { vec_capacity changes.old ≤ vec_capacity changes.new }
     ensures changes { changes.new.items ≡ changes.old.items }
-    ensures sensors { (name : List ℕ) → sensor_in sensors.new name ≡ sensor_in sensors.old name }
+    ensures sensors { AreKept sensors.old sensors.new }
     ensures sensor_room { OnOk result (length items.now.new ≤ sensors.new.room) }
 {
     let Difference {

@@ -3,9 +3,11 @@
 
 mod changes;
 mod listing;
+mod panel;
 mod readings;
 mod refusing;
 mod watch;
 
+pub use panel::Panel;
 pub use readings::Glimpse;
 pub use watch::Watch;

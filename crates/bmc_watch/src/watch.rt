@@ -1,4 +1,4 @@
-ghost use Rattle.std.specs.Prelude.{◌≡◌, ◌<◌, ◌++◌, ◌∷◌, [], false, filter, find, length, IfOk, OnOk, OnErr, IsSomeAnd, None, Some};
+ghost use Rattle.std.specs.Prelude.{◌≡◌, ◌<◌, ◌≤◌, ◌++◌, ◌∷◌, [], false, filter, find, length, IfOk, OnOk, OnErr, IsSomeAnd, None, Some};
 ghost use Rattle.std.specs.Result.{is_err};
 ghost use Rattle.bmc_base.specs.Steps.{IsWithin};
 ghost use Rattle.bmc_machine.specs.Histories as histories;
@@ -14,6 +14,8 @@ ghost use Rattle.fru_rows.specs.Idle.{is_idle};
 ghost use Rattle.bmc_watch.specs.Steps.{AddsUnless, RemovesFru, Tries};
 ghost use Rattle.bmc_watch.specs.Settling.{AreKept, Settles, SettlesUnless};
 ghost use Rattle.bmc_watch.specs.Readings.{Shows};
+ghost use Rattle.bmc_watch.specs.Panels.{panel_changes};
+ghost use Rattle.fan_zone.specs.Sound.{most_zones, most_fans};
 ghost use Rattle.bmc_machine.specs.Changes.{sensor_changes};
 ghost use Rattle.sensor_core.specs.Sensors.{Sensor as SensorView};
 
@@ -22,11 +24,13 @@ use crate::changes::{
     tell_items,
 };
 use crate::listing::{list_board, list_boards};
+use crate::panel::{Panel, append_panel};
 use crate::readings::{Glimpse, append_reading};
 use crate::refusing::{limit_refused, record_refused};
 use bmc_base::{Ledger, Name, OutOfMemory, Place, Steps};
 use bmc_report::{Change, Refusal};
 use cfg_json::{Config, Item, MOST_CONFIGS, Shelf};
+use fan_zone::{FanRow, ZoneRow};
 use found_set::FoundSet;
 use fru_record::FruRecord;
 use fru_rows::{Entries, FruRows, is_idle};
@@ -41,7 +45,7 @@ use std::marker::Model;
 // The most FRUs that are present at one time.
 const MOST_FRUS: usize = 256;
 
-// The most changes of a step that comes without an event of the bus: of a reading at most 9.
+// The most changes of a step that comes without an event of the bus: of a reading at most 9, and of a tick at most 160.
 const MOST_CHANGES: usize = 256;
 
 /// What is known of the bus: the configurations, the FRUs that are present with what matches them, what is found and
@@ -157,6 +161,17 @@ impl<L: Ledger> Watch<L> {
     {
         self.changes.clear();
         append_reading(name, before, after, &mut self.changes);
+    }
+
+    /// Lists what zones and fans show otherwise than before a tick, in place of the last changes: the zones with another mode, and
+    /// then the fans with another duty. It takes no memory.
+    pub fn tell_tick(&mut self, before: &Panel, zones: &[ZoneRow], fans: &[FanRow])
+        requires zones { length zones.now ≤ most_zones }
+        requires fans { length fans.now ≤ most_fans }
+        ensures { self.new ≡ record self.old { changes = panel_changes before.now zones.now fans.now } }
+    {
+        self.changes.clear();
+        append_panel(before, zones, fans, &mut self.changes);
     }
 
     /// Forgets the last changes, as a step is refused. It takes no memory.

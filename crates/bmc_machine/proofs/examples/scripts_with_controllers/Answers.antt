@@ -39,11 +39,12 @@ use Rattle.bmc_machine.specs.Boards.{boards, board_keys}
 use Rattle.bmc_machine.specs.Indexes.{kept, boards_now, items_now, live_now}
 use Rattle.bmc_machine.specs.Changes.{changes_between}
 use Rattle.bmc_machine.specs.Shows.{fru_list}
+use Rattle.bmc_machine.specs.Turns.{since}
 use Rattle.bmc_machine.specs.Answers.{answers}
 use Rattle.bmc_machine.proofs.examples.scripts_with_controllers.Goals as goal
 
 pub returns : goal.returns
-unfolding chain_behind operand_digits operation_at fixed_number field_of word_of piece_at pieces_of is_template is_single uses_index rendered
+unfolding since chain_behind operand_digits operation_at fixed_number field_of word_of piece_at pieces_of is_template is_single uses_index rendered
     rendered_number body_of encode is_utf8 chars digits hex_on_literals without_return line_item whole_block whole_item cut_most cut block_size
     hex_decoded digits_in number place_named plug_of unplug_of config_command words_of command_of header area_at first_field walk raw_fields text_of name_text
     area_fields area_text refusal_name refusal_text quoted field_row fru_row fields_of_area fields_at fields_under record_of kind_text change_text

@@ -1,5 +1,9 @@
-use Rattle.bmc_core.proofs.AppliesLemmas.{stands_new}
+-- Nothing has happened, and no zone is there.
+use Rattle.bmc_core.proofs.BegunLemmas.{core_begun, stands_begun}
 use Rattle.bmc_core.proofs.core_state.Core.new.Goals as goal
 
+pub invariant_of-result : goal.invariant_of-result
+invariant_of-result g c = core_begun c.args.strict c.in_ok-senses.senses _ c.in_ok-zones.zones c.in_ok-senses.ensures c.requires c.in_ok-zones.ensures
+
 pub returns : goal.returns
-returns g c = stands_new _ c.in_ok-watch.ensures c.in_ok-sensors.ensures.none
+returns g c = stands_begun c.args.strict c.in_ok-senses.senses _ c.in_ok-zones.zones c.in_ok-senses.ensures c.requires c.in_ok-zones.ensures

@@ -1,41 +1,24 @@
--- A name without a sensor is refused, and so is a raw number out of its range; else the sensor takes the reading.
-use Rattle.std.proofs.Common.{rules, ◌≡◌, ◌∙◌, ℤ, refl, sym, ap, subst, w64, to_z, of_z}
-use Rattle.live_sensors.specs.Sensors.{LiveSensors}
+-- A reading leaves the zones.
+use Rattle.std.proofs.Common.{◌≡◌, ℤ, of_z, refl, rules, subst, to_z, w64}
 use Rattle.bmc_machine.specs.Histories.{Read}
 use Rattle.bmc_core.specs.Acts.{Applies}
-use Rattle.bmc_core.specs.Cores.{CoreView, Stands, quiet}
-use Rattle.bmc_core.proofs.AppliesLemmas.{read_unknown, read_outside, read_told, slot_stays}
+use Rattle.bmc_core.specs.Cores.{CoreView}
+use Rattle.bmc_core.proofs.CoreLemmas.{core_next, sensed}
 use Rattle.bmc_core.proofs.core_state.Core.read.Goals as goal
 
-pub returns-in_default : goal.returns-in_default
-returns-in_default g c =
-    let old : CoreView = record { watch = c.self.inside.watch; sensors = c.self.inside.sensors } in
-    subst (λ (core : CoreView). Applies core (Read c.args.name.now c.args.raw) c.refuse.result c.refuse.new.self) c.self.view_is
-    (read_unknown old c.refuse.new.self c.args.name.now c.args.raw c.slot.result c.refuse.result c.slot.ensures.sensor c.in_default.is
-    c.refuse.ensures.result (c.refuse.ensures.left ∙ ap quiet (sym c.self.view_is)))
+pub invariant_of-self : goal.invariant_of-self
+invariant_of-self g c =
+    let old : CoreView = record { senses = c.self.inside.senses; zones = c.self.inside.zones; strict = c.self.inside.strict } in
+    let new : CoreView = record { senses = c.read.new.self; zones = c.self.inside.zones; strict = c.self.inside.strict } in
+    core_next old new (Read c.args.name.now (to_z w64 (of_z w64 c.args.raw))) c.read.result c.self.invariant
+    (sensed old new (Read c.args.name.now (to_z w64 (of_z w64 c.args.raw))) c.read.result refl refl refl c.read.ensures.notes c.read.ensures.names refl refl)
+    c.self.invariant.enough
 
-pub returns-in-Ok : goal.returns-in-Ok
-returns-in-Ok g c =
-    let old : CoreView = record { watch = c.self.inside.watch; sensors = c.self.inside.sensors } in
-    let new : CoreView = record { watch = c.tell_reading.new.self; sensors = c.good.new.self } in
-    let has = sym c.slot.ensures.slot ∙ c.in-Some.is in
+pub returns : goal.returns
+returns g c =
+    let old : CoreView = record { senses = c.self.inside.senses; zones = c.self.inside.zones; strict = c.self.inside.strict } in
+    let new : CoreView = record { senses = c.read.new.self; zones = c.self.inside.zones; strict = c.self.inside.strict } in
     let same : to_z w64 (of_z w64 c.args.raw) ≡ c.args.raw = search rules in
-    subst (λ (raw : ℤ). Applies c.args.self.now (Read c.args.name.now raw) _ new) same
-    (subst (λ (core : CoreView). Applies core (Read c.args.name.now (to_z w64 (of_z w64 c.args.raw))) _ new) c.self.view_is
-    (read_told old new c.args.name.now c.in-Some.slot c.slot.result c.at.result.now c.at-in-Ok.result.now c.good.new.self c.slot.ensures.sensor c.in-Some.is
-    c.slot.ensures.slot (c.at.ensures c.args.name.now has)
-    (c.at-in-Ok.ensures c.args.name.now (slot_stays c.self.inside.sensors c.good.new.self c.args.name.now c.in-Some.slot c.in-Ok.ensures.changes.names has))
-    (c.tell_reading.ensures c.at.result.now c.of-before.ensures) refl _ c.tick_count-tick.result (c.in-Ok.ensures.range.0 refl)
-    (λ past stood. c.tick_count-tick.ensures.stands past (subst (λ (core : CoreView). Stands core past) c.self.view_is stood)) c.in-Ok.ensures.changes
-    c.in-Ok.ensures.takes _ refl))
-
-pub returns-in-Err : goal.returns-in-Err
-returns-in-Err g c =
-    let old : CoreView = record { watch = c.self.inside.watch; sensors = c.self.inside.sensors } in
-    let same : to_z w64 (of_z w64 c.args.raw) ≡ c.args.raw = search rules in
-    subst (λ (raw : ℤ). Applies c.args.self.now (Read c.args.name.now raw) c.refuse-in-Err.result c.refuse-in-Err.new.self) same
-    (subst (λ (core : CoreView). Applies core (Read c.args.name.now (to_z w64 (of_z w64 c.args.raw))) c.refuse-in-Err.result c.refuse-in-Err.new.self)
-    c.self.view_is (read_outside old c.refuse-in-Err.new.self c.args.name.now _ c.in-Some.slot c.slot.result c.refuse-in-Err.result c.slot.ensures.sensor
-    c.in-Some.is (λ within. absurd (let no = c.in-Err.ensures.range.1 within in cc)) c.refuse-in-Err.ensures.result
-    (c.refuse-in-Err.ensures.left
-    ∙ ap (λ (sensors : LiveSensors). quiet (record { watch = c.self.inside.watch; sensors = sensors })) c.in-Err.ensures.same)))
+    subst (λ (raw : ℤ). Applies c.args.self.now (Read c.args.name.now raw) c.read.result new) same
+    (subst (λ (core : CoreView). Applies core (Read c.args.name.now (to_z w64 (of_z w64 c.args.raw))) c.read.result new) c.self.view_is
+    (sensed old new (Read c.args.name.now (to_z w64 (of_z w64 c.args.raw))) c.read.result refl refl refl c.read.ensures.notes c.read.ensures.names refl refl))

@@ -130,7 +130,7 @@ returns-in_err-items-clause-same g c =
         kept = λ number. ap (λ (view : WatchView). kept_of view.kept number) c.self.view_is;
         changes = ap (λ (view : WatchView). view.changes) c.self.view_is;
       },
-      λ name. refl,
+      record { names = refl; slots = refl },
     )
 
 pub returns-in_err-gone-clause-same : goal.returns-in_err-gone-clause-same

@@ -1,0 +1,40 @@
+-- A name without a sensor is refused, and so is a raw number out of its range; else the sensor takes the reading.
+use Rattle.std.proofs.Common.{rules, ◌≡◌, ◌∙◌, ℤ, refl, sym, ap, subst, w64, to_z, of_z}
+use Rattle.live_sensors.specs.Sensors.{LiveSensors}
+use Rattle.bmc_machine.specs.Histories.{Read}
+use Rattle.bmc_core.specs.Acts.{Notes}
+use Rattle.bmc_core.specs.Senses.{SensesView, quiet_senses}
+use Rattle.bmc_core.proofs.NotesLemmas.{read_unknown, read_outside, read_told, slot_stays}
+use Rattle.bmc_core.proofs.senses.Senses.read.Goals as goal
+
+pub returns-in_default-clause-notes : goal.returns-in_default-clause-notes
+returns-in_default-clause-notes g c =
+    let old : SensesView = record { watch = c.self.inside.watch; sensors = c.self.inside.sensors; ticks = c.self.inside.ticks } in
+    subst (λ (senses : SensesView). Notes senses (Read c.args.name.now c.args.raw) c.refuse.result c.refuse.new.self) c.self.view_is
+    (read_unknown old c.refuse.new.self c.args.name.now c.args.raw c.slot.result c.refuse.result c.slot.ensures.sensor c.in_default.is
+    c.refuse.ensures.result (c.refuse.ensures.left ∙ ap quiet_senses (sym c.self.view_is)))
+
+pub returns-in-Ok-clause-notes : goal.returns-in-Ok-clause-notes
+returns-in-Ok-clause-notes g c =
+    let old : SensesView = record { watch = c.self.inside.watch; sensors = c.self.inside.sensors; ticks = c.self.inside.ticks } in
+    let new : SensesView = record { watch = c.tell_reading.new.self; sensors = c.good.new.self; ticks = c.self.inside.ticks } in
+    let has = sym c.slot.ensures.slot ∙ c.in-Some.is in
+    let same : to_z w64 (of_z w64 c.args.raw) ≡ c.args.raw = search rules in
+    subst (λ (raw : ℤ). Notes c.args.self.now (Read c.args.name.now raw) _ new) same
+    (subst (λ (senses : SensesView). Notes senses (Read c.args.name.now (to_z w64 (of_z w64 c.args.raw))) _ new) c.self.view_is
+    (read_told old new c.args.name.now c.in-Some.slot c.slot.result c.at.result.now c.at-in-Ok.result.now c.good.new.self c.slot.ensures.sensor c.in-Some.is
+    c.slot.ensures.slot (c.at.ensures c.args.name.now has)
+    (c.at-in-Ok.ensures c.args.name.now (slot_stays c.self.inside.sensors c.good.new.self c.args.name.now c.in-Some.slot c.in-Ok.ensures.changes.names has))
+    (c.tell_reading.ensures c.at.result.now c.of-before.ensures) refl refl _ c.self.inside.ticks (c.in-Ok.ensures.range.0 refl) refl c.in-Ok.ensures.changes
+    c.in-Ok.ensures.takes _ refl))
+
+pub returns-in-Err-clause-notes : goal.returns-in-Err-clause-notes
+returns-in-Err-clause-notes g c =
+    let old : SensesView = record { watch = c.self.inside.watch; sensors = c.self.inside.sensors; ticks = c.self.inside.ticks } in
+    let same : to_z w64 (of_z w64 c.args.raw) ≡ c.args.raw = search rules in
+    subst (λ (raw : ℤ). Notes c.args.self.now (Read c.args.name.now raw) c.refuse-in-Err.result c.refuse-in-Err.new.self) same
+    (subst (λ (senses : SensesView). Notes senses (Read c.args.name.now (to_z w64 (of_z w64 c.args.raw))) c.refuse-in-Err.result c.refuse-in-Err.new.self)
+    c.self.view_is (read_outside old c.refuse-in-Err.new.self c.args.name.now _ c.in-Some.slot c.slot.result c.refuse-in-Err.result c.slot.ensures.sensor
+    c.in-Some.is (λ within. absurd (let no = c.in-Err.ensures.range.1 within in cc)) c.refuse-in-Err.ensures.result
+    (c.refuse-in-Err.ensures.left
+    ∙ ap (λ (sensors : LiveSensors). quiet_senses (record { watch = c.self.inside.watch; sensors = sensors; ticks = c.self.inside.ticks })) c.in-Err.ensures.same)))
