@@ -18,31 +18,28 @@ use Rattle.bmc_text.specs.declared.lines.LineFault.TheVariants as faults
 use Rattle.bmc_text.specs.declared.items.NextItem.{NextItem}
 use Rattle.std.proofs.lemmas.Grind.{flat_map-append}
 use Rattle.bmc_report.specs.Refusals.{refused_line}
-use Rattle.bmc_report.specs.declared.topic.Topic.{Topic}
 use Rattle.bmc_report.specs.declared.topic.Topic.TheVariants.{Frus}
 use Rattle.pat_gate.specs.Makers.{Maker}
 use Rattle.cfg_json.specs.Verdicts.{Verdict, large_in}
 use Rattle.bmc_machine.specs.Shows.{shown}
+use Rattle.bmc_machine.specs.Histories.{Step}
 use Rattle.bmc_machine.specs.Ties.{AreTied, large_texts}
 use Rattle.bmc_machine.specs.Answers.{Answer, silent, answer, answers, and_then, answer_of, out, with_list}
 use Rattle.bmc_replay.specs.declared.run.Run.{Run}
+use Rattle.bmc_replay.specs.declared.run.Pending.{Pending}
+use Rattle.bmc_replay.specs.declared.run.Pending.TheVariants.{Nothing}
 use Rattle.bmc_replay.specs.declared.stop.Stop.{Stop}
 use Rattle.bmc_replay.specs.declared.stop.Stop.TheVariants as stops
 use Rattle.bmc_core.specs.Cores.{CoreView, Stands}
-use Rattle.bmc_replay.specs.Runs.{TakesNext, LeavesNext, IsNew, asked, gathered}
+use Rattle.bmc_replay.specs.Runs.{TakesNext, LeavesNext, IsNew, asked, gathered, settled}
 use Rattle.bmc_core.specs.Lists.{entry_rows}
 use Rattle.bmc_replay.specs.Gathering.{Gathers}
 use Rattle.bmc_replay.specs.Outside.{Outside, outside}
 use Rattle.bmc_replay.specs.Stops.{GetsNothing, StopsShort, StopsAt}
 use Rattle.bmc_replay.specs.Statuses.{Replays, WhereTold, Writes, WritesAll, WritesFront, Reaches, Takes, WritesWhole, WriteCause, stop_of, status_of}
-use Rattle.bmc_replay.proofs.SoFar.{SoFar, HasEnded, with_item, so_far_none, so_far_more, so_far_last, so_far_end, so_far_whole}
+use Rattle.bmc_replay.specs.Progress.{SoFar, HasEnded, Printed, HasCome, Along}
+use Rattle.bmc_replay.proofs.SoFar.{with_item, so_far_none, so_far_more, so_far_last, so_far_end, so_far_whole}
 use Rattle.bmc_core.proofs.ListsLemmas.{lists_are}
-
--- this much text was printed: part of it is written, and the rest is gathered
-pub record Printed (old now : Told) (text total : List ℕ) : Type 0 where
-  pub written : List ℕ
-  pub told : now ≡ added old written
-  pub parts : written ++ text ≡ total
 
 pub printed_none : (told : Told) (text : List ℕ) → text ≡ [] → Printed told told text []
 printed_none told text empty = record { written = []; told = sym (added_none told); parts = empty }
@@ -68,11 +65,6 @@ printed_more old now text text_now total more printed grown = record {
       ap (λ (rest : List ℕ). printed.written ++ rest) grown ∙ sym (append_assoc printed.written text more)
       ∙ ap (λ (front : List ℕ). front ++ more) printed.parts;
 }
-
--- How far the machine has come: with what waits and follows, or at the end of the script.
-abbrev pub HasCome : Bool → List ℕ → List ℕ → List Verdict → ℕ → Answer → Type 0
-HasCome false taken waiting verdicts number so_far = SoFar taken waiting verdicts number so_far
-HasCome true taken waiting verdicts number so_far = HasEnded taken verdicts so_far
 
 -- a front of what is printed for the script, where it is told
 abbrev pub IsFront : Option (List ℕ) → List Verdict → Told → Told → Type 0
@@ -285,26 +277,18 @@ all_written refused (Some script) (Some rest) taken verdicts so_far old new cons
       refusal = ap (λ (answer : Answer). answer.refused) is ∙ sym same;
     })
 
-module _ {L : Type 0} where
-  -- of a run that asks for no list only text is gathered
-  text_is : (run : Run L) → run.shown ≡ None → string_bytes run.text ≡ gathered run
-  text_is run none = sym (append-nil (string_bytes run.text)) ∙ ap (λ (shown : Option Topic). string_bytes run.text ++ asked shown run.core) (sym none)
+module _ {L C : Type 0} where
+  -- of a run of which nothing is still to be done only text is gathered
+  text_is : (run : Run L C) → run.pending ≡ Nothing → string_bytes run.text ≡ gathered run
+  text_is run none =
+      sym (append-nil (string_bytes run.text)) ∙ ap (λ (pending : Pending). string_bytes run.text ++ asked pending run.core) (sym none)
 
-  -- The bytes of the source that were read have taken the machine this far under these verdicts, and what it printed is written or gathered.
-  pub record Along (ended : Bool) (before now : Outside) (maker maker_now : Maker) (feed : ItemFeed) (run : Run L) : Type 0 where
-    pub taken : List ℕ
-    pub verdicts : List Verdict
-    pub so_far : Answer
-    pub consumed : Consumes before.input.left now.input.left taken
-    pub read : length taken ≡ feed.read
-    pub large : maker_now.refused ≡ maker.refused ++ large_texts verdicts
-    pub printed : Printed before.output.taken now.output.taken (gathered run) so_far.text
-    pub stands : Stands run.core so_far.past
-    pub refused : run.refused ≡ so_far.refused
-    pub machine : HasCome ended taken feed.waiting verdicts run.number so_far
+  -- and it stands for a history as its core does
+  stood_is : (run : Run L C) (past : List Step) → run.pending ≡ Nothing → Stands (settled run.pending run.core) past → Stands run.core past
+  stood_is run past none stands = subst (λ (pending : Pending). Stands (settled pending run.core) past) none stands
 
   -- it begins
-  pub along_none : (before : Outside) (maker : Maker) (feed : ItemFeed) (run : Run L)
+  pub along_none : (before : Outside) (maker : Maker) (feed : ItemFeed) (run : Run L C)
       → feed ≡ record { line = []; block = []; waiting = []; read = 0; ended = false } → IsNew run → Along false before before maker maker feed run
   along_none before maker feed run none new = record {
     taken = [];
@@ -313,13 +297,13 @@ module _ {L : Type 0} where
     consumed = Consumes-nil before.input.left;
     read = sym (ap (λ (feed : ItemFeed). feed.read) none);
     large = sym (append-nil maker.refused);
-    printed = printed_none before.output.taken (gathered run) (sym (text_is run new.shown) ∙ new.text);
-    stands = new.core;
+    printed = printed_none before.output.taken (gathered run) (sym (text_is run new.pending) ∙ new.text);
+    stands = subst (λ (pending : Pending). Stands (settled pending run.core) []) (sym new.pending) new.core;
     refused = new.refused;
     machine = rw (ap (λ (feed : ItemFeed). feed.waiting) none, new.number) so_far_none;
   }
 
-  along_begins : (ended : Bool) (before now : Outside) (maker maker_now : Maker) (feed : ItemFeed) (run : Run L)
+  along_begins : (ended : Bool) (before now : Outside) (maker maker_now : Maker) (feed : ItemFeed) (run : Run L C)
       (along : Along ended before now maker maker_now feed run) → (ended ≡ true → IsAtEnd now.input.left)
       → Begins before.input.left along.verdicts along.so_far.text
   along_begins false before now maker maker_now feed run along at_end =
@@ -328,14 +312,14 @@ module _ {L : Type 0} where
       drop_more before.input.left along.verdicts along.so_far.text (shown Frus along.so_far.past)
       (ended_begins before.input.left now.input.left along.taken along.verdicts along.so_far along.consumed (at_end refl) along.machine)
 
-  along_tied : (ended : Bool) (before now : Outside) (maker maker_now : Maker) (feed : ItemFeed) (run : Run L)
+  along_tied : (ended : Bool) (before now : Outside) (maker maker_now : Maker) (feed : ItemFeed) (run : Run L C)
       (along : Along ended before now maker maker_now feed run) → (ended ≡ true → IsAtEnd now.input.left)
       → WhereTold before.input.left (λ script. AreTied (items_of script) along.verdicts)
   along_tied ended before now maker maker_now feed run along at_end =
       tied_by ended before.input.left now.input.left along.taken feed.waiting along.verdicts run.number along.so_far along.consumed at_end along.machine
 
   -- a run stops here: by this front, and having reached this
-  along_replays : (stop : Stop) (ended : Bool) (before now new : Outside) (maker maker_now : Maker) (feed : ItemFeed) (run : Run L)
+  along_replays : (stop : Stop) (ended : Bool) (before now new : Outside) (maker maker_now : Maker) (feed : ItemFeed) (run : Run L C)
       (along : Along ended before now maker maker_now feed run) → (ended ≡ true → IsAtEnd now.input.left)
       → IsFront before.input.left along.verdicts before.output.taken new.output.taken → Reaches (status_of (Err stop)) along.verdicts before new
       → Replays (status_of (Err stop)) before new maker maker_now
@@ -348,7 +332,7 @@ module _ {L : Type 0} where
   }
 
   -- a write of what was gathered stops
-  along_cut : (ended : Bool) (before now new : Outside) (maker maker_now : Maker) (feed : ItemFeed) (run : Run L)
+  along_cut : (ended : Bool) (before now new : Outside) (maker maker_now : Maker) (feed : ItemFeed) (run : Run L C)
       (along : Along ended before now maker maker_now feed run) → (ended ≡ true → IsAtEnd now.input.left)
       → AppendsFront now.output.taken new.output.taken (gathered run)
       → IsFront before.input.left along.verdicts before.output.taken new.output.taken
@@ -357,8 +341,8 @@ module _ {L : Type 0} where
       (along_begins ended before now maker maker_now feed run along at_end) along.printed front
 
   -- an item was got and not taken
-  along_front : (before now new : Outside) (maker maker_now : Maker) (feed : ItemFeed) (run : Run L) (text : List ℕ)
-      (along : Along false before now maker maker_now feed run) → run.shown ≡ None
+  along_front : (before now new : Outside) (maker maker_now : Maker) (feed : ItemFeed) (run : Run L C) (text : List ℕ)
+      (along : Along false before now maker maker_now feed run) → run.pending ≡ Nothing
       → Gathers now.output.taken new.output.taken (string_bytes run.text) text []
       → IsFront before.input.left along.verdicts before.output.taken new.output.taken
   along_front before now new maker maker_now feed run text along none gathers =
@@ -368,7 +352,7 @@ module _ {L : Type 0} where
       (subst (λ (front : List ℕ). Gathers now.output.taken new.output.taken front text []) (text_is run none) gathers))
 
   -- so many bytes were taken by then, whatever is written after it
-  along_count : (ended : Bool) (before now new : Outside) (maker maker_now : Maker) (feed : ItemFeed) (run : Run L) (IsCount : ℕ → Type 0)
+  along_count : (ended : Bool) (before now new : Outside) (maker maker_now : Maker) (feed : ItemFeed) (run : Run L C) (IsCount : ℕ → Type 0)
       → Along ended before now maker maker_now feed run → now.input ≡ new.input → IsCount feed.read → Takes before new IsCount
   along_count ended before now new maker maker_now feed run IsCount along same count = record {
     bytes = along.taken;
@@ -377,7 +361,7 @@ module _ {L : Type 0} where
   }
 
   -- and a piece more
-  along_piece : (before now new : Outside) (maker maker_now : Maker) (feed feed_now : ItemFeed) (run : Run L) (piece : List ℕ) (IsCount : ℕ → Type 0)
+  along_piece : (before now new : Outside) (maker maker_now : Maker) (feed feed_now : ItemFeed) (run : Run L C) (piece : List ℕ) (IsCount : ℕ → Type 0)
       → Along false before now maker maker_now feed run → Consumes now.input.left new.input.left piece → feed_now.read ≡ feed.read + length piece
       → IsCount feed_now.read → Takes before new IsCount
   along_piece before now new maker maker_now feed feed_now run piece IsCount along consumed read count = record {
@@ -387,7 +371,7 @@ module _ {L : Type 0} where
   }
 
   -- all that was printed is written, and it is what is printed of the items that are whole in the bytes taken
-  along_whole : (before now new : Outside) (maker maker_now : Maker) (feed feed_now : ItemFeed) (run : Run L) (IsCount : ℕ → Type 0)
+  along_whole : (before now new : Outside) (maker maker_now : Maker) (feed feed_now : ItemFeed) (run : Run L C) (IsCount : ℕ → Type 0)
       (along : Along false before now maker maker_now feed run) → GetsNothing feed feed_now now new (gathered run) IsCount
       → WritesWhole along.verdicts before new IsCount
   unfolding along_piece
@@ -407,7 +391,7 @@ module _ {L : Type 0} where
       }
 
   -- the run stops where an item is wanted
-  stops_along : (stop : Stop) (before now new : Outside) (maker maker_now : Maker) (feed feed_now : ItemFeed) (run : Run L)
+  stops_along : (stop : Stop) (before now new : Outside) (maker maker_now : Maker) (feed feed_now : ItemFeed) (run : Run L C)
       → feed_now.read ≤ longest_script → Along false before now maker maker_now feed run → StopsAt stop feed feed_now now new (gathered run)
       → Replays (status_of (Err stop)) before new maker maker_now
   stops_along stops.OutOfMemory before now new maker maker_now feed feed_now run limit along how =
@@ -431,16 +415,16 @@ module _ {L : Type 0} where
       (front_all now.output.taken new.output.taken (gathered run) how.writing))
       (along_whole before now new maker maker_now feed feed_now run (λ count. count ≡ longest_script) along how)
 
-  pub along_stops : (stop : Stop) (before now new : Outside) (maker maker_now : Maker) (feed feed_now : ItemFeed) (run : Run L)
-      → feed_now.read ≤ longest_script → Along false before now maker maker_now feed run → run.shown ≡ None
+  pub along_stops : (stop : Stop) (before now new : Outside) (maker maker_now : Maker) (feed feed_now : ItemFeed) (run : Run L C)
+      → feed_now.read ≤ longest_script → Along false before now maker maker_now feed run → run.pending ≡ Nothing
       → StopsAt stop feed feed_now now new (string_bytes run.text) → Replays (status_of (Err stop)) before new maker maker_now
   along_stops stop before now new maker maker_now feed feed_now run limit along none how =
       stops_along stop before now new maker maker_now feed feed_now run limit along (subst (StopsAt stop feed feed_now now new) (text_is run none) how)
 
   -- the run stops where what came is not taken for want of memory
   pub along_leaves : (item : Option Item) (ended : Bool) (before now new : Outside) (maker maker_now maker_new : Maker) (feed feed_now : ItemFeed)
-      (run : Run L) (text : List ℕ) → feed_now.read ≤ longest_script → (ended ≡ true → IsAtEnd new.input.left)
-      → Along false before now maker maker_now feed run → run.shown ≡ None
+      (run : Run L C) (text : List ℕ) → feed_now.read ≤ longest_script → (ended ≡ true → IsAtEnd new.input.left)
+      → Along false before now maker maker_now feed run → run.pending ≡ Nothing
       → Reads feed.waiting feed.read feed_now.read now.input new.input (λ bytes. IsTaken item ended bytes feed_now.waiting)
       → Gathers now.output.taken new.output.taken (string_bytes run.text) text [] → LeavesNext item maker_now maker_new
       → Replays (status_of (Err stops.OutOfMemory)) before new maker maker_new
@@ -466,8 +450,8 @@ module _ {L : Type 0} where
     reached = along_piece before now new maker maker_now feed feed_now run came.piece (λ count. count ≤ longest_script) along came.consumed came.count limit;
   }
 
-  -- what was gathered, or the list that is asked for, stops on its way out, after an item was taken
-  pub along_unwritten : (stop : Stop) (ended : Bool) (before now new : Outside) (maker maker_now : Maker) (feed : ItemFeed) (run : Run L)
+  -- what was gathered, or what is still to come, stops on its way out, after an item was taken
+  pub along_unwritten : (stop : Stop) (ended : Bool) (before now new : Outside) (maker maker_now : Maker) (feed : ItemFeed) (run : Run L C)
       (calls calls_now : Calls) → feed.read ≤ longest_script → (ended ≡ true → IsAtEnd now.input.left) → now.input ≡ new.input
       → Along ended before now maker maker_now feed run → AppendsFront now.output.taken new.output.taken (gathered run)
       → WriteCause stop calls calls_now → Replays (status_of (Err stop)) before new maker maker_now
@@ -478,8 +462,8 @@ module _ {L : Type 0} where
       (along_count ended before now new maker maker_now feed run (λ count. count ≤ longest_script) along same limit) cause)
 
   -- what came is taken, after what was gathered moved
-  pub along_next : (next : NextItem) (before now new : Outside) (maker maker_now maker_new : Maker) (feed feed_now : ItemFeed) (run moved run_now : Run L)
-      → moved ≡ record run { text = moved.text } → Along false before now maker maker_now feed run → run.shown ≡ None
+  pub along_next : (next : NextItem) (before now new : Outside) (maker maker_now maker_new : Maker) (feed feed_now : ItemFeed) (run moved run_now : Run L C)
+      → moved ≡ record run { text = moved.text } → Along false before now maker maker_now feed run → run.pending ≡ Nothing
       → TakesNextItem next feed feed_now now.input new.input
       → Gathers now.output.taken new.output.taken (string_bytes run.text) (string_bytes moved.text) []
       → TakesNext (item_next next feed_now) moved run_now maker_now maker_new
@@ -489,13 +473,17 @@ module _ {L : Type 0} where
       of (item_next next feed_now) feed_now.ended came.bytes takes
     where
       stood : Stands moved.core along.so_far.past
-      stood = subst (λ (view : CoreView). Stands view along.so_far.past) (sym (ap (λ (run : Run L). run.core) same)) along.stands
+      stood = subst (λ (view : CoreView). Stands view along.so_far.past) (sym (ap (λ (run : Run L C). run.core) same))
+          (stood_is run along.so_far.past none along.stands)
+
+      moved_none : moved.pending ≡ Nothing
+      moved_none = ap (λ (run : Run L C). run.pending) same ∙ none
 
       refused : moved.refused ≡ along.so_far.refused
-      refused = ap (λ (run : Run L). run.refused) same ∙ along.refused
+      refused = ap (λ (run : Run L C). run.refused) same ∙ along.refused
 
       machine : SoFar along.taken feed.waiting along.verdicts moved.number along.so_far
-      machine = subst (λ (number : ℕ). SoFar along.taken feed.waiting along.verdicts number along.so_far) (sym (ap (λ (run : Run L). run.number) same))
+      machine = subst (λ (number : ℕ). SoFar along.taken feed.waiting along.verdicts number along.so_far) (sym (ap (λ (run : Run L C). run.number) same))
           along.machine
 
       printed : Printed before.output.taken new.output.taken (string_bytes moved.text) along.so_far.text
@@ -504,7 +492,7 @@ module _ {L : Type 0} where
           (subst (λ (front : List ℕ). Gathers now.output.taken new.output.taken front (string_bytes moved.text) []) (text_is run none) gathers)
 
       moved_text : string_bytes moved.text ≡ gathered moved
-      moved_text = text_is moved (ap (λ (run : Run L). run.shown) same ∙ none)
+      moved_text = text_is moved moved_none
 
       counted : Takes before new (λ n. n ≡ feed_now.read)
       counted = along_piece before now new maker maker_now feed feed_now run came.piece (λ n. n ≡ feed_now.read) along came.consumed came.count refl
@@ -520,9 +508,11 @@ module _ {L : Type 0} where
         read = counted.count;
         large = ap (λ (maker : Maker). maker.refused) takes.1 ∙ along.large;
         printed = subst (λ (text : List ℕ). Printed before.output.taken new.output.taken text along.so_far.text)
-            (moved_text ∙ sym (ap (λ (run : Run L). gathered run) takes.0)) printed;
-        stands = subst (λ (view : CoreView). Stands view along.so_far.past) (sym (ap (λ (run : Run L). run.core) takes.0)) stood;
-        refused = ap (λ (run : Run L). run.refused) takes.0 ∙ refused;
+            (moved_text ∙ sym (ap (λ (run : Run L C). gathered run) takes.0)) printed;
+        stands =
+            subst (λ (run : Run L C). Stands (settled run.pending run.core) along.so_far.past) (sym takes.0)
+            (subst (λ (pending : Pending). Stands (settled pending moved.core) along.so_far.past) (sym moved_none) stood);
+        refused = ap (λ (run : Run L C). run.refused) takes.0 ∙ refused;
         machine = so_far_end along.taken feed.waiting came.piece feed_now.waiting along.verdicts moved.number along.so_far true machine last;
       }
       of (Some item) ended bytes takes =
@@ -555,63 +545,72 @@ module _ {L : Type 0} where
               (so_far_more along.taken feed.waiting came.piece feed_now.waiting along.verdicts moved.number along.so_far takes.verdict item machine begins
               takes.is_verdict.tied)
 
-  -- where what is asked for was gathered, no list is asked for any more, and the number is the same
-  pub told_none : (run moved : Run L) → moved ≡ record run { text = moved.text; shown = None } → moved.shown ≡ None
-  told_none run moved same = ap (λ (run : Run L). run.shown) same
+  -- what was still to be done is done, and text moved
+  abbrev pub IsMoved : Run L C → Run L C → Type 0
+  IsMoved run moved = moved ≡ record run { core = settled run.pending run.core; text = moved.text; pending = Nothing }
 
-  pub told_number : (run moved : Run L) → moved ≡ record run { text = moved.text; shown = None } → moved.number ≡ run.number
-  told_number run moved same = ap (λ (run : Run L). run.number) same
+  -- then nothing is still to be done, and the number is the same
+  pub told_none : (run moved : Run L C) → IsMoved run moved → moved.pending ≡ Nothing
+  told_none run moved same = ap (λ (run : Run L C). run.pending) same
 
-  -- what is gathered moves, and it is known whether the source was read to its end
-  pub along_told : (ended told : Bool) (before : Outside) (input : Input) (output output_now : Output) (maker maker_now : Maker) (feed : ItemFeed)
-      (run moved : Run L) → ended ≡ told → moved ≡ record run { text = moved.text; shown = None }
-      → Along ended before (outside input output) maker maker_now feed run
+  pub told_number : (run moved : Run L C) → IsMoved run moved → moved.number ≡ run.number
+  told_number run moved same = ap (λ (run : Run L C). run.number) same
+
+  -- what is gathered moves
+  pub along_told : (ended : Bool) (before : Outside) (input : Input) (output output_now : Output) (maker maker_now : Maker) (feed : ItemFeed)
+      (run moved : Run L C) → IsMoved run moved → Along ended before (outside input output) maker maker_now feed run
       → Gathers output.taken output_now.taken (gathered run) (string_bytes moved.text) []
-      → Along told before (outside input output_now) maker maker_now feed moved
-  along_told ended told before input output output_now maker maker_now feed run moved known same along gathers =
-      subst (λ (is_ended : Bool). Along is_ended before (outside input output_now) maker maker_now feed moved) known (record {
-        taken = along.taken;
-        verdicts = along.verdicts;
-        so_far = along.so_far;
-        consumed = along.consumed;
-        read = along.read;
-        large = along.large;
-        printed = printed_moved before.output.taken output.taken output_now.taken (gathered run) (gathered moved) along.so_far.text along.printed
-            (subst (λ (rest : List ℕ). Gathers output.taken output_now.taken (gathered run) rest [])
-            (text_is moved (told_none run moved same)) gathers);
-        stands = subst (λ (view : CoreView). Stands view along.so_far.past) (sym (ap (λ (run : Run L). run.core) same)) along.stands;
-        refused = ap (λ (run : Run L). run.refused) same ∙ along.refused;
-        machine = subst (λ (number : ℕ). HasCome ended along.taken feed.waiting along.verdicts number along.so_far)
-            (sym (ap (λ (run : Run L). run.number) same))
-            along.machine;
-      })
+      → Along ended before (outside input output_now) maker maker_now feed moved
+  along_told ended before input output output_now maker maker_now feed run moved same along gathers = record {
+    taken = along.taken;
+    verdicts = along.verdicts;
+    so_far = along.so_far;
+    consumed = along.consumed;
+    read = along.read;
+    large = along.large;
+    printed =
+        printed_moved before.output.taken output.taken output_now.taken (gathered run) (gathered moved) along.so_far.text along.printed
+        (subst (λ (rest : List ℕ). Gathers output.taken output_now.taken (gathered run) rest []) (text_is moved (told_none run moved same)) gathers);
+    stands = subst (λ (run : Run L C). Stands (settled run.pending run.core) along.so_far.past) (sym same) along.stands;
+    refused = ap (λ (run : Run L C). run.refused) same ∙ along.refused;
+    machine =
+        subst (λ (number : ℕ). HasCome ended along.taken feed.waiting along.verdicts number along.so_far) (sym (ap (λ (run : Run L C). run.number) same))
+        along.machine;
+  }
+
+  -- it is known whether the script has ended
+  pub along_known : (ended told : Bool) (before now : Outside) (maker maker_now : Maker) (feed : ItemFeed) (run : Run L C) → ended ≡ told
+      → Along ended before now maker maker_now feed run → Along told before now maker maker_now feed run
+  along_known ended told before now maker maker_now feed run known along =
+      subst (λ (is_ended : Bool). Along is_ended before now maker maker_now feed run) known along
 
   -- what is left to print at the end of the script
-  list_of : (before now : Outside) (maker maker_now : Maker) (feed : ItemFeed) (run : Run L) (along : Along true before now maker maker_now feed run)
-      → along.so_far.text ++ entry_rows run.core.watch.entries ≡ with_list along.so_far
-  list_of before now maker maker_now feed run along =
-      ap (λ (rows : List ℕ). along.so_far.text ++ rows) (lists_are Frus run.core along.so_far.past along.stands)
+  list_of : (before now : Outside) (maker maker_now : Maker) (feed : ItemFeed) (run : Run L C) (along : Along true before now maker maker_now feed run)
+      → run.pending ≡ Nothing → along.so_far.text ++ entry_rows run.core.senses.watch.entries ≡ with_list along.so_far
+  list_of before now maker maker_now feed run along none =
+      ap (λ (rows : List ℕ). along.so_far.text ++ rows)
+      (lists_are Frus run.core along.so_far.past (stood_is run along.so_far.past none along.stands))
 
   -- it stops in the final list
-  pub ended_cut : (stop : Stop) (before now new : Outside) (maker maker_now : Maker) (feed : ItemFeed) (run : Run L) (calls calls_now : Calls)
-      → IsAtEnd now.input.left → feed.read ≤ longest_script → now.input ≡ new.input → Along true before now maker maker_now feed run → run.shown ≡ None
-      → AppendsFront now.output.taken new.output.taken (string_bytes run.text ++ entry_rows run.core.watch.entries) → WriteCause stop calls calls_now
+  pub ended_cut : (stop : Stop) (before now new : Outside) (maker maker_now : Maker) (feed : ItemFeed) (run : Run L C) (calls calls_now : Calls)
+      → IsAtEnd now.input.left → feed.read ≤ longest_script → now.input ≡ new.input → Along true before now maker maker_now feed run → run.pending ≡ Nothing
+      → AppendsFront now.output.taken new.output.taken (string_bytes run.text ++ entry_rows run.core.senses.watch.entries) → WriteCause stop calls calls_now
       → Replays (status_of (Err stop)) before new maker maker_now
   ended_cut stop before now new maker maker_now feed run calls calls_now at_end limit same along none front cause =
       along_replays stop true before now new maker maker_now feed run along (λ yes. at_end)
       (begins_stopped before.input.left along.verdicts before.output.taken now.output.taken new.output.taken (gathered run)
-      (entry_rows run.core.watch.entries) along.so_far.text
-      (subst (Begins before.input.left along.verdicts) (sym (list_of before now maker maker_now feed run along))
+      (entry_rows run.core.senses.watch.entries) along.so_far.text
+      (subst (Begins before.input.left along.verdicts) (sym (list_of before now maker maker_now feed run along none))
       (ended_begins before.input.left now.input.left along.taken along.verdicts along.so_far along.consumed at_end along.machine))
       along.printed
-      (subst (λ (text : List ℕ). AppendsFront now.output.taken new.output.taken (text ++ entry_rows run.core.watch.entries)) (text_is run none) front))
+      (subst (λ (text : List ℕ). AppendsFront now.output.taken new.output.taken (text ++ entry_rows run.core.senses.watch.entries)) (text_is run none) front))
       (stops_after stop along.verdicts before new calls calls_now
       (along_count true before now new maker maker_now feed run (λ count. count ≤ longest_script) along same limit) cause)
 
   -- all is written and was taken
-  pub ended_all : (before now new : Outside) (maker maker_now : Maker) (feed : ItemFeed) (run : Run L) → IsAtEnd now.input.left
-      → feed.read < longest_script → now.input ≡ new.input → Along true before now maker maker_now feed run → run.shown ≡ None
-      → new.output.taken ≡ added now.output.taken (string_bytes run.text ++ entry_rows run.core.watch.entries)
+  pub ended_all : (before now new : Outside) (maker maker_now : Maker) (feed : ItemFeed) (run : Run L C) → IsAtEnd now.input.left
+      → feed.read < longest_script → now.input ≡ new.input → Along true before now maker maker_now feed run → run.pending ≡ Nothing
+      → new.output.taken ≡ added now.output.taken (string_bytes run.text ++ entry_rows run.core.senses.watch.entries)
       → Replays (status_of (Ok run.refused)) before new maker maker_now
   ended_all before now new maker maker_now feed run at_end few same along none text = record {
     verdicts = along.verdicts;
@@ -620,11 +619,12 @@ module _ {L : Type 0} where
     text =
         all_written run.refused before.input.left now.input.left along.taken along.verdicts along.so_far before.output.taken new.output.taken along.consumed
         at_end along.machine along.refused
-        (text ∙ ap (λ (text : List ℕ). added now.output.taken (text ++ entry_rows run.core.watch.entries)) (text_is run none)
-        ∙ ap (λ (told : Told). added told (gathered run ++ entry_rows run.core.watch.entries)) along.printed.told
-        ∙ added_more before.output.taken along.printed.written (gathered run ++ entry_rows run.core.watch.entries)
-        ∙ ap (added before.output.taken) (sym (append_assoc along.printed.written (gathered run) (entry_rows run.core.watch.entries))
-        ∙ ap (λ (text : List ℕ). text ++ entry_rows run.core.watch.entries) along.printed.parts ∙ list_of before now maker maker_now feed run along));
+        (text ∙ ap (λ (text : List ℕ). added now.output.taken (text ++ entry_rows run.core.senses.watch.entries)) (text_is run none)
+        ∙ ap (λ (told : Told). added told (gathered run ++ entry_rows run.core.senses.watch.entries)) along.printed.told
+        ∙ added_more before.output.taken along.printed.written (gathered run ++ entry_rows run.core.senses.watch.entries)
+        ∙ ap (added before.output.taken) (sym (append_assoc along.printed.written (gathered run) (entry_rows run.core.senses.watch.entries))
+        ∙ ap (λ (text : List ℕ). text ++ entry_rows run.core.senses.watch.entries) along.printed.parts
+        ∙ list_of before now maker maker_now feed run along none));
     reached = of run.refused (along_count true before now new maker maker_now feed run (λ count. count < longest_script) along same few);
   }
     where
@@ -633,7 +633,14 @@ module _ {L : Type 0} where
       of false takes = (subst (λ (input : Input). IsAtEnd input.left) same at_end, takes)
 
   -- the number of the next item
-  pub numbered : (item : Option Item) (moved run_now : Run L) (maker maker_now : Maker) (ended : Bool) (bytes rest : List ℕ) → ended ≡ false
+  numbered : (item : Option Item) (moved run_now : Run L C) (maker maker_now : Maker) (ended : Bool) (bytes rest : List ℕ) → ended ≡ false
       → IsTaken item ended bytes rest → TakesNext item moved run_now maker maker_now → run_now.number ≡ moved.number + 1
   numbered None moved run_now maker maker_now ended bytes rest going taken takes = absurd (let no = taken.at_end in cc)
   numbered (Some item) moved run_now maker maker_now ended bytes rest going taken takes = takes.number
+
+  -- and where only text moved before
+  pub counted_next : (item : Option Item) (run moved run_now : Run L C) (maker maker_now : Maker) (ended : Bool) (bytes rest : List ℕ)
+      → ended ≡ false → moved ≡ record run { text = moved.text } → IsTaken item ended bytes rest → TakesNext item moved run_now maker maker_now
+      → run_now.number ≡ run.number + 1
+  counted_next item run moved run_now maker maker_now ended bytes rest going same taken takes =
+      numbered item moved run_now maker maker_now ended bytes rest going taken takes ∙ ap (λ (run : Run L C). run.number + 1) same

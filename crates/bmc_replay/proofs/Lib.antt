@@ -3,3 +3,5 @@ pub mod RunsLemmas
 pub mod GatheringLemmas
 pub mod Along
 pub mod ReasonsLemmas
+pub mod TicksLemmas
+pub mod BanksLemmas

@@ -1,6 +1,6 @@
 -- What a run does with an item is what the machine answers.
 use Rattle.std.proofs.Common.{◌≡◌, ℕ, List, [], ◌∷◌, ◌++◌, Bool, Option, Some, None, Ok, Err, refl, ap, ap₂, sym, subst, ◌∙◌, string_bytes}
-use Rattle.std.proofs.Common.{append-nil, append_assoc}
+use Rattle.std.proofs.Common.{append-nil, append_assoc, subst₂, zero, suc, false}
 use Rattle.std.specs.Prelude.{⊤, ◌+◌, ◌||◌, ◌≢◌, Result}
 use Rattle.std.specs.List.{flat_map}
 use Rattle.bmc_text.specs.Items.{Item, Line, Block}
@@ -18,23 +18,34 @@ use Rattle.bmc_script.specs.declared.command.ScriptFault.{ScriptFault}
 use Rattle.bmc_script.specs.declared.command.ScriptFault.TheVariants as lines
 use Rattle.bmc_report.specs.Refusals.{refused_line}
 use Rattle.bmc_report.specs.Changes.{change_line}
+use Rattle.bmc_report.specs.declared.change.Change.{Change}
 use Rattle.bmc_report.specs.declared.refusal.Refusal.{Refusal}
-use Rattle.bmc_machine.specs.Histories.{Step, Configure}
+use Rattle.bmc_machine.specs.Histories.{Step, Configure, Tick, tick_of}
 use Rattle.bmc_machine.specs.Refusals.{command_refusal, config_refusal}
-use Rattle.bmc_machine.specs.Answers.{Answer, silent, showing, refusing, answer_by, answer_step, answer_command, answer_broken, answer_config, answer}
+use Rattle.bmc_machine.specs.Answers.{Answer, silent, showing, refusing, answer_by, answer_step, answer_ticks, answer_command}
+use Rattle.bmc_machine.specs.Answers.{answer_broken, answer_config, answer}
 use Rattle.bmc_machine.specs.Ties.{IsTied}
-use Rattle.bmc_core.specs.Cores.{CoreView, Stands}
+use Rattle.bmc_core.specs.Cores.{CoreView, Stands, ticked_core}
 use Rattle.bmc_core.specs.Acts.{StandsAfter, Applies}
 use Rattle.bmc_core.specs.declared.fault.CoreFault.{CoreFault}
 use Rattle.bmc_core.specs.declared.fault.CoreFault.TheVariants as faults_of
 use Rattle.bmc_core.proofs.ListsLemmas.{lists_are}
+use Rattle.bmc_core.proofs.TickedLemmas.{ticked_stands}
 use Rattle.bmc_report.specs.declared.topic.Topic.{Topic}
 use Rattle.bmc_replay.specs.declared.run.Run.{Run}
 use Rattle.bmc_replay.specs.declared.run.Effect.{Effect}
-use Rattle.bmc_replay.specs.declared.run.Effect.TheVariants.{Nothing, Changed, Shown, Refused}
+use Rattle.bmc_replay.specs.declared.run.Effect.TheVariants.{Nothing, Changed, Shown, Ticks, Refused}
+use Rattle.bmc_replay.specs.declared.run.Pending.{Pending}
+use Rattle.bmc_replay.specs.Ticks.{after_ticks, change_text, tick_text}
 use Rattle.bmc_replay.specs.Runs.{effect_text, effect_of, IsAnswer, Answers, IsVerdict, AnswersItem, AnswersNext, LeavesItem, LeavesNext}
-use Rattle.bmc_replay.specs.Runs.{line_text, asks, asked, gathered}
+use Rattle.bmc_replay.specs.Runs.{line_text, leaves, asked, settled, gathered}
 use Rattle.bmc_replay.specs.Runs.{CountsItem, TakesItem, TakesNext}
+
+-- the lines of the last changes, by the history for which the core stands
+change_text_is : (core : CoreView) (past : List Step) (changes : List Change) → Stands core past → core.senses.watch.changes ≡ changes
+    → change_text core ≡ flat_map (change_line (tick_of past)) changes
+change_text_is core past changes stands told =
+    ap₂ (λ (tick : ℕ) (changes : List Change). flat_map (change_line tick) changes) stands.senses.ticks told
 
 -- nothing comes of it
 pub silent_answers : (view : CoreView) → Answers (λ line past. silent past) Nothing view view
@@ -47,6 +58,22 @@ refused_answers view refusal line past stood = record { stands = stood; text = r
 -- a list is shown, and leaves what is known
 pub shown_answers : (core : CoreView) (topic : Topic) → Answers (λ line past. showing past topic) (Shown topic) core core
 shown_answers core topic line past stood = record { stands = stood; text = lists_are topic core past stood; refused = refl }
+
+-- ticks that pass in a core that stands for a history are answered so
+ticks_are : (count : ℕ) (core : CoreView) (past : List Step) → Stands core past
+    → Stands (after_ticks count core) (answer_ticks count past).past × (tick_text count core ≡ (answer_ticks count past).text)
+    × (false ≡ (answer_ticks count past).refused)
+unfolding answer_ticks after_ticks tick_text
+ticks_are zero core past stood = (stood, refl, refl)
+ticks_are (suc n) core past stood =
+    let next = ticked_stands core past stood in
+    let later = ticks_are n (ticked_core core) (Tick ∷ past) next.0 in
+    (later.0, ap₂ (λ (first rest : List ℕ). first ++ rest) (change_text_is (ticked_core core) (Tick ∷ past) _ next.0 next.1) later.1, later.2)
+
+-- ticks are to pass
+pub ticks_answer : (core : CoreView) (count : ℕ) → Answers (λ line past. answer_ticks count past) (Ticks count) core core
+ticks_answer core count line past stood =
+    let are = ticks_are count core past stood in record { stands = are.0; text = are.1; refused = are.2 }
 
 -- an act is answered as its step is
 pub act_answers : (old : CoreView) (step : Step) (done : Result ⊤ CoreFault) (effect : Effect) (new : CoreView) → Applies old step done new
@@ -61,7 +88,7 @@ act_answers old step done effect new applies is line past stood = of done (appli
     of (Ok ok) accepts is =
         subst (λ (effect : Effect). IsAnswer (answer_step line past step) line effect new) (some_same _ _ is)
         (subst (λ (reason : Option Refusal). IsAnswer (answer_by reason line past step) line Changed new) (sym accepts.0)
-        (record { stands = accepts.1; text = ap (flat_map (change_line 0)) accepts.2; refused = refl }))
+        (record { stands = accepts.1; text = change_text_is new (step ∷ past) _ accepts.1 accepts.2; refused = refl }))
     of (Err (faults_of.Refused refusal)) refuses is =
         subst (λ (effect : Effect). IsAnswer (answer_step line past step) line effect new) (some_same _ _ is)
         (subst (λ (reason : Option Refusal). IsAnswer (answer_by reason line past step) line (Refused refusal) new) (sym refuses.0)
@@ -80,6 +107,7 @@ read_as : (fault : ScriptFault) (read : Result Command ScriptFault) (refusal : R
 read_as lines.UnknownCommand read refusal gives is = gives
 read_as lines.BadArguments read refusal gives is = gives
 read_as lines.PlaceRange read refusal gives is = gives
+read_as lines.TickLimit read refusal gives is = gives
 read_as lines.BadHex read refusal gives is = gives
 read_as lines.OutOfMemory read refusal gives is = absurd (cc)
 
@@ -121,7 +149,7 @@ left_with item verdict maker maker_now is = record {
 }
 
 -- what was answered and not counted
-pub left_answered : {L : Type 0} (item : Option Item) (effect : Option Effect) (old new : Run L) (maker maker_now : Maker)
+pub left_answered : {L C : Type 0} (item : Option Item) (effect : Option Effect) (old new : Run L C) (maker maker_now : Maker)
     → AnswersNext item effect old new maker maker_now → LeavesNext item maker maker_now
 left_answered None None old new maker maker_now answers = answers.1
 left_answered None (Some effect) old new maker maker_now answers = absurd answers
@@ -213,51 +241,50 @@ unread bytes (faults.PatternTooLarge text) maker maker_now gives none = absurd (
 
 -- ---- counting
 
--- a run that asks for no list
-pub asks_none : {L : Type 0} (run : Run L) → run.shown ≡ None → run ≡ record run { text = run.text; shown = None }
-asks_none run none = λ i. record run { shown = none i }
-
--- what is gathered of an item at once, and behind it the list that it asks for, are all that is printed of it
+-- what is gathered of an item at once, and behind it what is still to come, are all that is printed of it
 all_printed : (line : Refusal → List ℕ) (effect : Effect) (core : CoreView)
-    → line_text line effect core ++ asked (asks effect) core ≡ effect_text line effect core
+    → line_text line effect core ++ asked (leaves effect) core ≡ effect_text line effect core
 all_printed line Nothing core = refl
-all_printed line Changed core = append-nil (flat_map (change_line 0) core.watch.changes)
+all_printed line Changed core = append-nil (change_text core)
 all_printed line (Shown topic) core = refl
+all_printed line (Ticks count) core = refl
 all_printed line (Refused refusal) core = append-nil (line refusal)
 
-counts_gathered : {L : Type 0} (effect : Effect) (old new : Run L) → CountsItem effect old new
+counts_gathered : {L C : Type 0} (effect : Effect) (old new : Run L C) → CountsItem effect old new
     → gathered new ≡ string_bytes old.text ++ effect_text (refused_line old.number) effect old.core
 counts_gathered effect old new counts =
-    ap₂ (λ (shown : Option Topic) (core : CoreView). string_bytes new.text ++ asked shown core) counts.shown counts.core
-    ∙ ap (λ (text : List ℕ). text ++ asked (asks effect) old.core) counts.text
-    ∙ append_assoc (string_bytes old.text) (line_text (refused_line old.number) effect old.core) (asked (asks effect) old.core)
+    ap₂ (λ (pending : Pending) (core : CoreView). string_bytes new.text ++ asked pending core) counts.pending counts.core
+    ∙ ap (λ (text : List ℕ). text ++ asked (leaves effect) old.core) counts.text
+    ∙ append_assoc (string_bytes old.text) (line_text (refused_line old.number) effect old.core) (asked (leaves effect) old.core)
     ∙ ap (λ (text : List ℕ). string_bytes old.text ++ text) (all_printed (refused_line old.number) effect old.core)
 
 -- what was answered is counted
-pub answered_item : {L : Type 0} (item : Item) (effect : Effect) (old answered new : Run L) (maker maker_now : Maker)
+pub answered_item : {L C : Type 0} (item : Item) (effect : Effect) (old answered new : Run L C) (maker maker_now : Maker)
     → answered ≡ record old { core = answered.core }
     → AnswersItem item effect old.core answered.core maker maker_now → CountsItem effect answered new → TakesItem item old new maker maker_now
-answered_item {L} item effect old answered new maker maker_now same answers counts = record {
+answered_item {L} {C} item effect old answered new maker maker_now same answers counts = record {
   verdict = answers.verdict;
   is_verdict = answers.is_verdict;
-  number = counts.number ∙ ap (λ (run : Run L). run.number + 1) same;
+  number = counts.number ∙ ap (λ (run : Run L C). run.number + 1) same;
   follows = λ past stood.
       let is = answers.answers (refused_line old.number) past stood in
       record {
-        stands = subst (λ (view : CoreView). Stands view (answer (refused_line old.number) past answers.verdict item).past) (sym counts.core) is.stands;
+        stands =
+            subst₂ (λ (pending : Pending) (core : CoreView). Stands (settled pending core) (answer (refused_line old.number) past answers.verdict item).past)
+            (sym counts.pending) (sym counts.core) is.stands;
         text =
             counts_gathered effect answered new counts
             ∙ ap₂ (λ (text : List ℕ) (n : ℕ). text ++ effect_text (refused_line n) effect answered.core)
-            (ap (λ (run : Run L). string_bytes run.text) same) (ap (λ (run : Run L). run.number) same)
+            (ap (λ (run : Run L C). string_bytes run.text) same) (ap (λ (run : Run L C). run.number) same)
             ∙ ap (λ (text : List ℕ). string_bytes old.text ++ text) is.text;
         refused =
             counts.refused
-            ∙ ap₂ (λ (before now : Bool). before || now) (ap (λ (run : Run L). run.refused) same) is.refused;
+            ∙ ap₂ (λ (before now : Bool). before || now) (ap (λ (run : Run L C). run.refused) same) is.refused;
       };
 }
 
 -- and so what came is taken
-pub taken_next : {L : Type 0} (item : Option Item) (found : Option Effect) (effect : Effect) (old answered new : Run L) (maker maker_now : Maker)
+pub taken_next : {L C : Type 0} (item : Option Item) (found : Option Effect) (effect : Effect) (old answered new : Run L C) (maker maker_now : Maker)
     → AnswersNext item found old answered maker maker_now → found ≡ Some effect → CountsItem effect answered new → TakesNext item old new maker maker_now
 taken_next item found effect old answered new maker maker_now answers is counts =
     of item (subst (λ (found : Option Effect). AnswersNext item found old answered maker maker_now) is answers)

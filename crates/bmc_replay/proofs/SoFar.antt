@@ -1,4 +1,4 @@
--- How far the machine has come in a script.
+-- The answer of the machine so far, by one item more.
 use Rattle.std.proofs.Common.{◌≡◌, ℕ, ◌+◌, List, [], ◌∷◌, ◌++◌, Bool, true, false, ◌||◌, suc, arith, length, refl, ap, ap₂, subst, subst₂, sym}
 use Rattle.std.proofs.Common.{◌∙◌, append_assoc, append-nil, length-append}
 use Rattle.bmc_text.specs.Items.{Item, cut_most, cut, items_of, whole_items}
@@ -9,16 +9,7 @@ use Rattle.bmc_machine.specs.Histories.{Step}
 use Rattle.cfg_json.specs.Verdicts.{Verdict}
 use Rattle.bmc_machine.specs.Ties.{IsTied, AreTied}
 use Rattle.bmc_machine.specs.Answers.{Answer, silent, answer, and_then, answers, answer_of, whole_answer_of}
-
--- Of these bytes of a script the machine has taken all but those that wait, with these verdicts and this answer so far, and goes on with
--- what waits and whatever follows, and with whatever verdicts on it.
-pub record SoFar (taken waiting : List ℕ) (verdicts : List Verdict) (number : ℕ) (so_far : Answer) : Type 0 where
-  pub all : (more : List ℕ) (later : List Verdict)
-      → answer_of (verdicts ++ later) (taken ++ more) ≡ and_then so_far (answers number so_far.past later (items_of (waiting ++ more)))
-  pub whole : (more : List ℕ) (later : List Verdict)
-      → whole_answer_of (verdicts ++ later) (taken ++ more) ≡ and_then so_far (answers number so_far.past later (whole_items (waiting ++ more)))
-  pub tied : (more : List ℕ) (later : List Verdict) → AreTied (items_of (waiting ++ more)) later → AreTied (items_of (taken ++ more)) (verdicts ++ later)
-  pub each : (more : List ℕ) → length (items_of (taken ++ more)) ≡ length verdicts + length (items_of (waiting ++ more))
+use Rattle.bmc_replay.specs.Progress.{SoFar, HasEnded}
 
 -- it begins
 pub so_far_none : SoFar [] [] [] 1 (silent [])
@@ -107,12 +98,6 @@ so_far_more taken waiting piece rest verdicts number so_far verdict item machine
 -- no item follows
 stop_here : (so_far : Answer) (number : ℕ) (verdicts : List Verdict) → and_then so_far (answers number so_far.past verdicts []) ≡ so_far
 stop_here so_far number verdicts = ap (and_then so_far) (answers-nil number so_far.past verdicts) ∙ and_then-silent so_far
-
--- The script has ended: the bytes that were taken are all of it, with these verdicts and this answer.
-pub record HasEnded (taken : List ℕ) (verdicts : List Verdict) (so_far : Answer) : Type 0 where
-  pub all : (later : List Verdict) → answer_of (verdicts ++ later) taken ≡ so_far
-  pub tied : AreTied (items_of taken) verdicts
-  pub each : length verdicts ≡ length (items_of taken)
 
 -- no item is left
 ended_after : (taken waiting piece : List ℕ) (verdicts : List Verdict) (number : ℕ) (so_far : Answer) → SoFar taken waiting verdicts number so_far

@@ -1,16 +1,20 @@
 ghost use Rattle.std.specs.Prelude.{◌≡◌, ◌<◌, ◌++◌, [], length, OnOk, OnErr, MatchResult, string_bytes};
+ghost use Rattle.std.specs.List.{flat_map};
 ghost use Rattle.bmc_base.specs.Calls.{HasCause};
 ghost use Rattle.bmc_io.specs.Told.{added};
 ghost use Rattle.bmc_io.specs.Sinks.{AppendsFront};
 ghost use Rattle.bmc_replay.specs.Statuses.{WriteCause};
 ghost use Rattle.bmc_replay.specs.Gathering.{Gathers, most_gathered};
+ghost use Rattle.bmc_replay.specs.Ticks.{after_ticks, tick_text};
+ghost use Rattle.bmc_report.specs.Changes.{change_line};
 ghost use Rattle.bmc_core.specs.Lists.{core_list, entry_rows, inventory_rows};
 
 use crate::stop::Stop;
-use bmc_base::Ledger;
+use bmc_base::{Ledger, OutOfMemory};
 use bmc_core::Core;
 use bmc_io::{IoFault, Sink, put_all};
-use bmc_report::{Topic, push_fru_row};
+use bmc_report::{Change, Topic, push_change, push_fru_row};
+use ctl_face::Controller;
 use fru_rows::Entries;
 use std::alloc::Global;
 
@@ -45,6 +49,38 @@ pub fn flush_large<K: Sink>(text: &mut String, output: &mut K) -> Result<(), IoF
     flush(text, output)
 }
 
+/// Gathers the lines of changes, each with the tick count.
+pub fn push_changes(text: &mut String, tick: u64, changes: &[Change]) -> Result<(), OutOfMemory>
+    ensures { OnOk result (string_bytes text.new ≡ string_bytes text.old ++ flat_map (change_line tick) changes.now) }
+{
+    for change in changes {
+        push_change(text, tick, change)?;
+    }
+    Ok(())
+}
+
+/// Lets so many ticks pass, gathers the changes of each, and writes what grows large on the way.
+pub fn push_ticks<K: Sink, L: Ledger, C: Controller>(
+    core: &mut Core<L, C>,
+    count: u32,
+    text: &mut String,
+    output: &mut K,
+) -> Result<(), Stop>
+    ensures all { OnOk result (Gathers (K.seen output.old).taken (K.seen output.new).taken (string_bytes text.old) (string_bytes text.new)
+        (tick_text count core.old)) }
+    ensures core { OnOk result (core.new ≡ after_ticks count core.old) }
+    ensures front { OnErr result (AppendsFront (K.seen output.old).taken (K.seen output.new).taken (string_bytes text.old ++ tick_text count core.old)) }
+    ensures cause { MatchResult result (λ _. (K.seen output.new).calls.faults ≡ (K.seen output.old).calls.faults)
+        (λ stop. WriteCause stop (K.seen output.old).calls (K.seen output.new).calls) }
+{
+    for _ in 0..count {
+        core.tick();
+        push_changes(text, core.tick_count(), core.changes())?;
+        flush_large(text, output)?;
+    }
+    Ok(())
+}
+
 /// Gathers the row of each FRU, and writes what grows large on the way.
 pub fn push_list<K: Sink>(
     mut entries: Entries<'_>,
@@ -65,16 +101,16 @@ pub fn push_list<K: Sink>(
 }
 
 // Gathers the rows of each board, and writes what grows large on the way.
-fn push_inventory<K: Sink, L: Ledger>(
+fn push_inventory<K: Sink, L: Ledger, C: Controller>(
     alloc: Global,
-    core: &Core<L>,
+    core: &Core<L, C>,
     text: &mut String,
     output: &mut K,
 ) -> Result<(), Stop>
     ensures all { OnOk result (Gathers (K.seen output.old).taken (K.seen output.new).taken (string_bytes text.old) (string_bytes text.new)
-        (inventory_rows core.now.watch)) }
+        (inventory_rows core.now.senses.watch)) }
     ensures front { OnErr result (AppendsFront (K.seen output.old).taken (K.seen output.new).taken
-        (string_bytes text.old ++ inventory_rows core.now.watch)) }
+        (string_bytes text.old ++ inventory_rows core.now.senses.watch)) }
     ensures cause { MatchResult result (λ _. (K.seen output.new).calls.faults ≡ (K.seen output.old).calls.faults)
         (λ stop. WriteCause stop (K.seen output.old).calls (K.seen output.new).calls) }
 {
@@ -87,9 +123,9 @@ fn push_inventory<K: Sink, L: Ledger>(
 }
 
 /// Gathers a list. The rows of FRUs and of boards are written on the way as they grow large; the other lists are gathered whole.
-pub fn push_topic<K: Sink, L: Ledger>(
+pub fn push_topic<K: Sink, L: Ledger, C: Controller>(
     alloc: Global,
-    core: &Core<L>,
+    core: &Core<L, C>,
     topic: Topic,
     text: &mut String,
     output: &mut K,
@@ -104,6 +140,7 @@ pub fn push_topic<K: Sink, L: Ledger>(
         Topic::Frus => push_list(core.entries(), text, output),
         Topic::Inventory => push_inventory(alloc, core, text, output),
         Topic::Sensors => Ok(core.push_sensors(text)?),
+        Topic::Zones => Ok(core.push_zones(text)?),
         Topic::Indexes => Ok(core.push_indexes(text)?),
     }
 }

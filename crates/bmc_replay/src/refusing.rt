@@ -15,6 +15,7 @@ pub fn command_refused(fault: ScriptFault) -> Result<Refusal, OutOfMemory>
         ScriptFault::UnknownCommand => Refusal::UnknownCommand,
         ScriptFault::BadArguments => Refusal::BadArguments,
         ScriptFault::PlaceRange => Refusal::PlaceRange,
+        ScriptFault::TickLimit => Refusal::TickLimit,
         ScriptFault::BadHex => Refusal::BadHex,
         ScriptFault::OutOfMemory => return Err(OutOfMemory),
     };

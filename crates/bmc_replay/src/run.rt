@@ -1,21 +1,21 @@
-ghost use Rattle.std.specs.Prelude.{◌≡◌, ◌<◌, ◌^◌, ◌++◌, Ok, Some, None, IfOk, OnOk, OnErr, MatchResult, string_bytes};
-ghost use Rattle.std.specs.List.{flat_map};
+ghost use Rattle.std.specs.Prelude.{◌≡◌, ◌<◌, ◌^◌, Ok, Some, None, IfOk, OnOk, OnErr, MatchResult, map};
 ghost use Rattle.bmc_text.specs.Items as items;
 ghost use Rattle.bmc_text.specs.NextItems.{item_next};
-ghost use Rattle.bmc_report.specs.Changes.{change_line};
 ghost use Rattle.bmc_machine.specs.Answers.{answer, answer_command, answer_step};
 ghost use Rattle.bmc_core.specs.Acts.{step_of};
+ghost use Rattle.bmc_core.specs.Cores.{IsStated};
 ghost use Rattle.cfg_json.specs.Verdicts.{Accepted};
 ghost use Rattle.bmc_replay.specs.Runs.{Answers, AnswersItem, LeavesItem, AnswersNext, CountsItem, IsNew, TakesNext, LeavesNext, effect_of};
 
-use crate::output::{GATHERED, SPARE};
+use crate::output::{GATHERED, SPARE, push_changes};
 use crate::refusing::{command_refused, config_refused};
 use bmc_base::{Ledger, OutOfMemory, Steps};
 use bmc_core::{Act, Core, CoreFault};
-use bmc_report::{Change, Refusal, Topic, push_change, push_refused_line};
+use bmc_report::{Refusal, Topic, push_refused_line};
 use bmc_script::Command;
 use bmc_text::{Items, NextItem};
 use cfg_json::Config;
+use ctl_face::Controller;
 use pat_gate::PatternMaker;
 use std::alloc::Global;
 
@@ -28,19 +28,32 @@ pub(crate) enum Effect {
     Changed,
     // A list is asked for.
     Shown(Topic),
+    // So many ticks are to pass.
+    Ticks(u32),
     // It is refused.
     Refused(Refusal),
 }
 
+/// What is still to be done of the last item: it may print more than is gathered at once.
+#[derive(Clone, Copy)]
+pub enum Pending {
+    /// Nothing.
+    Nothing,
+    /// A list is to be gathered.
+    List(Topic),
+    /// So many ticks are to pass.
+    Ticks(u32),
+}
+
 /// A run of a script so far.
 #[derive(Drop)]
-pub struct Run<L: Ledger> {
+pub struct Run<L: Ledger, C: Controller> {
     /// The core, which does what the script asks for.
-    pub core: Core<L>,
+    pub core: Core<L, C>,
     /// The text that is gathered and not yet written.
     pub text: String,
-    /// The list that is asked for and not yet gathered: it comes behind the text.
-    pub shown: Option<Topic>,
+    /// What is still to be done of the last item: what it prints comes behind the text.
+    pub pending: Pending,
     /// The number of the next item, from 1.
     pub number: u64,
     /// Whether an item was refused.
@@ -62,9 +75,9 @@ fn effect_of(done: Result<(), CoreFault>) -> Result<Effect, OutOfMemory>
 // Does an act, and says what came of it.
 #[inline(always)]
 #[tactic(auto, using(crate::proofs::RunsLemmas::act_answers))]
-fn apply<L: Ledger>(
+fn apply<L: Ledger, C: Controller>(
     alloc: Global,
-    core: &mut Core<L>,
+    core: &mut Core<L, C>,
     act: Act<'_, L>,
     steps: &mut Steps<L>,
 ) -> Result<Effect, OutOfMemory>
@@ -75,10 +88,10 @@ fn apply<L: Ledger>(
 }
 
 // Does what a command asks for.
-#[tactic(auto, using(crate::proofs::RunsLemmas::silent_answers, crate::proofs::RunsLemmas::refused_answers, crate::proofs::RunsLemmas::shown_answers))]
-fn run_command<L: Ledger>(
+#[tactic(auto, using(crate::proofs::RunsLemmas::silent_answers, crate::proofs::RunsLemmas::refused_answers))]
+fn run_command<L: Ledger, C: Controller>(
     alloc: Global,
-    core: &mut Core<L>,
+    core: &mut Core<L, C>,
     command: &Command,
     steps: &mut Steps<L>,
 ) -> Result<Effect, OutOfMemory>
@@ -94,14 +107,15 @@ fn run_command<L: Ledger>(
         Command::Unplug(place) => apply(alloc, core, Act::Unplug(*place), steps),
         Command::Good(name, raw) => apply(alloc, core, Act::Good(name, *raw), steps),
         Command::Lost(name) => apply(alloc, core, Act::Lost(name), steps),
+        Command::Ticks(count) => Ok(Effect::Ticks(*count)),
         Command::Show(topic) => Ok(Effect::Shown(*topic)),
     }
 }
 
 // Takes a line that asks for no block.
-fn take_line<L: Ledger>(
+fn take_line<L: Ledger, C: Controller>(
     alloc: Global,
-    core: &mut Core<L>,
+    core: &mut Core<L, C>,
     line: &[u8],
     steps: &mut Steps<L>,
 ) -> Result<Effect, OutOfMemory>
@@ -119,9 +133,9 @@ fn take_line<L: Ledger>(
 
 // Takes the block of a configuration.
 #[inline(never)]
-fn take_block<M: PatternMaker, L: Ledger>(
+fn take_block<M: PatternMaker, L: Ledger, C: Controller>(
     alloc: Global,
-    core: &mut Core<L>,
+    core: &mut Core<L, C>,
     block: &[u8],
     maker: &mut M,
     steps: &mut Steps<L>,
@@ -138,41 +152,35 @@ fn take_block<M: PatternMaker, L: Ledger>(
     }
 }
 
-// Appends the lines of changes.
-fn push_changes(text: &mut String, changes: &[Change]) -> Result<(), OutOfMemory>
-    ensures { OnOk result (string_bytes text.new ≡ string_bytes text.old ++ flat_map (change_line 0) changes.now) }
-{
-    for change in changes {
-        push_change(text, 0, change)?;
-    }
-    Ok(())
-}
-
-impl<L: Ledger> Run<L> {
-    /// Returns a run that has taken nothing. Takes room for the text that is gathered, once.
-    pub fn new(alloc: Global) -> Result<Run<L>, OutOfMemory>
+impl<L: Ledger, C: Controller> Run<L, C> {
+    /// Returns a run that has taken nothing, over a bank of boxes. Takes room for the text that is gathered, once.
+    pub fn new(alloc: Global, bank: Vec<C>) -> Result<Run<L, C>, OutOfMemory>
+        requires { IsStated (map C.seen bank.items) }
         ensures { IfOk result IsNew }
     {
-        let core = Core::new(alloc)?;
+        let core = Core::new(alloc, bank, false)?;
         Ok(Run {
             core,
             text: String::with_capacity(alloc, GATHERED + SPARE)?,
-            shown: None,
+            pending: Pending::Nothing,
             number: 1,
             refused: false,
         })
     }
 
-    // Gathers what is printed of an item, or notes the list that it asks for, and counts it.
+    // Gathers what is printed of an item, or notes what is still to be done of it, and counts it.
     fn count_item(&mut self, effect: Effect) -> Result<(), OutOfMemory>
         requires few { self.old.number < 2 ^ 63 }
-        requires none { self.old.shown ≡ None }
+        requires none { self.old.pending ≡ Pending.Nothing }
         ensures { OnOk result (CountsItem effect self.old self.new) }
     {
         match effect {
             Effect::Nothing => {}
-            Effect::Changed => push_changes(&mut self.text, self.core.changes())?,
-            Effect::Shown(topic) => self.shown = Some(topic),
+            Effect::Changed => {
+                push_changes(&mut self.text, self.core.tick_count(), self.core.changes())?;
+            }
+            Effect::Shown(topic) => self.pending = Pending::List(topic),
+            Effect::Ticks(count) => self.pending = Pending::Ticks(count),
             Effect::Refused(refusal) => {
                 push_refused_line(&mut self.text, self.number, refusal)?;
                 self.refused = true;
@@ -205,8 +213,8 @@ impl<L: Ledger> Run<L> {
         Ok(Some(effect))
     }
 
-    /// Takes what came of the script: gathers what is printed of it, or notes the list that it asks for, and counts it. At the
-    /// end nothing changes.
+    /// Takes what came of the script: gathers what is printed of it, or notes what is still to be done of it, and counts it.
+    /// At the end nothing changes.
     pub fn take<M: PatternMaker>(
         &mut self,
         alloc: Global,
@@ -216,7 +224,7 @@ impl<L: Ledger> Run<L> {
         steps: &mut Steps<L>,
     ) -> Result<(), OutOfMemory>
         requires few { self.old.number < 2 ^ 63 }
-        requires none { self.old.shown ≡ None }
+        requires none { self.old.pending ≡ Pending.Nothing }
         ensures ok { OnOk result (TakesNext (item_next next items.now) self.old self.new (M.seen maker.old) (M.seen maker.new)) }
         ensures err { OnErr result (LeavesNext (item_next next items.now) (M.seen maker.old) (M.seen maker.new)) }
     {

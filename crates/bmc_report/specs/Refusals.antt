@@ -3,7 +3,8 @@ use Rattle.std.specs.Prelude.{ℕ, List, [], ◌++◌, codes, decimal, Option, S
 use Rattle.fru_area.specs.declared.fault.Area.{Area}
 use Rattle.fru_area.specs.declared.fault.Area.TheVariants.{Chassis, Board, Product}
 use Rattle.bmc_report.specs.declared.refusal.Refusal.{Refusal}
-use Rattle.bmc_report.specs.declared.refusal.Refusal.TheVariants.{LineTooLong, UnknownCommand, BadArguments, PlaceRange, BadHex, ConfigTooLong, ConfigShort}
+use Rattle.bmc_report.specs.declared.refusal.Refusal.TheVariants.{LineTooLong, UnknownCommand, BadArguments, PlaceRange, TickLimit, BadHex}
+use Rattle.bmc_report.specs.declared.refusal.Refusal.TheVariants.{ConfigTooLong, ConfigShort}
 use Rattle.bmc_report.specs.declared.refusal.Refusal.TheVariants.{NotJson, Fraction, MissingKey, WrongKind, OutOfRange, ProbeSyntax}
 use Rattle.bmc_report.specs.declared.refusal.Refusal.TheVariants.{TemplateSyntax, MuxMatchOne, PatternSyntax, PatternTooLarge}
 use Rattle.bmc_report.specs.declared.refusal.Refusal.TheVariants.{ConfigAfterPlug, DuplicateName, ConfigLimit, Occupied}
@@ -24,6 +25,7 @@ refusal_name LineTooLong = codes "LineTooLong"
 refusal_name UnknownCommand = codes "UnknownCommand"
 refusal_name BadArguments = codes "BadArguments"
 refusal_name PlaceRange = codes "PlaceRange"
+refusal_name TickLimit = codes "TickLimit"
 refusal_name BadHex = codes "BadHex"
 refusal_name ConfigTooLong = codes "ConfigTooLong"
 refusal_name ConfigShort = codes "ConfigShort"

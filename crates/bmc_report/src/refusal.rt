@@ -18,6 +18,8 @@ pub enum Refusal {
     BadArguments,
     /// The bus is above 255, or the address above 127.
     PlaceRange,
+    /// The number of ticks is 0 or above 36,000.
+    TickLimit,
     /// The record is not written in pairs of hexadecimal digits.
     BadHex,
     /// The block has more than 262,144 bytes.
@@ -105,6 +107,7 @@ impl Refusal {
             Refusal::UnknownCommand => "UnknownCommand",
             Refusal::BadArguments => "BadArguments",
             Refusal::PlaceRange => "PlaceRange",
+            Refusal::TickLimit => "TickLimit",
             Refusal::BadHex => "BadHex",
             Refusal::ConfigTooLong => "ConfigTooLong",
             Refusal::ConfigShort => "ConfigShort",

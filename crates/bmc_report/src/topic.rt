@@ -7,6 +7,8 @@ pub enum Topic {
     Inventory,
     /// The live sensors.
     Sensors,
+    /// The live zones and fans.
+    Zones,
     /// The indexes that boards have for good.
     Indexes,
 }

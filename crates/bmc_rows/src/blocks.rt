@@ -15,7 +15,7 @@ const ESCAPED: &str = r#"{"Name":"\u0041","Probe":"TRUE"}"#;
 const EXPOSING: &str = r#"{"Name":"A","Probe":"TRUE","Exposes":[{"Name":"x","Type":"Pid"}]}"#;
 
 // What stands behind a block.
-const ENDS: [Row; 13] = [
+const ENDS: &[Row] = &[
     (&[Config(ALWAYS), Text("\n")], Done, ALWAYS_BOARD),
     (&[Config(ALWAYS)], Done, ALWAYS_BOARD),
     (&[Config(ALWAYS), Text("\n\n")], Done, ALWAYS_BOARD),
@@ -65,7 +65,7 @@ const ENDS: [Row; 13] = [
 ];
 
 // Sizes that are asked for.
-const SIZES: [Row; 18] = [
+const SIZES: &[Row] = &[
     // none
     (&[Text("config 0")], Refused, "line 1 refused NotJson\n"),
     (&[Text("config 0\n")], Refused, "line 1 refused NotJson\n"),
@@ -151,7 +151,7 @@ const SIZES: [Row; 18] = [
 ];
 
 // More than one configuration, and FRUs before and behind them.
-const ORDERS: [Row; 16] = [
+const ORDERS: &[Row] = &[
     (
         &[Config(ALWAYS), Text("\n"), Config(OTHER), Text("\n")],
         Done,
@@ -260,7 +260,7 @@ const ORDERS: [Row; 16] = [
 
 #[test]
 fn blocks(rt: HostRuntime) -> Result<(), Fail> {
-    play_rows(&rt, rt.alloc(), &ENDS)?;
-    play_rows(&rt, rt.alloc(), &SIZES)?;
-    play_rows(&rt, rt.alloc(), &ORDERS)
+    play_rows(&rt, rt.alloc(), ENDS)?;
+    play_rows(&rt, rt.alloc(), SIZES)?;
+    play_rows(&rt, rt.alloc(), ORDERS)
 }

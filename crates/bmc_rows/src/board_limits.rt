@@ -35,7 +35,7 @@ const ONE_FAN: &str = r#"{"Name":"G","Probe":"TRUE","Exposes":[{"Name":"G","Type
 const ONE_ZONE: &str = r#"{"Name":"Y","Probe":"TRUE","Exposes":[
     {"Name":"Y","Type":"Pid.Zone","MinThermalOutput":0,"FailSafePercent":100}]}"#;
 
-const CONFIGURATIONS: [Row; 9] = [
+const CONFIGURATIONS: &[Row] = &[
     // zones: as many as may be, and one more in the same configuration and in another one
     (
         &[Repeats(ALWAYS_HEAD, ZONE, 32, LAST), Config(ONE_ZONE)],
@@ -139,7 +139,7 @@ fru 1 80$
     ),
 ];
 
-const PLUGS: [Row; 5] = [
+const PLUGS: &[Row] = &[
     // a third board is refused with its zones, and has no index then; there is room for it where another is gone
     (
         &[
@@ -265,8 +265,8 @@ fru 30 80$
 
 #[test]
 fn zones_and_fans_are_few(rt: HostRuntime) -> Result<(), Fail> {
-    play_rows(&rt, rt.alloc(), &CONFIGURATIONS)?;
-    play_rows(&rt, rt.alloc(), &PLUGS)
+    play_rows(&rt, rt.alloc(), CONFIGURATIONS)?;
+    play_rows(&rt, rt.alloc(), PLUGS)
 }
 
 // Appends a configuration that is always found, with so many sensors.

@@ -35,7 +35,7 @@ const LOWER_MAKER: &str =
 const LONGER_MAKER: &str =
     r#"{"Name":"F","Probe":"xyz.openbmc_project.FruDevice({'BOARD_MANUFACTURER': 'ACMA'})"}"#;
 
-const SCRIPTS: [Row; 9] = [
+const SCRIPTS: &[Row] = &[
     // a FRU on a root bus has a board, and the same on bus 20 has none
     (
         &[
@@ -164,5 +164,5 @@ fru 1 80$
 
 #[test]
 fn boards_come_and_go(rt: HostRuntime) -> Result<(), Fail> {
-    play_rows(&rt, rt.alloc(), &SCRIPTS)
+    play_rows(&rt, rt.alloc(), SCRIPTS)
 }

@@ -18,7 +18,7 @@ const LEAF: &str =
 
 const CARD: &str = r#"{"Name":"C","Probe":"xyz.openbmc_project.FruDevice({'ADDRESS': 1})"}"#;
 
-const SCRIPTS: [Row; 11] = [
+const SCRIPTS: &[Row] = &[
     // a card that was plugged before comes with the riser that leads to its bus
     (
         &[
@@ -267,5 +267,5 @@ fru 21 1
 
 #[test]
 fn moving_channels(rt: HostRuntime) -> Result<(), Fail> {
-    play_rows(&rt, rt.alloc(), &SCRIPTS)
+    play_rows(&rt, rt.alloc(), SCRIPTS)
 }

@@ -52,7 +52,7 @@ const BOTH: &str = r#"{"Name":"B","Probe":"TRUE","Exposes":[
     {"Name":"S","Type":"Stepwise","Zones":["Z"],"Inputs":["T"],"Reading":[0],"Output":[0]},
     {"Name":"P","Type":"Pid","Class":"margin","Zones":["Z"],"Inputs":["T"],"SetPoint":0,"OutLimitMin":0,"OutLimitMax":0}]}"#;
 
-const CONFIGURATIONS: [Row; 8] = [
+const CONFIGURATIONS: &[Row] = &[
     // PID controllers: as many as may be, and one more in another configuration and in the same one
     (
         &[
@@ -156,7 +156,7 @@ line 5 refused StepLimit
     ),
 ];
 
-const PLUGS: [Row; 3] = [
+const PLUGS: &[Row] = &[
     // a third board is refused with its controllers, and has no index then; there is room where another is gone
     (
         &[
@@ -210,6 +210,6 @@ line 3 refused PidLimit
 
 #[test]
 fn controllers_are_few(rt: HostRuntime) -> Result<(), Fail> {
-    play_rows(&rt, rt.alloc(), &CONFIGURATIONS)?;
-    play_rows(&rt, rt.alloc(), &PLUGS)
+    play_rows(&rt, rt.alloc(), CONFIGURATIONS)?;
+    play_rows(&rt, rt.alloc(), PLUGS)
 }

@@ -3,8 +3,8 @@ use crate::play::{Row, play_rows};
 use bmc_replay::Status::{Done, Refused};
 use std::test::Fail;
 
-// A machine with a temperature, a fan and its speed, a zone, and a controller of each kind.
-const BOX: &str =
+/// A machine with a temperature, a fan and its speed, a zone, and a controller of each kind.
+pub const BOX: &str =
     r#"{"Name":"Box","Probe":"TRUE","Exposes":[{"Name":"T","Type":"Sensor","Timeout":20},
     {"Name":"Tach","Type":"Sensor","ScaleNum":1000},{"Name":"Fan 1","Type":"Fan"},
     {"Name":"Z","Type":"Pid.Zone","MinThermalOutput":1000,"FailSafePercent":80},
@@ -38,7 +38,7 @@ const FIRST_BOTH: &str =
 const EACH: &str = r#"{"Name":"E","Probe":"xyz.openbmc_project.FruDevice({})","Exposes":[
     {"Name":"C $index","Type":"Pid","Class":"margin","Zones":["Z"],"Inputs":["T"],"SetPoint":0,"OutLimitMin":0,"OutLimitMax":0}]}"#;
 
-const ZONES_COME_AND_GO: [Row; 9] = [
+const ZONES_COME_AND_GO: &[Row] = &[
     // all that a machine has comes in the order of its exposes
     (
         &[Config(BOX)],
@@ -302,7 +302,7 @@ const ALIKE: &str = r#"{"Name":"S","Probe":"TRUE","Exposes":[
     {"Name":"T","Type":"Pid","Class":"temp","Zones":["T"],"Inputs":["T"],"SetPoint":0,"OutLimitMin":0,"OutLimitMax":0},
     {"Name":"T","Type":"Sensor"},{"Name":"z","Type":"pid.zone"}]}"#;
 
-const NAMES: [Row; 6] = [
+const NAMES: &[Row] = &[
     // names with an index and fields: without a record there is no such item
     (
         &[
@@ -440,6 +440,6 @@ board "Q" 1
 
 #[test]
 fn controllers(rt: HostRuntime) -> Result<(), Fail> {
-    play_rows(&rt, rt.alloc(), &ZONES_COME_AND_GO)?;
-    play_rows(&rt, rt.alloc(), &NAMES)
+    play_rows(&rt, rt.alloc(), ZONES_COME_AND_GO)?;
+    play_rows(&rt, rt.alloc(), NAMES)
 }

@@ -149,7 +149,7 @@ const OUT_OF_RANGE: &[Part] = &[
 ];
 
 // Documents that are answered alike: how a script of one of them ends, and what is printed.
-const DOCUMENTS: [Row; 13] = [
+const DOCUMENTS: &[Row] = &[
     (FOUND, Done, ALWAYS_BOARD),
     (
         &[Config(" {\t\"Probe\" : \"TRUE\" ,\n\"Name\" : \"A B\" }\r\n")],
@@ -193,5 +193,5 @@ const DOCUMENTS: [Row; 13] = [
 
 #[test]
 fn documents(rt: HostRuntime) -> Result<(), Fail> {
-    play_parts(&rt, rt.alloc(), &DOCUMENTS)
+    play_parts(&rt, rt.alloc(), DOCUMENTS)
 }

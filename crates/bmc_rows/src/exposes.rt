@@ -206,7 +206,7 @@ const TEMPLATE_SYNTAX: &[Part] = &[
 ];
 
 // Documents that are answered alike: how a script of one of them ends, and what is printed.
-const DOCUMENTS: [Row; 7] = [
+const DOCUMENTS: &[Row] = &[
     (FOUND, Done, ALWAYS_BOARD),
     (FANS, Done, "0 new board \"A\" 1\n0 new fan \"F\"\n"),
     (ZONES, Done, "0 new board \"A\" 1\n0 new zone \"Z\"\n"),
@@ -218,5 +218,5 @@ const DOCUMENTS: [Row; 7] = [
 
 #[test]
 fn exposes(rt: HostRuntime) -> Result<(), Fail> {
-    play_parts(&rt, rt.alloc(), &DOCUMENTS)
+    play_parts(&rt, rt.alloc(), DOCUMENTS)
 }

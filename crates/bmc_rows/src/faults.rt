@@ -103,7 +103,7 @@ fn failing_writes(rt: HostRuntime) -> Result<(), Fail> {
         };
         let call = count as u64;
         // a sink that takes a byte a call and fails at this call, and sinks with room for so many bytes
-        let outsides = [
+        let outsides = &[
             Outside {
                 takes: 1,
                 write_fail: call,
@@ -126,7 +126,7 @@ fn failing_writes(rt: HostRuntime) -> Result<(), Fail> {
                 ..SOUND
             },
         ];
-        for outside in outsides {
+        for &outside in outsides {
             play_once(&rt, rt.alloc(), script, outside, status, &text[..count])?;
         }
         // a sink that takes more a call has a front
@@ -150,7 +150,7 @@ fn failing_writes(rt: HostRuntime) -> Result<(), Fail> {
 
 // Two lines that are refused, which come one by one: the calls of the source and the sink that fail, how the run ends,
 // and what is printed.
-const FIRST_FAULTS: [(u64, u64, Status, &str); 7] = [
+const FIRST_FAULTS: &[(u64, u64, Status, &str)] = &[
     (0, 0, Status::ReadFault, ""),
     (1, 0, Status::WriteFault, ""),
     (1, 1, Status::ReadFault, "line 1 refused UnknownCommand\n"),
@@ -177,7 +177,7 @@ const FIRST_FAULTS: [(u64, u64, Status, &str); 7] = [
 
 #[test]
 fn the_first_fault_ends_the_run(rt: HostRuntime) -> Result<(), Fail> {
-    for (read_fail, write_fail, status, text) in FIRST_FAULTS {
+    for &(read_fail, write_fail, status, text) in FIRST_FAULTS {
         let outside = Outside {
             gives: 5,
             read_fail,

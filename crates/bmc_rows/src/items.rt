@@ -3,7 +3,7 @@ use crate::play::{Row, play_rows};
 use bmc_replay::Status::Done;
 use std::test::Fail;
 
-const NAMES: [Row; 7] = [
+const NAMES: &[Row] = &[
     // the place gives the name, and a fan waits for a name that another one has
     (
         &[
@@ -153,7 +153,7 @@ fru 1 82 BOARD_MANUFACTURER="" BOARD_PRODUCT_NAME="" BOARD_SERIAL_NUMBER="000000
     ),
 ];
 
-const HOLDERS: [Row; 7] = [
+const HOLDERS: &[Row] = &[
     // where a board comes at a lower place, its fan and its zone take the names over; where it goes, they are given back
     (
         &[
@@ -327,6 +327,6 @@ fru 20 80
 
 #[test]
 fn zones_and_fans(rt: HostRuntime) -> Result<(), Fail> {
-    play_rows(&rt, rt.alloc(), &NAMES)?;
-    play_rows(&rt, rt.alloc(), &HOLDERS)
+    play_rows(&rt, rt.alloc(), NAMES)?;
+    play_rows(&rt, rt.alloc(), HOLDERS)
 }

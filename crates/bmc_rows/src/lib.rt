@@ -2,11 +2,15 @@
 #![tactic(auto)]
 
 #[cfg(test)]
+mod bank;
+#[cfg(test)]
 mod blocks;
 #[cfg(test)]
 mod board_limits;
 #[cfg(test)]
 mod boards;
+#[cfg(test)]
+mod boxes;
 #[cfg(test)]
 mod channels;
 #[cfg(test)]
@@ -47,5 +51,7 @@ mod scripts;
 mod sensors;
 #[cfg(test)]
 mod stepwises;
+#[cfg(test)]
+mod ticks;
 #[cfg(test)]
 mod words;

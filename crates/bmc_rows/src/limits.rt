@@ -21,7 +21,7 @@ const ZEROS: usize = LONGEST_RECORD - 32;
 // What is printed of a first line that is too long.
 const TOO_LONG: &str = "line 1 refused LineTooLong\n";
 
-const LINES: [Row; 18] = [
+const LINES: &[Row] = &[
     (&[Times(LONGEST_LINE, "#")], Done, ""),
     (&[Times(LONGEST_LINE, "#"), Text("\n")], Done, ""),
     (&[Times(LONGEST_LINE - 1, "#"), Text("\r\n")], Done, ""),
@@ -93,7 +93,7 @@ const LINES: [Row; 18] = [
     ),
 ];
 
-const BLOCKS: [Row; 8] = [
+const BLOCKS: &[Row] = &[
     (
         &[Text("config 262144\n"), Text(ALWAYS), Times(SPACES, " ")],
         Done,
@@ -165,7 +165,7 @@ const BLOCKS: [Row; 8] = [
     ),
 ];
 
-const RECORDS: [Row; 2] = [
+const RECORDS: &[Row] = &[
     (
         &[Text("plug 5 0 $"), Times(ZEROS, "00")],
         Done,
@@ -178,7 +178,7 @@ const RECORDS: [Row; 2] = [
     ),
 ];
 
-const CONFIGURATIONS: [Row; 6] = [
+const CONFIGURATIONS: &[Row] = &[
     (&[Many(MOST_CONFIGURATIONS)], Done, ""),
     (
         &[Many(MOST_CONFIGURATIONS), Config(ALWAYS)],
@@ -223,12 +223,12 @@ const CONFIGURATIONS: [Row; 6] = [
 
 #[test]
 fn long_blocks(rt: HostRuntime) -> Result<(), Fail> {
-    play_rows(&rt, rt.alloc(), &BLOCKS)
+    play_rows(&rt, rt.alloc(), BLOCKS)
 }
 
 #[test]
 fn limits(rt: HostRuntime) -> Result<(), Fail> {
-    play_rows(&rt, rt.alloc(), &LINES)?;
-    play_rows(&rt, rt.alloc(), &RECORDS)?;
-    play_rows(&rt, rt.alloc(), &CONFIGURATIONS)
+    play_rows(&rt, rt.alloc(), LINES)?;
+    play_rows(&rt, rt.alloc(), RECORDS)?;
+    play_rows(&rt, rt.alloc(), CONFIGURATIONS)
 }

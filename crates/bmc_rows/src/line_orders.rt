@@ -6,7 +6,7 @@ use std::test::Fail;
 
 // Lines, most of them with more than one fault, and the refusal of each where a FRU is at bus 1, address 80. `$` stands
 // for the board record.
-const LINES: [(&str, &str); 85] = [
+const LINES: &[(&str, &str)] = &[
     // no command, and words or a place that are wrong besides
     ("Plug", "UnknownCommand"),
     ("Plug 1 81", "UnknownCommand"),
@@ -27,7 +27,8 @@ const LINES: [(&str, &str); 85] = [
     (" show log", "UnknownCommand"),
     ("Read X +1", "UnknownCommand"),
     ("lose\tX", "UnknownCommand"),
-    ("tick 0", "UnknownCommand"),
+    ("Tick 0", "UnknownCommand"),
+    ("ticks 36001", "UnknownCommand"),
     ("{} {}", "UnknownCommand"),
     ("\u{e9} 256", "UnknownCommand"),
     // words that have not the form, and a place that is out of its range
@@ -77,6 +78,10 @@ const LINES: [(&str, &str); 85] = [
     ("read X 9999999999999999999", "BadArguments"),
     ("lose ", "BadArguments"),
     ("show log", "BadArguments"),
+    // and a number of ticks that is out of its range
+    ("tick 0 ", "BadArguments"),
+    ("tick 36001 36001", "BadArguments"),
+    ("tick 0000000000", "BadArguments"),
     // a place that is out of its range, digits that are wrong, and a record that is too short
     ("plug 256 81 0", "PlaceRange"),
     ("plug 1 128 zz", "PlaceRange"),
@@ -94,6 +99,9 @@ const LINES: [(&str, &str); 85] = [
     ("plug 1 81 000", "BadHex"),
     ("plug 255 127 0000000000000G", "BadHex"),
     ("plug 001 080 \u{661}", "BadHex"),
+    // a number of ticks that is out of its range
+    ("tick 0", "TickLimit"),
+    ("tick 000036001", "TickLimit"),
     // a sensor that is not there, and a raw number that is out of its range
     ("read X 1000000001", "UnknownSensor"),
     ("read X -999999999999999999", "UnknownSensor"),

@@ -54,10 +54,11 @@ const UNKNOWN_COMMANDS: &[Part] = &[
     Text("Read X 1\n"),
     Text("reads X 1\n"),
     Text("los X\n"),
+    Text("Tick 1\n"),
+    Text("ticks 1\n"),
     Text("SHOW frus\n"),
     Text("show\tfrus\n"),
     // those of later versions
-    Text("tick 1\n"),
     Text("begin 0 X\n"),
     Text("end 0 lost\n"),
     Text("drop X\n"),
@@ -132,7 +133,7 @@ const BAD_ARGUMENTS: &[Part] = &[
     Text("show\n"),
     Text("show \n"),
     // topics that there are not, and raw numbers and names that are none
-    Text("show zones\n"),
+    Text("show zone\n"),
     Text("show log\n"),
     Text("show  frus\n"),
     Text("show frus \n"),
@@ -251,7 +252,7 @@ const UNKNOWN_SENSORS: &[Part] = &[
 ];
 
 // Lines that end alike: how a script of one of them ends, and what is printed.
-const LINES: [Row; 8] = [
+const LINES: &[Row] = &[
     (IDLE, Done, ""),
     (PLUGS, Done, "fru 1 80$\n"),
     (ABSENT, Refused, "line 1 refused NotPresent\n"),
@@ -264,5 +265,5 @@ const LINES: [Row; 8] = [
 
 #[test]
 fn single_lines(rt: HostRuntime) -> Result<(), Fail> {
-    play_parts(&rt, rt.alloc(), &LINES)
+    play_parts(&rt, rt.alloc(), LINES)
 }

@@ -14,7 +14,7 @@ const OTHER_MUX: &str = r#"{"Name":"L","Probe":"xyz.openbmc_project.FruDevice({'
 const BOARD: &str =
     r#"{"Name":"R","Probe":"xyz.openbmc_project.FruDevice({'ADDRESS': 80, 'BOARD_PRODUCT_NAME': '^RSR1$'})"}"#;
 
-const SCRIPTS: [Row; 8] = [
+const SCRIPTS: &[Row] = &[
     // what was plugged before comes with the multiplexer, in the same event, and goes with it
     (
         &[
@@ -406,7 +406,7 @@ const MUX_MATCH_ONE: &[Part] = &[
 ];
 
 // Documents that are answered alike: how a script of one of them ends, and what is printed.
-const DOCUMENTS: [Row; 6] = [
+const DOCUMENTS: &[Row] = &[
     (FOUND, Done, ALWAYS_BOARD),
     (WRONG_KINDS, Refused, "line 1 refused WrongKind\n"),
     (MISSING_KEYS, Refused, "line 1 refused MissingKey\n"),
@@ -417,6 +417,6 @@ const DOCUMENTS: [Row; 6] = [
 
 #[test]
 fn muxes(rt: HostRuntime) -> Result<(), Fail> {
-    play_rows(&rt, rt.alloc(), &SCRIPTS)?;
-    play_parts(&rt, rt.alloc(), &DOCUMENTS)
+    play_rows(&rt, rt.alloc(), SCRIPTS)?;
+    play_parts(&rt, rt.alloc(), DOCUMENTS)
 }

@@ -151,7 +151,7 @@ const PATTERN_SYNTAX: &[Part] = &[
 ];
 
 // Documents that are answered alike: how a script of one of them ends, and what is printed.
-const DOCUMENTS: [Row; 3] = [
+const DOCUMENTS: &[Row] = &[
     (PATTERNS, Done, ""),
     (PATTERN_SYNTAX, Refused, "line 1 refused PatternSyntax\n"),
     (
@@ -165,5 +165,5 @@ const DOCUMENTS: [Row; 3] = [
 
 #[test]
 fn patterns(rt: HostRuntime) -> Result<(), Fail> {
-    play_parts(&rt, rt.alloc(), &DOCUMENTS)
+    play_parts(&rt, rt.alloc(), DOCUMENTS)
 }

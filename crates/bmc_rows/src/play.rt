@@ -1,6 +1,11 @@
+ghost use Rattle.std.specs.Prelude.{map};
+ghost use Rattle.bmc_core.specs.Cores.{IsStated};
+
+use crate::bank::bank;
 use bmc_base::{OutOfMemory, Silent, Steps};
 use bmc_io::{MemSink, MemSource};
 use bmc_replay::{Status, replay};
+use ctl_face::Controller;
 use pat_gate::{ListMaker, PatternMaker, RegexMaker};
 use std::alloc::Global;
 use std::process::Abort;
@@ -77,7 +82,7 @@ pub const SOUND: Outside = Outside {
 };
 
 // Outsides that do not fail.
-const SOUND_ONES: [Outside; 3] = [
+const SOUND_ONES: &[Outside] = &[
     SOUND,
     Outside {
         gives: 1,
@@ -195,6 +200,22 @@ pub fn script_of(alloc: Global, parts: &[Part]) -> Result<Vec<u8>, OutOfMemory> 
     Ok(script)
 }
 
+/// Plays a script over a bank of boxes that are not loaded, and returns the status.
+pub fn played_over<C: Controller>(
+    alloc: Global,
+    script: &[u8],
+    boxes: Vec<C>,
+) -> Result<Status, OutOfMemory>
+    requires { IsStated (map C.seen boxes.items) }
+{
+    let mut source = MemSource::new(alloc, script, &[], &[])?;
+    let mut sink = MemSink::new(alloc, AMPLE, AMPLE, &[])?;
+    let mut maker = RegexMaker::new(alloc);
+    let mut steps = Steps::new(Silent);
+    let status = replay(alloc, &mut source, &mut sink, &mut maker, &mut steps, boxes);
+    Ok(status)
+}
+
 // Plays a script with the patterns that a maker compiles, and returns the status and what the sink took.
 fn played_with<R: Abort, M: PatternMaker>(
     rt: &R,
@@ -209,7 +230,8 @@ fn played_with<R: Abort, M: PatternMaker>(
     let mut source = MemSource::new(alloc, script, &pieces, &[outside.read_fail])?;
     let mut sink = MemSink::new(alloc, outside.takes, outside.room, &[outside.write_fail])?;
     let mut steps = Steps::new(Silent);
-    let status = replay(alloc, &mut source, &mut sink, maker, &mut steps);
+    let boxes = bank(alloc)?;
+    let status = replay(alloc, &mut source, &mut sink, maker, &mut steps, boxes);
     let text = Vec::from_slice(alloc, sink.bytes())?;
     Ok((status, text))
 }
@@ -271,7 +293,7 @@ pub fn play<R: Abort>(
     status: Status,
     text: &str,
 ) -> Result<(), Fail> {
-    for outside in SOUND_ONES {
+    for &outside in SOUND_ONES {
         play_once(rt, alloc, script, outside, status, text.as_bytes())?;
     }
     Ok(())

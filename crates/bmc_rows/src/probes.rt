@@ -9,7 +9,7 @@ const ANY: &str = r#"{"Name":"A","Probe":"xyz.openbmc_project.FruDevice({})"}"#;
 const FIRST: &str = r#"{"Name":"F","Probe":["xyz.openbmc_project.FruDevice({})","MATCH_ONE"]}"#;
 
 // Scripts of probes with one word or more, without fixed channels.
-const PROBES: [Row; 13] = [
+const PROBES: &[Row] = &[
     // a board without a place stands where no FRU has one, and has its index again
     (
         &[
@@ -258,7 +258,7 @@ const LARGE: &[Part] = &[
 
 #[test]
 fn probes(rt: HostRuntime) -> Result<(), Fail> {
-    play_rows(&rt, rt.alloc(), &PROBES)?;
+    play_rows(&rt, rt.alloc(), PROBES)?;
     let script = script_of(rt.alloc(), LARGE)?;
     play_refusing(
         &rt,

@@ -4,7 +4,7 @@ use bmc_replay::Status::{Done, Refused};
 use std::test::Fail;
 
 // Readings and losses, and what comes of them.
-const READINGS: [Row; 8] = [
+const READINGS: &[Row] = &[
     // a reading at the value of a threshold sets its alarm, and one below the value less the hysteresis takes it off
     (
         &[
@@ -235,11 +235,11 @@ sensor "2\" \\" 0.006 ok 0
 
 #[test]
 fn readings_and_alarms(rt: HostRuntime) -> Result<(), Fail> {
-    play_rows(&rt, rt.alloc(), &READINGS)
+    play_rows(&rt, rt.alloc(), READINGS)
 }
 
 // Sensors that stay, that go, and that come back.
-const KEPT: [Row; 6] = [
+const KEPT: &[Row] = &[
     // the one board of MATCH_ONE moves, and its sensor has another name and no value there
     (
         &[
@@ -418,11 +418,11 @@ board "Z" 1
 
 #[test]
 fn what_a_sensor_keeps(rt: HostRuntime) -> Result<(), Fail> {
-    play_rows(&rt, rt.alloc(), &KEPT)
+    play_rows(&rt, rt.alloc(), KEPT)
 }
 
 // What is listed at any time.
-const LISTS: [Row; 6] = [
+const LISTS: &[Row] = &[
     // all lists of nothing
     (
         &[Text("show frus\nshow inventory\nshow sensors\nshow indexes\n")],
@@ -596,7 +596,7 @@ sensor "C\\é" 0.002 ok 0
                     "Thresholds":[{"Direction":"greater than","Severity":1,"Value":100,"Hysteresis":5}]}]}"#,
             ),
             Text(
-                "show zones\nshow log\nshow sensors \nread T\nread T 5 \nread T +5\nread T 0000000000000000005\nread T -000000000000000005\nshow sensors\n",
+                "show zone\nshow log\nshow sensors \nread T\nread T 5 \nread T +5\nread T 0000000000000000005\nread T -000000000000000005\nshow sensors\n",
             ),
         ],
         Refused,
@@ -616,5 +616,5 @@ sensor "T" -0.005 ok 0
 
 #[test]
 fn lists(rt: HostRuntime) -> Result<(), Fail> {
-    play_rows(&rt, rt.alloc(), &LISTS)
+    play_rows(&rt, rt.alloc(), LISTS)
 }

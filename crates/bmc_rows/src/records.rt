@@ -4,7 +4,7 @@ use bmc_replay::Status::{Done, Refused};
 use std::test::Fail;
 
 // Records, and their rows.
-const LISTED: [Row; 20] = [
+const LISTED: &[Row] = &[
     (&[Text("plug 0 127 $")], Done, "fru 0 127$\n"),
     // bytes behind the area
     (
@@ -144,7 +144,7 @@ const LISTED: [Row; 20] = [
 ];
 
 // Bytes that are no record, each plugged in a script by itself, and the first rule that they break.
-const BROKEN: [Row; 24] = [
+const BROKEN: &[Row] = &[
     (
         &[Text("plug 1 80 01000001000000")],
         Refused,
@@ -285,6 +285,6 @@ const BROKEN: [Row; 24] = [
 
 #[test]
 fn records(rt: HostRuntime) -> Result<(), Fail> {
-    play_rows(&rt, rt.alloc(), &LISTED)?;
-    play_parts(&rt, rt.alloc(), &BROKEN)
+    play_rows(&rt, rt.alloc(), LISTED)?;
+    play_parts(&rt, rt.alloc(), BROKEN)
 }

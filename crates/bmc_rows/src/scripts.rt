@@ -17,7 +17,7 @@ const RETURNED: &str =
     "fru 1 80 BOARD_MANUFACTURER=\"ACM\" BOARD_PRODUCT_NAME=\"RSR9\" BOARD_SERIAL_NUMBER=\"S1\" \
     BOARD_PART_NUMBER=\"\" BOARD_FRU_VERSION_ID=\"\"\n";
 
-const SCRIPTS: [Row; 12] = [
+const SCRIPTS: &[Row] = &[
     (&[], Done, ""),
     (&[Text("plug 1 80 $\n")], Done, "fru 1 80$\n"),
     (&[Text("# nothing\n\n#\n")], Done, ""),
@@ -80,7 +80,7 @@ const SCRIPTS: [Row; 12] = [
 ];
 
 // Each reason why an item is refused, in the order of the items behind 256 configurations.
-const REFUSALS: [Row; 1] = [(
+const REFUSALS: &[Row] = &[(
     &[
         Many(256),
         Times(9001, "#"),
@@ -160,8 +160,8 @@ fru 1 80$
 
 #[test]
 fn whole_scripts(rt: HostRuntime) -> Result<(), Fail> {
-    play_rows(&rt, rt.alloc(), &SCRIPTS)?;
-    play_rows(&rt, rt.alloc(), &REFUSALS)
+    play_rows(&rt, rt.alloc(), SCRIPTS)?;
+    play_rows(&rt, rt.alloc(), REFUSALS)
 }
 
 // Lines behind 256 FRUs: no other may come before one goes, and a broken record or a taken place is said first.

@@ -176,7 +176,7 @@ const TEMPLATE_SYNTAX: &[&str] = &[
 ];
 
 // Sensors that are answered alike: how a script with one of them ends, and what is printed.
-const DOCUMENTS: [(&[&str], Status, &str); 5] = [
+const DOCUMENTS: &[(&[&str], Status, &str)] = &[
     (FOUND, Done, "0 new board \"A\" 1\n0 new sensor \"S\"\n"),
     (MISSING_KEYS, Refused, "line 1 refused MissingKey\n"),
     (WRONG_KINDS, Refused, "line 1 refused WrongKind\n"),
@@ -200,7 +200,7 @@ fn script_with(alloc: Global, members: &str) -> Result<String, OutOfMemory> {
 
 #[test]
 fn members_of_sensors(rt: HostRuntime) -> Result<(), Fail> {
-    for (lists, status, text) in DOCUMENTS {
+    for &(lists, status, text) in DOCUMENTS {
         for members in lists {
             let script = script_with(rt.alloc(), members)?;
             play(&rt, rt.alloc(), script.as_bytes(), status, text)?;
@@ -209,7 +209,7 @@ fn members_of_sensors(rt: HostRuntime) -> Result<(), Fail> {
     Ok(())
 }
 
-const ITEMS: [Row; 11] = [
+const ITEMS: &[Row] = &[
     // a name that two risers have moves to the one at the lower place, and back
     (
         &[
@@ -424,5 +424,5 @@ fru 20 80
 
 #[test]
 fn sensors_as_items(rt: HostRuntime) -> Result<(), Fail> {
-    play_rows(&rt, rt.alloc(), &ITEMS)
+    play_rows(&rt, rt.alloc(), ITEMS)
 }

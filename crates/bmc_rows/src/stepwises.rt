@@ -145,7 +145,7 @@ const TEMPLATE_SYNTAX: &[Part] = &[
 ];
 
 // Documents that are answered alike.
-const DOCUMENTS: [Row; 5] = [
+const DOCUMENTS: &[Row] = &[
     (RIGHT, Done, ALWAYS_BOARD),
     (MISSING_KEYS, Refused, "line 1 refused MissingKey\n"),
     (WRONG_KINDS, Refused, "line 1 refused WrongKind\n"),
@@ -155,5 +155,5 @@ const DOCUMENTS: [Row; 5] = [
 
 #[test]
 fn stepwises(rt: HostRuntime) -> Result<(), Fail> {
-    play_parts(&rt, rt.alloc(), &DOCUMENTS)
+    play_parts(&rt, rt.alloc(), DOCUMENTS)
 }

@@ -133,12 +133,12 @@ const PROBE_SYNTAX: &[Part] = &[
 ];
 
 // Documents that are answered alike: how a script of one of them ends, and what is printed.
-const DOCUMENTS: [Row; 2] = [
+const DOCUMENTS: &[Row] = &[
     (NEVER_FOUND, Done, ""),
     (PROBE_SYNTAX, Refused, "line 1 refused ProbeSyntax\n"),
 ];
 
 #[test]
 fn words(rt: HostRuntime) -> Result<(), Fail> {
-    play_parts(&rt, rt.alloc(), &DOCUMENTS)
+    play_parts(&rt, rt.alloc(), DOCUMENTS)
 }

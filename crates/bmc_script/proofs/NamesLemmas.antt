@@ -23,10 +23,10 @@ abbrev pub HasNoSpace : List ℕ → Type 0
 HasNoSpace bytes = (k : ℕ) → k < length bytes → get_or bytes k 0 ≢ 32
 
 -- bytes at the place of their first space
-abbrev parts : List ℕ → ℕ → Option (List ℕ × List ℕ)
+abbrev pub parts : List ℕ → ℕ → Option (List ℕ × List ℕ)
 parts bytes at = option_map (λ at. (take at bytes, drop (at + 1) bytes)) (cond (ltb at (length bytes)) (Some at) None)
 
-parts_at : (bytes : List ℕ) (at : ℕ) → at < length bytes → parts bytes at ≡ Some (take at bytes, drop (at + 1) bytes)
+pub parts_at : (bytes : List ℕ) (at : ℕ) → at < length bytes → parts bytes at ≡ Some (take at bytes, drop (at + 1) bytes)
 parts_at bytes at within = rw (lt-ltb at (length bytes) within) refl
 
 parts_none : (bytes : List ℕ) → parts bytes (length bytes) ≡ None

@@ -1,5 +1,5 @@
 -- The command of a line of a script.
-use Rattle.std.specs.Prelude.{ℕ, ◌≡◌, ⊤, ◌==◌, ◌||◌, if◌then◌else◌, List, [], ◌∷◌, length, reverse, codes, bytes_eq}
+use Rattle.std.specs.Prelude.{ℕ, ◌≡◌, ⊤, ◌==◌, nat_lt, ◌||◌, if◌then◌else◌, List, [], ◌∷◌, length, reverse, codes, bytes_eq}
 use Rattle.std.specs.Prelude.{Option, Some, None, option_map, Result, Ok, Err}
 use Rattle.std.specs.Str.{is_utf8}
 use Rattle.std.specs.List.{list_any}
@@ -8,13 +8,13 @@ use Rattle.std.specs.Result.{result_ok}
 use Rattle.bmc_base.specs.Names.{name_of}
 use Rattle.bmc_base.specs.Places.{Place, place_of}
 use Rattle.bmc_report.specs.declared.topic.Topic.{Topic}
-use Rattle.bmc_report.specs.declared.topic.Topic.TheVariants.{Frus, Inventory, Sensors, Indexes}
+use Rattle.bmc_report.specs.declared.topic.Topic.TheVariants.{Frus, Inventory, Sensors, Zones, Indexes}
 use Rattle.bmc_text.specs.Hex.{hex_decoded}
 use Rattle.bmc_text.specs.Words.{split_space, number, raw}
 use Rattle.bmc_script.specs.declared.command.Command.{Command}
-use Rattle.bmc_script.specs.declared.command.Command.TheVariants.{Config, Plug, Unplug, Good, Lost, Show, Nothing}
+use Rattle.bmc_script.specs.declared.command.Command.TheVariants.{Config, Plug, Unplug, Good, Lost, Ticks, Show, Nothing}
 use Rattle.bmc_script.specs.declared.command.ScriptFault.{ScriptFault}
-use Rattle.bmc_script.specs.declared.command.ScriptFault.TheVariants.{UnknownCommand, BadArguments, PlaceRange, BadHex, OutOfMemory}
+use Rattle.bmc_script.specs.declared.command.ScriptFault.TheVariants.{UnknownCommand, BadArguments, PlaceRange, TickLimit, BadHex, OutOfMemory}
 
 -- the ? of a result
 infixl 10 ◌>>=◌
@@ -78,12 +78,23 @@ lose_of rest = do
   name ← ok_or (name_in rest) BadArguments
   Ok (Lost name)
 
+-- how many ticks a line lets pass at the most
+abbrev pub most_ticks : ℕ
+most_ticks = 36000
+
+-- `tick N`, behind its first word
+unfoldable pub ticks_of : List ℕ → Result Command ScriptFault
+ticks_of rest = do
+  count ← ok_or (number rest) BadArguments
+  if count == 0 || nat_lt most_ticks count then Err TickLimit else Ok (Ticks count)
+
 -- the topic of this word, if there is one
 abbrev pub topic_of : List ℕ → Option Topic
 topic_of word =
     if bytes_eq word (codes "frus") then Some Frus
     else if bytes_eq word (codes "inventory") then Some Inventory
     else if bytes_eq word (codes "sensors") then Some Sensors
+    else if bytes_eq word (codes "zones") then Some Zones
     else if bytes_eq word (codes "indexes") then Some Indexes
     else None
 
@@ -101,6 +112,7 @@ verb_command verb rest =
     else if bytes_eq verb (codes "config") then config_of rest
     else if bytes_eq verb (codes "read") then read_of rest
     else if bytes_eq verb (codes "lose") then lose_of rest
+    else if bytes_eq verb (codes "tick") then ticks_of rest
     else if bytes_eq verb (codes "show") then show_of rest
     else Err UnknownCommand
 

@@ -3,9 +3,9 @@ use Rattle.std.specs.Prelude.{ℕ, ℤ, List, [], ◌∷◌, negsuc, replicate, 
 use Rattle.bmc_base.specs.Places.{Place}
 use Rattle.bmc_report.specs.declared.topic.Topic.{Topic}
 use Rattle.bmc_script.specs.declared.command.Command.{Command}
-use Rattle.bmc_script.specs.declared.command.Command.TheVariants.{Config, Plug, Unplug, Good, Lost, Show, Nothing}
+use Rattle.bmc_script.specs.declared.command.Command.TheVariants.{Config, Plug, Unplug, Good, Lost, Ticks, Show, Nothing}
 use Rattle.bmc_script.specs.declared.command.ScriptFault.{ScriptFault}
-use Rattle.bmc_script.specs.declared.command.ScriptFault.TheVariants.{UnknownCommand, BadArguments, PlaceRange, BadHex}
+use Rattle.bmc_script.specs.declared.command.ScriptFault.TheVariants.{UnknownCommand, BadArguments, PlaceRange, TickLimit, BadHex}
 
 abbrev pub bus_1_80 : Place
 bus_1_80 = record { bus = 1; address = 80 }
@@ -34,6 +34,9 @@ lost name = Ok (Lost name)
 abbrev pub name_of_size : ℕ → List ℕ
 name_of_size count = replicate count 65
 
+abbrev pub ticked : ℕ → Result Command ScriptFault
+ticked count = Ok (Ticks count)
+
 abbrev pub shown : Topic → Result Command ScriptFault
 shown topic = Ok (Show topic)
 
@@ -48,6 +51,9 @@ malformed = Err BadArguments
 
 abbrev pub out_of_range : Result Command ScriptFault
 out_of_range = Err PlaceRange
+
+abbrev pub ticks_out_of_range : Result Command ScriptFault
+ticks_out_of_range = Err TickLimit
 
 abbrev pub not_hexadecimal : Result Command ScriptFault
 not_hexadecimal = Err BadHex

@@ -1,7 +1,7 @@
 ghost use Rattle.std.specs.Prelude.{◌≡◌, ◌<◌, ◌==◌, length, IfSome, option_map, position};
 ghost use Rattle.bmc_text.specs.Words.{split_space};
 ghost use Rattle.bmc_script.specs.Commands.{GivesCommand, command_of, first_word, words_of, plug_of, unplug_of, config_of, place_named};
-ghost use Rattle.bmc_script.specs.Commands.{split_last_space, name_in, read_of, lose_of, topic_of, show_of};
+ghost use Rattle.bmc_script.specs.Commands.{split_last_space, name_in, read_of, lose_of, ticks_of, topic_of, show_of};
 
 use bmc_base::{Bytes, Name, Place};
 use bmc_report::Topic;
@@ -9,6 +9,9 @@ use bmc_text::{HexFault, hex_bytes, read_number, read_raw};
 use std::alloc::Global;
 use std::str;
 use thiserror::Error;
+
+// How many ticks a line lets pass at the most: those of an hour.
+const MOST_TICKS: u32 = 36_000;
 
 /// What a line asks for. A numeral, as B, A and N here, has 1 to 9 decimal digits, leading zeros among them.
 #[derive(Drop)]
@@ -26,7 +29,9 @@ pub enum Command {
     Good(Name, i64),
     /// `lose NAME`: a reading of the sensor of this name was lost. NAME is all that stands behind the first space.
     Lost(Name),
-    /// `show TOPIC`: a list is asked for. TOPIC is `frus`, `inventory`, `sensors` or `indexes`.
+    /// `tick N`: N ticks of 100 ms pass. N is 1 to 36,000.
+    Ticks(u32),
+    /// `show TOPIC`: a list is asked for. TOPIC is `frus`, `inventory`, `sensors`, `zones` or `indexes`.
     Show(Topic),
     /// An empty line, or a comment, which begins with `#`.
     Nothing,
@@ -40,13 +45,16 @@ pub enum ScriptFault {
     UnknownCommand,
     /// What stands behind the command has not its form: the number of words, a numeral that has not 1 to 9 digits, a
     /// HEX that is empty or has a space in it, a NAME that is empty, longer than 64 bytes or no UTF-8, a RAW that is not
-    /// an optional `-` and 1 to 18 digits, or a TOPIC that is none of the four. A command that stands alone is such a
+    /// an optional `-` and 1 to 18 digits, or a TOPIC that is none of the five. A command that stands alone is such a
     /// line.
     #[error("bad arguments")]
     BadArguments,
     /// A bus above 255 or an address above 127.
     #[error("place out of range")]
     PlaceRange,
+    /// A number of ticks that is 0 or above 36,000.
+    #[error("number of ticks out of range")]
+    TickLimit,
     /// A HEX that is an odd number of characters, or has one that is no hexadecimal digit.
     #[error("bad hexadecimal digits")]
     BadHex,
@@ -166,6 +174,18 @@ fn read_lose(rest: &[u8]) -> Result<Command, ScriptFault>
     Ok(Command::Lost(name))
 }
 
+// Reads what stands behind `tick `.
+#[tactic(auto, unfolding(crate::specs::Commands::ticks_of))]
+fn read_ticks(rest: &[u8]) -> Result<Command, ScriptFault>
+    ensures { result ≡ ticks_of rest.now }
+{
+    let count = read_number(rest).ok_or(ScriptFault::BadArguments)?;
+    if count == 0 || count > MOST_TICKS {
+        return Err(ScriptFault::TickLimit);
+    }
+    Ok(Command::Ticks(count))
+}
+
 // Returns the topic of a word, if there is one.
 fn topic_of(word: &[u8]) -> Option<Topic>
     ensures { result ≡ topic_of word.now }
@@ -174,6 +194,7 @@ fn topic_of(word: &[u8]) -> Option<Topic>
         b"frus" => Some(Topic::Frus),
         b"inventory" => Some(Topic::Inventory),
         b"sensors" => Some(Topic::Sensors),
+        b"zones" => Some(Topic::Zones),
         b"indexes" => Some(Topic::Indexes),
         _ => None,
     }
@@ -200,6 +221,7 @@ fn read_words(alloc: Global, line: &[u8]) -> Result<Command, ScriptFault>
         b"config" => read_config(rest),
         b"read" => read_read(rest),
         b"lose" => read_lose(rest),
+        b"tick" => read_ticks(rest),
         b"show" => read_show(rest),
         _ => Err(ScriptFault::UnknownCommand),
     }
@@ -207,7 +229,7 @@ fn read_words(alloc: Global, line: &[u8]) -> Result<Command, ScriptFault>
 
 impl Command {
     /// Reads the command of a line, without its newline. The line may hold any bytes.
-    #[tactic(auto, unfolding(crate::specs::Commands::command_of, crate::specs::Commands::words_of))]
+    #[tactic(auto, unfolding(crate::specs::Commands::command_of))]
     pub fn read(alloc: Global, line: &[u8]) -> Result<Command, ScriptFault>
         ensures { GivesCommand result (command_of line.now) }
     {

@@ -1,8 +1,8 @@
 ghost use Rattle.std.specs.Prelude.{◌≡◌, [], ◌∷◌, ◌++◌, codes, pos};
-ghost use Rattle.bmc_report.specs.declared.topic.Topic.TheVariants.{Frus, Inventory, Sensors, Indexes};
+ghost use Rattle.bmc_report.specs.declared.topic.Topic.TheVariants.{Frus, Inventory, Sensors, Zones, Indexes};
 ghost use Rattle.bmc_script.specs.Commands.{command_of};
 ghost use Rattle.bmc_script.specs.Examples.{configured, plugged, unplugged, nothing, unknown, malformed, out_of_range, not_hexadecimal};
-ghost use Rattle.bmc_script.specs.Examples.{read_as, frost, lost, name_of_size, shown};
+ghost use Rattle.bmc_script.specs.Examples.{read_as, frost, lost, name_of_size, shown, ticked, ticks_out_of_range};
 
 /// The commands of lines, computed from the definition: lines that do nothing, one of each command, with leading
 /// zeros, lines that break each of the rules, and lines that break two of them.
@@ -65,7 +65,32 @@ pub fn commands_of_sensor_lines()
     ensures show_inventory { command_of (codes "show inventory") ≡ shown Inventory }
     ensures show_sensors { command_of (codes "show sensors") ≡ shown Sensors }
     ensures show_indexes { command_of (codes "show indexes") ≡ shown Indexes }
-    ensures show_other { command_of (codes "show zones") ≡ malformed }
+    ensures show_other { command_of (codes "show fans") ≡ malformed }
     ensures show_space { command_of (codes "show frus ") ≡ malformed }
     ensures show_nothing { command_of (codes "show") ≡ malformed }
+{}
+
+/// The same of lines that let ticks pass, and of those that ask for the zones: the least and the greatest number of ticks,
+/// numbers beside these, and lines that have not the form.
+pub fn commands_of_tick_lines()
+    ensures least { command_of (codes "tick 1") ≡ ticked 1 }
+    ensures greatest { command_of (codes "tick 36000") ≡ ticked 36000 }
+    ensures nine_digits { command_of (codes "tick 000000001") ≡ ticked 1 }
+    ensures zero { command_of (codes "tick 0") ≡ ticks_out_of_range }
+    ensures zero_in_nine_digits { command_of (codes "tick 000000000") ≡ ticks_out_of_range }
+    ensures one_too_many { command_of (codes "tick 36001") ≡ ticks_out_of_range }
+    ensures most_digits { command_of (codes "tick 999999999") ≡ ticks_out_of_range }
+    ensures ten_digits { command_of (codes "tick 0000000001") ≡ malformed }
+    ensures alone { command_of (codes "tick") ≡ malformed }
+    ensures no_number { command_of (codes "tick ") ≡ malformed }
+    ensures sign { command_of (codes "tick -1") ≡ malformed }
+    ensures two_numbers { command_of (codes "tick 1 1") ≡ malformed }
+    ensures no_digit { command_of (codes "tick x") ≡ malformed }
+    ensures form_before_limit { command_of (codes "tick 36001 ") ≡ malformed }
+    ensures first_space { command_of (codes " tick 1") ≡ unknown }
+    ensures upper_case { command_of (codes "Tick 1") ≡ unknown }
+    ensures longer_verb { command_of (codes "ticks 1") ≡ unknown }
+    ensures show_zones { command_of (codes "show zones") ≡ shown Zones }
+    ensures show_zones_space { command_of (codes "show zones ") ≡ malformed }
+    ensures show_zone { command_of (codes "show zone") ≡ malformed }
 {}

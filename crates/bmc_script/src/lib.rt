@@ -7,4 +7,4 @@ mod examples;
 mod tests;
 
 pub use command::{Command, ScriptFault};
-pub use examples::{commands_of_lines, commands_of_sensor_lines};
+pub use examples::{commands_of_lines, commands_of_sensor_lines, commands_of_tick_lines};

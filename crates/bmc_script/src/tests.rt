@@ -28,6 +28,7 @@ fn described(alloc: Global, line: &[u8]) -> Result<String, Fail> {
         }
         Ok(Command::Good(name, raw)) => write!(words, "read [{}] {raw}", name.as_str())?,
         Ok(Command::Lost(name)) => write!(words, "lose [{}]", name.as_str())?,
+        Ok(Command::Ticks(count)) => write!(words, "tick {count}")?,
         Ok(Command::Show(topic)) => write!(words, "show {topic:?}")?,
         Err(fault) => write!(words, "{fault}")?,
     }
@@ -415,10 +416,74 @@ bad arguments: lose ABCDEFGHIJKLMNOPQRSTUVWXYZabcdefghijklmnopqrstuvwxyz01234567
 bad arguments: lose ABCDEFGHIJKLMNOPQRSTUVWXYZabcdefghijklmnopqrstuvwxyz0123456789+/\x20
 bad arguments: lose ABCDEFGHIJKLMNOPQRSTUVWXYZabcdefghijklmnopqrstuvwxyz0123456789+\u{e9}";
 
+// Lines that let ticks pass.
+const TICK_LINES: &str = "tick 1: tick 1
+tick 2: tick 02
+tick 10: tick 10
+tick 255: tick 255
+tick 256: tick 256
+tick 35999: tick 35999
+tick 36000: tick 36000
+tick 36000: tick 000036000
+tick 1: tick 000000001
+unknown command: ticks 1
+unknown command: tic 1
+unknown command: tick1
+unknown command: TICK 1
+unknown command: Tick 1
+unknown command: tock 1
+unknown command: rick 1
+unknown command: ticktick 1
+unknown command: tick\t1
+unknown command: tick\r
+unknown command: tick\0 1
+unknown command: \x20tick 1
+unknown command: \ttick 1
+unknown command: 1 tick
+bad arguments: tick
+bad arguments: tick\x20
+bad arguments: tick\x20\x20
+bad arguments: tick  1
+bad arguments: tick 1\x20
+bad arguments: tick 1 1
+bad arguments: tick 0 0
+bad arguments: tick 1 #
+bad arguments: tick x
+bad arguments: tick 1x
+bad arguments: tick x1
+bad arguments: tick -1
+bad arguments: tick +1
+bad arguments: tick -0
+bad arguments: tick 1.0
+bad arguments: tick 0x1
+bad arguments: tick 1e3
+bad arguments: tick 36,000
+bad arguments: tick 1_000
+bad arguments: tick 1\r
+bad arguments: tick 1\t
+bad arguments: tick 1\0
+bad arguments: tick \u{661}
+bad arguments: tick 0000000001
+bad arguments: tick 0000000000
+bad arguments: tick 4294967297
+bad arguments: tick 9999999999
+bad arguments: tick 36001\x20
+bad arguments: tick 36001 1
+number of ticks out of range: tick 0
+number of ticks out of range: tick 00
+number of ticks out of range: tick 000000000
+number of ticks out of range: tick 36001
+number of ticks out of range: tick 000036001
+number of ticks out of range: tick 65536
+number of ticks out of range: tick 65537
+number of ticks out of range: tick 360000
+number of ticks out of range: tick 999999999";
+
 // Lines that ask for lists.
 const SHOW_LINES: &str = "show Frus: show frus
 show Inventory: show inventory
 show Sensors: show sensors
+show Zones: show zones
 show Indexes: show indexes
 unknown command: shows frus
 unknown command: sho frus
@@ -467,7 +532,13 @@ bad arguments: show indices
 bad arguments: show indexess
 bad arguments: show Indexes
 bad arguments: show indexez
-bad arguments: show zones
+bad arguments: show zones\x20
+bad arguments: show zone
+bad arguments: show zoness
+bad arguments: show Zones
+bad arguments: show zones\r
+bad arguments: show zonez
+bad arguments: show zones 1
 bad arguments: show fans
 bad arguments: show log
 bad arguments: show configs
@@ -499,13 +570,18 @@ fn reads_lines_of_lost_readings(rt: HostRuntime) -> Result<(), Fail> {
 }
 
 #[test]
+fn reads_lines_of_ticks(rt: HostRuntime) -> Result<(), Fail> {
+    assert_rows(&rt, rt.alloc(), TICK_LINES)
+}
+
+#[test]
 fn reads_lines_that_ask_for_lists(rt: HostRuntime) -> Result<(), Fail> {
     assert_rows(&rt, rt.alloc(), SHOW_LINES)
 }
 
 #[test]
 fn reads_lines_that_are_no_text(rt: HostRuntime) -> Result<(), Fail> {
-    let rows: [(&[u8], &str); 15] = [
+    let rows: &[(&[u8], &str)] = &[
         (b"#\xff\x00", "nothing"),
         (b"\xff", "unknown command"),
         (b"\xff#", "unknown command"),
@@ -522,7 +598,7 @@ fn reads_lines_that_are_no_text(rt: HostRuntime) -> Result<(), Fail> {
         (b"plug 1 80 \xff\xff", "bad hexadecimal digits"),
         (b"plug 1 80 0\xe9", "bad hexadecimal digits"),
     ];
-    for (line, words) in rows {
+    for &(line, words) in rows {
         let described = described(rt.alloc(), line)?;
         assert_eq!(rt; described.as_str(), words, "{line:?}");
     }
@@ -531,7 +607,7 @@ fn reads_lines_that_are_no_text(rt: HostRuntime) -> Result<(), Fail> {
 
 #[test]
 fn reads_names_of_any_bytes(rt: HostRuntime) -> Result<(), Fail> {
-    let rows: [(&[u8], &str); 24] = [
+    let rows: &[(&[u8], &str)] = &[
         (b"read \xc3\xa9 5", "read [\u{e9}] 5"),
         (b"read \xf4\x8f\xbf\xbf 5", "read [\u{10ffff}] 5"),
         (b"read T\nU 5", "read [T\nU] 5"),
@@ -557,7 +633,7 @@ fn reads_names_of_any_bytes(rt: HostRuntime) -> Result<(), Fail> {
         (b"show frus\xff", "bad arguments"),
         (b"show \xffrus", "bad arguments"),
     ];
-    for (line, words) in rows {
+    for &(line, words) in rows {
         let described = described(rt.alloc(), line)?;
         assert_eq!(rt; described.as_str(), words, "{line:?}");
     }

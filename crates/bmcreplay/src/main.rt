@@ -1,26 +1,65 @@
 //! Replays a script from standard input to standard output, and ends with the number of its status.
 #![tactic(auto)]
 
+ghost use Rattle.std.specs.Prelude.{◌≡◌};
+ghost use Rattle.ctl_face.specs.Seen.{unloaded};
+
 mod program;
 mod statuses;
 
-use bmc_base::{Silent, Steps};
+use bmc_base::{OutOfMemory, Silent, Steps};
 use bmc_io::{StdSink, StdSource};
+use bmc_replay::Status;
+use ctl_face::{Controller, Kind};
+use ctl_kinds::{PidBox, StepBox};
 use pat_gate::RegexMaker;
 use std::io;
 use std::process::ExitCode;
 
-fn main(rt: HostRuntime) -> ExitCode {
+// As many controllers of a kind are live at the most.
+const MOST_PIDS: u32 = 128;
+
+const MOST_STEPS: u32 = 64;
+
+// Says that a box is not loaded, which the bank is made of.
+fn is_unloaded(one: &Box<dyn Controller>, kind: Kind)
+    requires { seen one.now ≡ unloaded kind }
+    ensures { seen one.now ≡ unloaded kind }
+{}
+
+// Makes a bank of boxes, and replays the script over it.
+fn play(rt: &HostRuntime) -> Result<ExitCode, OutOfMemory> {
+    let alloc = rt.alloc();
+    let mut bank: Vec<Box<dyn Controller>> = Vec::new(alloc);
+    for _ in 0..MOST_PIDS {
+        let one: Box<dyn Controller> = Box::new(alloc, PidBox::new())?;
+        is_unloaded(&one, Kind::Pid);
+        bank.push(one)?;
+    }
+    for _ in 0..MOST_STEPS {
+        let one: Box<dyn Controller> = Box::new(alloc, StepBox::new())?;
+        is_unloaded(&one, Kind::Stepwise);
+        bank.push(one)?;
+    }
     let mut input = StdSource::new(rt.reader());
-    let mut output = StdSink::new(io::writer(&rt));
-    let mut maker = RegexMaker::new(rt.alloc());
+    let mut output = StdSink::new(io::writer(rt));
+    let mut maker = RegexMaker::new(alloc);
     let mut steps = Steps::new(Silent);
-    program::run(
-        rt.alloc(),
+    let code = program::run(
+        alloc,
         &mut input,
         &mut output,
         &mut maker,
         &mut steps,
+        bank,
         &mut rt.stderr(),
-    )
+    );
+    Ok(code)
+}
+
+fn main(rt: HostRuntime) -> ExitCode {
+    match play(&rt) {
+        Ok(code) => code,
+        Err(OutOfMemory) => program::end(Status::OutOfMemory, &mut rt.stderr()),
+    }
 }

@@ -47,7 +47,7 @@ mod tests {
 
     #[test]
     fn says_why(rt: HostRuntime) {
-        let rows = [
+        let rows = &[
             (Status::Done, None),
             (Status::Refused, None),
             (Status::OutOfMemory, Some("out of memory")),
@@ -58,7 +58,7 @@ mod tests {
                 Some("the input has at least 1,099,511,627,776 bytes"),
             ),
         ];
-        for (status, words) in rows {
+        for &(status, words) in rows {
             let line = reason_of(status);
             let said = line.and_then(|line| line.strip_prefix("bmcreplay: "));
             assert_eq!(rt; said.and_then(|said| said.strip_suffix("\n")), words);

@@ -25,7 +25,7 @@ fn assert_printed(rt: &impl Abort, alloc: Global, change: &Change, text: &str) -
 
 #[test]
 fn boards(rt: HostRuntime) -> Result<(), Fail> {
-    let rows = [
+    let rows = &[
         (
             true,
             "R",
@@ -52,7 +52,7 @@ fn boards(rt: HostRuntime) -> Result<(), Fail> {
         ),
         (false, "\u{e9}", 1, None, "new board \"\u{e9}\" 1"),
     ];
-    for (gone, name, index, place, text) in rows {
+    for &(gone, name, index, place, text) in rows {
         let name = Name::new(name)?;
         assert_printed(
             &rt,
@@ -71,7 +71,7 @@ fn boards(rt: HostRuntime) -> Result<(), Fail> {
 
 #[test]
 fn live_items(rt: HostRuntime) -> Result<(), Fail> {
-    let rows = [
+    let rows = &[
         (true, LiveKind::Sensor, "T", "gone sensor \"T\""),
         (
             false,
@@ -86,7 +86,7 @@ fn live_items(rt: HostRuntime) -> Result<(), Fail> {
         (true, LiveKind::Controller, "FP", "gone controller \"FP\""),
         (false, LiveKind::Controller, "TP", "new controller \"TP\""),
     ];
-    for (gone, kind, name, text) in rows {
+    for &(gone, kind, name, text) in rows {
         let name = Name::new(name)?;
         assert_printed(&rt, rt.alloc(), &Change::Item { gone, kind, name }, text)?;
     }
@@ -95,12 +95,12 @@ fn live_items(rt: HostRuntime) -> Result<(), Fail> {
 
 #[test]
 fn stale_readings(rt: HostRuntime) -> Result<(), Fail> {
-    let rows = [
+    let rows = &[
         ("X", "stale read \"X\""),
         ("Riser 1 Temp", "stale read \"Riser 1 Temp\""),
         ("a\\b", "stale read \"a\\\\b\""),
     ];
-    for (name, text) in rows {
+    for &(name, text) in rows {
         let name = Name::new(name)?;
         assert_printed(&rt, rt.alloc(), &Change::Stale { name }, text)?;
     }
@@ -109,12 +109,12 @@ fn stale_readings(rt: HostRuntime) -> Result<(), Fail> {
 
 #[test]
 fn failures(rt: HostRuntime) -> Result<(), Fail> {
-    let rows = [
+    let rows = &[
         (true, "T", "failed sensor \"T\""),
         (false, "T", "working sensor \"T\""),
         (true, "\u{1f}", "failed sensor \"\\x1f\""),
     ];
-    for (failed, name, text) in rows {
+    for &(failed, name, text) in rows {
         let name = Name::new(name)?;
         assert_printed(&rt, rt.alloc(), &Change::Failure { failed, name }, text)?;
     }
@@ -123,7 +123,7 @@ fn failures(rt: HostRuntime) -> Result<(), Fail> {
 
 #[test]
 fn alarms(rt: HostRuntime) -> Result<(), Fail> {
-    let rows = [
+    let rows = &[
         (true, "T", 0, true, true, "alarm on \"T\" 0 high critical"),
         (false, "T", 0, true, true, "alarm off \"T\" 0 high critical"),
         (true, "T", 1, true, false, "alarm on \"T\" 1 high warning"),
@@ -147,7 +147,7 @@ fn alarms(rt: HostRuntime) -> Result<(), Fail> {
             "alarm off \"a\\\"b\" 6 low warning",
         ),
     ];
-    for (on, name, position, high, critical, text) in rows {
+    for &(on, name, position, high, critical, text) in rows {
         let name = Name::new(name)?;
         assert_printed(
             &rt,
@@ -167,12 +167,12 @@ fn alarms(rt: HostRuntime) -> Result<(), Fail> {
 
 #[test]
 fn zones(rt: HostRuntime) -> Result<(), Fail> {
-    let rows = [
+    let rows = &[
         (true, "Z", "failsafe zone \"Z\""),
         (false, "Z", "normal zone \"Z\""),
         (false, "Zone \"1\"", "normal zone \"Zone \\\"1\\\"\""),
     ];
-    for (failsafe, name, text) in rows {
+    for &(failsafe, name, text) in rows {
         let name = Name::new(name)?;
         assert_printed(&rt, rt.alloc(), &Change::Zone { failsafe, name }, text)?;
     }
@@ -181,7 +181,7 @@ fn zones(rt: HostRuntime) -> Result<(), Fail> {
 
 #[test]
 fn duties(rt: HostRuntime) -> Result<(), Fail> {
-    let rows = [
+    let rows = &[
         ("Fan 1", 20_000, "duty fan \"Fan 1\" 20.000"),
         ("Fan 1", 80_001, "duty fan \"Fan 1\" 80.001"),
         ("F", 100_000, "duty fan \"F\" 100.000"),
@@ -189,7 +189,7 @@ fn duties(rt: HostRuntime) -> Result<(), Fail> {
         ("F", -20, "duty fan \"F\" -0.020"),
         ("F", i64::MAX, "duty fan \"F\" 9223372036854775.807"),
     ];
-    for (name, duty, text) in rows {
+    for &(name, duty, text) in rows {
         let (name, duty) = (Name::new(name)?, Milli(duty));
         assert_printed(&rt, rt.alloc(), &Change::Duty { name, duty }, text)?;
     }
@@ -198,7 +198,7 @@ fn duties(rt: HostRuntime) -> Result<(), Fail> {
 
 #[test]
 fn refused_plugs(rt: HostRuntime) -> Result<(), Fail> {
-    let rows = [
+    let rows = &[
         (1, 80, Refusal::Occupied, "refused plug 1 80 Occupied"),
         (0, 127, Refusal::FruShort, "refused plug 0 127 FruShort"),
         (
@@ -215,7 +215,7 @@ fn refused_plugs(rt: HostRuntime) -> Result<(), Fail> {
         ),
         (2, 3, Refusal::BoardLimit, "refused plug 2 3 BoardLimit"),
     ];
-    for (bus, address, refusal, text) in rows {
+    for &(bus, address, refusal, text) in rows {
         let place = Place::new(bus, address).ok_or("no place")?;
         assert_printed(
             &rt,

@@ -5,11 +5,12 @@ use std::test::Fail;
 
 #[test]
 fn lines_of_refusals(rt: HostRuntime) -> Result<(), Fail> {
-    let rows = [
+    let rows = &[
         (Refusal::LineTooLong, "LineTooLong"),
         (Refusal::UnknownCommand, "UnknownCommand"),
         (Refusal::BadArguments, "BadArguments"),
         (Refusal::PlaceRange, "PlaceRange"),
+        (Refusal::TickLimit, "TickLimit"),
         (Refusal::BadHex, "BadHex"),
         (Refusal::ConfigTooLong, "ConfigTooLong"),
         (Refusal::ConfigShort, "ConfigShort"),
@@ -48,7 +49,7 @@ fn lines_of_refusals(rt: HostRuntime) -> Result<(), Fail> {
         (Refusal::UnknownSensor, "UnknownSensor"),
         (Refusal::ReadingRange, "ReadingRange"),
     ];
-    for (refusal, name) in rows {
+    for &(refusal, name) in rows {
         for number in ["1", "30", "18446744073709551615"] {
             let mut out = String::from_str(rt.alloc(), "before")?;
             push_refused_line(&mut out, number.parse::<u64>()?, refusal)?;
@@ -62,11 +63,11 @@ fn lines_of_refusals(rt: HostRuntime) -> Result<(), Fail> {
 
 #[test]
 fn texts_of_refusals(rt: HostRuntime) -> Result<(), Fail> {
-    let rows = [
+    let rows = &[
         (Refusal::SensorLimit, "SensorLimit"),
         (Refusal::NoEnd(Area::Product), "NoEnd Product"),
     ];
-    for (refusal, name) in rows {
+    for &(refusal, name) in rows {
         let text = refusal_text(rt.alloc(), &refusal)?;
         assert_eq!(rt; text.as_str(), name);
     }

@@ -32,7 +32,7 @@ fn frus(rt: HostRuntime) -> Result<(), Fail> {
 
 #[test]
 fn boards(rt: HostRuntime) -> Result<(), Fail> {
-    let rows = [
+    let rows = &[
         ("N", 2, Place::new(1, 79), "board \"N\" 2 at 1 79\n"),
         ("Any", 1, None, "board \"Any\" 1\n"),
         (
@@ -42,7 +42,7 @@ fn boards(rt: HostRuntime) -> Result<(), Fail> {
             "board \"a\\\"\\\\\u{e9}\" 4294967295 at 255 127\n",
         ),
     ];
-    for (name, index, place, text) in rows {
+    for &(name, index, place, text) in rows {
         let name = Name::new(name)?;
         let mut out = String::new(rt.alloc());
         push_board_row(&mut out, &name, index, place)?;
@@ -53,7 +53,7 @@ fn boards(rt: HostRuntime) -> Result<(), Fail> {
 
 #[test]
 fn indexes(rt: HostRuntime) -> Result<(), Fail> {
-    let rows = [
+    let rows = &[
         ("N", 1, Place::new(1, 82), "index \"N\" 1 at 1 82\n"),
         ("Box", 1, None, "index \"Box\" 1\n"),
         (
@@ -63,7 +63,7 @@ fn indexes(rt: HostRuntime) -> Result<(), Fail> {
             "index \"\\x00\" 4294967295 at 0 0\n",
         ),
     ];
-    for (name, index, place, text) in rows {
+    for &(name, index, place, text) in rows {
         let name = Name::new(name)?;
         let mut out = String::new(rt.alloc());
         push_index_row(&mut out, &name, index, place)?;
@@ -72,68 +72,70 @@ fn indexes(rt: HostRuntime) -> Result<(), Fail> {
     Ok(())
 }
 
+// Kind, name, bus, address, whether it is live, and the row.
+const ITEMS: &[(&str, &str, Option<u8>, Option<u8>, bool, &str)] = &[
+    (
+        "Sensor",
+        "S 4",
+        None,
+        None,
+        true,
+        "  \"Sensor\" \"S 4\" live\n",
+    ),
+    (
+        "Sensor",
+        "Riser 1 Temp",
+        Some(1),
+        Some(76),
+        true,
+        "  \"Sensor\" \"Riser 1 Temp\" bus 1 address 76 live\n",
+    ),
+    (
+        "Sensor",
+        "X",
+        Some(255),
+        Some(127),
+        false,
+        "  \"Sensor\" \"X\" bus 255 address 127\n",
+    ),
+    (
+        "Sensor",
+        "X",
+        Some(0),
+        None,
+        false,
+        "  \"Sensor\" \"X\" bus 0\n",
+    ),
+    (
+        "Sensor",
+        "X",
+        None,
+        Some(0),
+        true,
+        "  \"Sensor\" \"X\" address 0 live\n",
+    ),
+    (
+        "Pid.Zone",
+        "Z",
+        None,
+        None,
+        true,
+        "  \"Pid.Zone\" \"Z\" live\n",
+    ),
+    (
+        "EEPROM",
+        "PSU 1 EEPROM",
+        None,
+        None,
+        false,
+        "  \"EEPROM\" \"PSU 1 EEPROM\"\n",
+    ),
+    ("a\"", "\\b", None, None, false, "  \"a\\\"\" \"\\\\b\"\n"),
+];
+
 #[test]
 fn items(rt: HostRuntime) -> Result<(), Fail> {
-    let rows = [
-        (
-            "Sensor",
-            "S 4",
-            None,
-            None,
-            true,
-            "  \"Sensor\" \"S 4\" live\n",
-        ),
-        (
-            "Sensor",
-            "Riser 1 Temp",
-            Some(1),
-            Some(76),
-            true,
-            "  \"Sensor\" \"Riser 1 Temp\" bus 1 address 76 live\n",
-        ),
-        (
-            "Sensor",
-            "X",
-            Some(255),
-            Some(127),
-            false,
-            "  \"Sensor\" \"X\" bus 255 address 127\n",
-        ),
-        (
-            "Sensor",
-            "X",
-            Some(0),
-            None,
-            false,
-            "  \"Sensor\" \"X\" bus 0\n",
-        ),
-        (
-            "Sensor",
-            "X",
-            None,
-            Some(0),
-            true,
-            "  \"Sensor\" \"X\" address 0 live\n",
-        ),
-        (
-            "Pid.Zone",
-            "Z",
-            None,
-            None,
-            true,
-            "  \"Pid.Zone\" \"Z\" live\n",
-        ),
-        (
-            "EEPROM",
-            "PSU 1 EEPROM",
-            None,
-            None,
-            false,
-            "  \"EEPROM\" \"PSU 1 EEPROM\"\n",
-        ),
-        ("a\"", "\\b", None, None, false, "  \"a\\\"\" \"\\\\b\"\n"),
-    ];
-    for (kind, name, bus, address, live, text) in rows {
+    for &(kind, name, bus, address, live, text) in ITEMS {
         let (kind, name) = (Name::new(kind)?, Name::new(name)?);
         let row = ItemRow {
             kind: &kind,
@@ -149,77 +151,79 @@ fn items(rt: HostRuntime) -> Result<(), Fail> {
     Ok(())
 }
 
+// Name, value, whether it failed, age, alarms, and the row.
+const SENSORS: &[(&str, Option<Milli>, bool, Option<u64>, &[bool], &str)] = &[
+    (
+        "Card 2 Temp",
+        None,
+        false,
+        None,
+        &[],
+        "sensor \"Card 2 Temp\" none ok -\n",
+    ),
+    (
+        "X",
+        Some(Milli(41_000)),
+        false,
+        Some(0),
+        &[false, false],
+        "sensor \"X\" 41.000 ok 0\n",
+    ),
+    (
+        "T",
+        None,
+        true,
+        None,
+        &[false],
+        "sensor \"T\" none failed -\n",
+    ),
+    (
+        "T",
+        Some(Milli(100)),
+        false,
+        Some(1),
+        &[true],
+        "sensor \"T\" 0.100 ok 1 0\n",
+    ),
+    (
+        "T",
+        Some(Milli(-1)),
+        true,
+        Some(36_000),
+        &[true, false, false, false, false, false, false, true],
+        "sensor \"T\" -0.001 failed 36000 0 7\n",
+    ),
+    (
+        "a\"b",
+        Some(Milli(i64::MIN)),
+        false,
+        Some(u64::MAX),
+        &[true; 8],
+        "sensor \"a\\\"b\" -9223372036854775.808 ok 18446744073709551615 0 1 2 3 4 5 6 7\n",
+    ),
+    (
+        "T",
+        Some(Milli(95_050)),
+        false,
+        Some(20),
+        &[false, true, false, false, true, false, true],
+        "sensor \"T\" 95.050 ok 20 1 4 6\n",
+    ),
+    (
+        "T",
+        Some(Milli(95_050)),
+        false,
+        Some(20),
+        &[
+            false, false, false, false, false, false, false, false, false, false, true,
+        ],
+        "sensor \"T\" 95.050 ok 20 10\n",
+    ),
+];
+
 #[test]
 fn sensors(rt: HostRuntime) -> Result<(), Fail> {
-    let rows: [(&str, Option<Milli>, bool, Option<u64>, &[bool], &str); 8] = [
-        (
-            "Card 2 Temp",
-            None,
-            false,
-            None,
-            &[],
-            "sensor \"Card 2 Temp\" none ok -\n",
-        ),
-        (
-            "X",
-            Some(Milli(41_000)),
-            false,
-            Some(0),
-            &[false, false],
-            "sensor \"X\" 41.000 ok 0\n",
-        ),
-        (
-            "T",
-            None,
-            true,
-            None,
-            &[false],
-            "sensor \"T\" none failed -\n",
-        ),
-        (
-            "T",
-            Some(Milli(100)),
-            false,
-            Some(1),
-            &[true],
-            "sensor \"T\" 0.100 ok 1 0\n",
-        ),
-        (
-            "T",
-            Some(Milli(-1)),
-            true,
-            Some(36_000),
-            &[true, false, false, false, false, false, false, true],
-            "sensor \"T\" -0.001 failed 36000 0 7\n",
-        ),
-        (
-            "a\"b",
-            Some(Milli(i64::MIN)),
-            false,
-            Some(u64::MAX),
-            &[true; 8],
-            "sensor \"a\\\"b\" -9223372036854775.808 ok 18446744073709551615 0 1 2 3 4 5 6 7\n",
-        ),
-        (
-            "T",
-            Some(Milli(95_050)),
-            false,
-            Some(20),
-            &[false, true, false, false, true, false, true],
-            "sensor \"T\" 95.050 ok 20 1 4 6\n",
-        ),
-        (
-            "T",
-            Some(Milli(95_050)),
-            false,
-            Some(20),
-            &[
-                false, false, false, false, false, false, false, false, false, false, true,
-            ],
-            "sensor \"T\" 95.050 ok 20 10\n",
-        ),
-    ];
-    for (name, value, failed, age, alarms, text) in rows {
+    for &(name, value, failed, age, alarms, text) in SENSORS {
         let name = Name::new(name)?;
         let row = SensorRow {
             name: &name,
@@ -237,7 +241,7 @@ fn sensors(rt: HostRuntime) -> Result<(), Fail> {
 
 #[test]
 fn zones(rt: HostRuntime) -> Result<(), Fail> {
-    let rows = [
+    let rows = &[
         (
             "Z",
             true,
@@ -253,7 +257,7 @@ fn zones(rt: HostRuntime) -> Result<(), Fail> {
         ("Z", true, None, "zone \"Z\" failsafe none\n"),
         ("\\", false, None, "zone \"\\\\\" normal none\n"),
     ];
-    for (name, failsafe, setpoint, text) in rows {
+    for &(name, failsafe, setpoint, text) in rows {
         let name = Name::new(name)?;
         let mut out = String::new(rt.alloc());
         push_zone_row(&mut out, &name, failsafe, setpoint)?;
@@ -264,13 +268,13 @@ fn zones(rt: HostRuntime) -> Result<(), Fail> {
 
 #[test]
 fn fans(rt: HostRuntime) -> Result<(), Fail> {
-    let rows = [
+    let rows = &[
         ("Fan 1", Some(Milli(80_000)), "fan \"Fan 1\" 80.000\n"),
         ("F", Some(Milli(100_000)), "fan \"F\" 100.000\n"),
         ("F", Some(Milli(9)), "fan \"F\" 0.009\n"),
         ("\u{e9}", None, "fan \"\u{e9}\" none\n"),
     ];
-    for (name, duty, text) in rows {
+    for &(name, duty, text) in rows {
         let name = Name::new(name)?;
         let mut out = String::new(rt.alloc());
         push_fan_row(&mut out, &name, duty)?;
@@ -292,7 +296,7 @@ fn log_entries(rt: HostRuntime) -> Result<(), Fail> {
         place: Place::new(1, 80).ok_or("no place")?,
         refusal: Refusal::AreaChecksum(Area::Board),
     };
-    let rows = [
+    let rows = &[
         (
             4,
             true,
@@ -315,7 +319,7 @@ fn log_entries(rt: HostRuntime) -> Result<(), Fail> {
             "log 18446744073709551615 error 18446744073709551615 refused plug 1 80 AreaChecksum Board\n",
         ),
     ];
-    for (id, error, tick, change, text) in rows {
+    for &(id, error, tick, change, text) in rows {
         let mut out = String::new(rt.alloc());
         push_log_row(&mut out, id, error, tick, change)?;
         assert_eq!(rt; out.as_str(), text);

@@ -11,13 +11,13 @@ returns-in_err-push_board-clause-front g c =
     let boards = c.deref-board-items.result.now in
     let same = c.deref-board-items.ensures.value ∙ c.in_ok-boards.ensures.all in
     rw (p.1, ← same)
-    (rows_front (board_rows c.args.core.now.watch) _ _ _ _ boards (drop c.loop-board.board-index boards) c.loop-board.invariant.rows)
+    (rows_front (board_rows c.args.core.now.senses.watch) _ _ _ _ boards (drop c.loop-board.board-index boards) c.loop-board.invariant.rows)
 
 pub loop-board-preserved : goal.loop-board-preserved
 loop-board-preserved g c =
     let boards = c.deref-board-items.result.now in
     record {
-      rows = rows_more (board_rows c.args.core.now.watch) _ _ _ _ _ _ _ boards (drop c.loop-board.board-index boards)
+      rows = rows_more (board_rows c.args.core.now.senses.watch) _ _ _ _ _ _ _ boards (drop c.loop-board.board-index boards)
           (drop (c.loop-board.board-index + 1) boards) c.board-item.result c.loop-board.invariant.rows
           (left_at boards c.loop-board.board-index c.board-item.result c.loop-board-test.true c.board-item.is) c.in_ok-push_board.ensures
           c.in_ok-flush_large.ensures.all;
@@ -30,8 +30,8 @@ returns-in_err-flush_large-clause-front g c =
     let boards = c.deref-board-items.result.now in
     let same = c.deref-board-items.ensures.value ∙ c.in_ok-boards.ensures.all in
     rw (p.1, ← same)
-    (rows_stopped (board_rows c.args.core.now.watch) _ _ _ _ _ _ boards (drop c.loop-board.board-index boards) (drop (c.loop-board.board-index + 1) boards)
-    c.board-item.result c.loop-board.invariant.rows
+    (rows_stopped (board_rows c.args.core.now.senses.watch) _ _ _ _ _ _ boards (drop c.loop-board.board-index boards)
+    (drop (c.loop-board.board-index + 1) boards) c.board-item.result c.loop-board.invariant.rows
     (left_at boards c.loop-board.board-index c.board-item.result c.loop-board-test.true c.board-item.is) c.in_ok-push_board.ensures
     c.in_err-flush_large.ensures.front)
 
@@ -40,5 +40,5 @@ returns-clause-all g c =
     let boards = c.deref-board-items.result.now in
     let same = c.deref-board-items.ensures.value ∙ c.in_ok-boards.ensures.all in
     rw (← same)
-    (rows_all (board_rows c.args.core.now.watch) _ _ _ _ boards (drop c.loop-board.board-index boards) c.loop-board.invariant.rows
+    (rows_all (board_rows c.args.core.now.senses.watch) _ _ _ _ boards (drop c.loop-board.board-index boards) c.loop-board.invariant.rows
     (drop_all c.loop-board.board-index boards c.loop-board-test.false))

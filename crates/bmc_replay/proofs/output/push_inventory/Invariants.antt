@@ -6,7 +6,7 @@ use Rattle.bmc_replay.proofs.output.push_inventory.Given as goal
 abbrev pub invariant-loop-board : goal.invariant-loop-board
 invariant-loop-board g l = record {
   rows :
-      GathersFront (board_rows l.core.watch) (g.K.Sink.seen l.fn.output).taken (g.K.Sink.seen l.output).taken (string_bytes l.fn.text)
+      GathersFront (board_rows l.core.senses.watch) (g.K.Sink.seen l.fn.output).taken (g.K.Sink.seen l.output).taken (string_bytes l.fn.text)
       (string_bytes l.text) l.board-items (drop l.board-index l.board-items);
   sink : (g.K.Sink.seen l.output).calls.faults ≡ (g.K.Sink.seen l.fn.output).calls.faults;
 }

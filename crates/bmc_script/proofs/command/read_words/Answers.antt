@@ -28,5 +28,6 @@ returns-in_default c =
     let no_config : words.0.now ≢ codes "config" = λ is. grind arith in
     let no_read : words.0.now ≢ codes "read" = λ is. grind arith in
     let no_lose : words.0.now ≢ codes "lose" = λ is. grind arith in
+    let no_tick : words.0.now ≢ codes "tick" = λ is. grind arith in
     let no_show : words.0.now ≢ codes "show" = λ is. grind arith in
-    other_words c.args.line.now (words.0.now, words.1.now) c.split_verb.ensures no_plug no_unplug no_config no_read no_lose no_show
+    other_words c.args.line.now (words.0.now, words.1.now) c.split_verb.ensures no_plug no_unplug no_config no_read no_lose no_tick no_show
