@@ -27,7 +27,7 @@ def slewed(pid, before, output, pace):
 
 def pid_step(pid, state, reading, setpoint):
     """The state of a PID controller behind a step."""
-    pace = 10 if pid["class"] == "Fan" else 1
+    pace = 10 if pid["class"] == "fan" else 1
     error = setpoint - reading
     part = pid["p"] * error // MILLION
     integral = clamp(pid["i_min"], state.integral + pid["i"] * error // (pace * MILLION), pid["i_max"])

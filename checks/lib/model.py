@@ -12,12 +12,14 @@ from collections import namedtuple
 
 sys.path.insert(0, os.path.dirname(os.path.realpath(__file__)))
 import patterns
+import zones
 
 LONGEST = 9000
 LONGEST_BLOCK = 262_144
 MOST_CONFIGS = 256
 MOST_FRUS = 256
 MOST_BOARDS = 1024
+MOST_TICKS = 36_000
 DEEPEST = 127
 # The forms of lines, and the digits of a record. A name runs to the last space, or to the end of the line.
 CONFIG = re.compile(rb"config ([0-9]{1,9})")
@@ -25,7 +27,8 @@ PLUG = re.compile(rb"plug ([0-9]{1,9}) ([0-9]{1,9}) ([^ ]+)")
 UNPLUG = re.compile(rb"unplug ([0-9]{1,9}) ([0-9]{1,9})")
 READ = re.compile(rb"read (.*) (-?[0-9]{1,18})", re.S)
 LOSE = re.compile(rb"lose (.*)", re.S)
-SHOW = re.compile(rb"show (frus|inventory|sensors|indexes)")
+TICK = re.compile(rb"tick ([0-9]{1,9})")
+SHOW = re.compile(rb"show (frus|inventory|sensors|zones|indexes)")
 HEX = re.compile(rb"(?:[0-9A-Fa-f]{2})+")
 BOARD_NAMES = "MANUFACTURER PRODUCT_NAME SERIAL_NUMBER PART_NUMBER FRU_VERSION_ID".split()
 PRODUCT_NAMES = "MANUFACTURER PRODUCT_NAME PART_NUMBER VERSION SERIAL_NUMBER ASSET_TAG FRU_VERSION_ID".split()
@@ -75,8 +78,8 @@ Config = namedtuple("Config", "name words match_one wants opens moves exposes")
 # An expose: the template of its name, its type, its channels, and what its further members say.
 Expose = namedtuple("Expose", "name kind channels members")
 # An item: the board and the position of its expose, which make it the same item, its type, its name, its bus and its
-# address, where it has them, and the name of its zone, which a controller alone has.
-Item = namedtuple("Item", "board at kind name bus address zone")
+# address, where it has them, and the names of its zone, its inputs and its outputs, which a controller alone has.
+Item = namedtuple("Item", "board at kind name bus address zone inputs outputs")
 
 
 class Broken(Exception):
@@ -90,22 +93,30 @@ class Members(list):
 class Machine:
     """What stands: the FRUs that are present by place, the configurations, and whether a FRU was plugged. For each
     configuration the places at which each of its patterns matches, the buses to which its channels lead from a place,
-    and the indexes of all boards it ever had, by place. The boards, the live items, and what each live sensor shows."""
+    and the indexes of all boards it ever had, by place. The boards, the live items, what each live sensor and each live
+    zone shows, what each live controller keeps, the duty of each live fan, and how many ticks there were."""
 
     def __init__(self):
         self.present, self.configs, self.plugged = {}, [], False
         self.matched, self.led, self.had = [], [], []
         self.boards, self.live, self.sensors = [], [], {}
+        self.zones, self.controllers, self.duties, self.ticks = {}, {}, {}, 0
 
 
 class Sensor:
-    """What a live sensor shows: its last value in thousandths, if there is one, how many losses came in a row, up to
-    those that make it fail, and for each of its thresholds whether the alarm is on."""
+    """What a live sensor shows: its last value in thousandths and the ticks there were by then, if there is one, how
+    many losses came in a row, up to those that make it fail, and for each of its thresholds whether the alarm is on."""
 
     def __init__(self, members):
         self.scale = members.get("ScaleNum", 1), members.get("ScaleDen", 1), members.get("Offset", 0)
-        self.thresholds = members.get("Thresholds", [])
+        self.thresholds, self.timeout = members.get("Thresholds", []), members.get("Timeout", 0)
         self.value, self.losses, self.alarms = None, 0, [False for _ in self.thresholds]
+        self.read_at = 0
+
+    def is_good(self, ticks):
+        """Whether the value may be used behind so many ticks."""
+        is_stale = self.timeout and ticks - self.read_at > self.timeout
+        return self.value is not None and self.losses < FAILING_LOSSES and not is_stale
 
 
 def demand(rule, holds):
@@ -679,8 +690,8 @@ def check_limits(boards, machine):
 
 
 def settle(machine):
-    """Takes note of the boards that stand now, of their live items and their sensors, and gives what is printed. A
-    sensor that stays live keeps what it shows."""
+    """Takes note of the boards that stand now, and of their live items, and gives what is printed. An item that stays
+    live keeps what it has."""
     boards, live, stand = machine.boards, machine.live, boards_of(machine)
     check_limits(stand, machine)
     machine.boards = stand
@@ -688,9 +699,17 @@ def settle(machine):
         # The index of a board is its number among all that its configuration ever had.
         machine.had[number].setdefault(place, len(machine.had[number]) + 1)
     machine.live = live_of(machine)
-    sensors = {it: Sensor(expose_at(it, machine).members) for it in machine.live if it.kind == "Sensor"}
-    machine.sensors = {it: machine.sensors.get(it, blank) for it, blank in sensors.items()}
+    machine.sensors = kept(machine.sensors, ["Sensor"], Sensor, machine)
+    machine.zones = kept(machine.zones, ["Pid.Zone"], zones.Zone, machine)
+    machine.controllers = kept(machine.controllers, ["Pid", "Stepwise"], zones.Controller, machine)
+    machine.duties = kept(machine.duties, ["Fan"], lambda _: None, machine)
     return changed(boards, live, machine)
+
+
+def kept(before, kinds, blank, machine):
+    """What each live item of these kinds has: what it had before where it was live, and else what it has at first."""
+    live = [it for it in machine.live if it.kind in kinds]
+    return {it: before[it] if it in before else blank(expose_at(it, machine).members) for it in live}
 
 
 def expose_at(item, machine):
@@ -707,13 +726,12 @@ def texts_of_board(board, machine):
 
 def item_at(board, at, expose, texts):
     """The item of an expose where keys have these texts, or None where one of its names gives nothing."""
-    names = [given_by(expose.name, texts)]
-    names += [given_by(it, texts) for key in ("Zones", "Inputs", "Outputs") for it in expose.members.get(key, [])]
-    if None in names:
+    listed = [[expose.name], *(expose.members.get(key, []) for key in ("Zones", "Inputs", "Outputs"))]
+    (name,), zone, inputs, outputs = (tuple(given_by(it, texts) for it in those) for those in listed)
+    if None in (name, *zone, *inputs, *outputs):
         return None
-    bus, address = (expose.members.get(key) for key in ("Bus", "Address"))
-    zone = names[1] if "Zones" in expose.members else None
-    return Item(board, at, expose.kind, names[0], number_by(bus, texts, 255), number_by(address, texts, 127), zone)
+    bus, address = (number_by(expose.members.get(key), texts, most) for key, most in (("Bus", 255), ("Address", 127)))
+    return Item(board, at, expose.kind, name, bus, address, zone[0] if zone else None, inputs, outputs)
 
 
 def items_at(board, kinds, machine):
@@ -753,8 +771,13 @@ def changed(boards, live, machine):
     boards = [(change, it) for change, here, there in turns for it in only_in(here, there)]
     turns = [("gone", live, machine.live), ("new", machine.live, live)]
     items = [(change, it) for change, here, there in turns for it in only_in(here, there)]
-    lines = [f"0 {change} board {board_text(it, machine)}" for change, it in boards]
-    return lines + [f"0 {change} {KIND_WORDS[it.kind]} {quoted(it.name)}" for change, it in items]
+    texts = [f"{change} board {board_text(it, machine)}" for change, it in boards]
+    return at_tick(texts + [f"{change} {KIND_WORDS[it.kind]} {quoted(it.name)}" for change, it in items], machine)
+
+
+def at_tick(changes, machine):
+    """The lines of these changes: before each stands how many ticks there were."""
+    return [f"{machine.ticks} {it}" for it in changes]
 
 
 def name_of(data):
@@ -781,11 +804,11 @@ def is_on(threshold, value, was_on):
     return value <= limit or was_on and not value > limit + hysteresis
 
 
-def alarm_line(name, at, threshold, on):
-    """The line of an alarm that went on or off."""
+def alarm_text(name, at, threshold, on):
+    """The change of an alarm that went on or off."""
     side = "high" if threshold["Direction"] == "greater than" else "low"
     level = "critical" if threshold["Severity"] else "warning"
-    return f"0 alarm {'on' if on else 'off'} {quoted(name)} {at} {side} {level}"
+    return f"alarm {'on' if on else 'off'} {quoted(name)} {at} {side} {level}"
 
 
 def read(name, raw, machine):
@@ -796,13 +819,13 @@ def read(name, raw, machine):
     multiplier, divisor, offset = sensor.scale
     # (this division rounds down, also below 0)
     sensor.value = raw * multiplier // divisor + offset
-    lines = [f"0 working sensor {quoted(name)}"] if sensor.losses == FAILING_LOSSES else []
-    sensor.losses = 0
+    changes = [f"working sensor {quoted(name)}"] if sensor.losses == FAILING_LOSSES else []
+    sensor.losses, sensor.read_at = 0, machine.ticks
     for at, threshold in enumerate(sensor.thresholds):
         on = is_on(threshold, sensor.value, sensor.alarms[at])
-        lines += [alarm_line(name, at, threshold, on)] if on != sensor.alarms[at] else []
+        changes += [alarm_text(name, at, threshold, on)] if on != sensor.alarms[at] else []
         sensor.alarms[at] = on
-    return lines
+    return at_tick(changes, machine)
 
 
 def lose(name, machine):
@@ -812,12 +835,34 @@ def lose(name, machine):
     if sensor.losses == FAILING_LOSSES:
         return []
     sensor.losses += 1
-    return [f"0 failed sensor {quoted(name)}"] if sensor.losses == FAILING_LOSSES else []
+    return at_tick([f"failed sensor {quoted(name)}"] if sensor.losses == FAILING_LOSSES else [], machine)
+
+
+def one_tick(machine):
+    """A tick: gives the lines of zones that change their mode, and those of fans whose duty changes."""
+    machine.ticks += 1
+    good = {item.name: it.value for item, it in machine.sensors.items() if it.is_good(machine.ticks)}
+    modes, fans = zones.tick(good, machine.zones, machine.controllers, machine.duties)
+    changes = [f"{mode_of(machine.zones[it])} zone {quoted(it.name)}" for it in modes]
+    changes += [f"duty fan {quoted(it.name)} {value_text(machine.duties[it])}" for it in fans]
+    return at_tick(changes, machine)
+
+
+def tick(count, machine):
+    """So many ticks: gives the lines of each of them."""
+    count = int(count)
+    demand("TickLimit", 1 <= count <= MOST_TICKS)
+    return [line for _ in range(count) for line in one_tick(machine)]
 
 
 def value_text(value):
     """A number of thousandths, or that there is none."""
     return "none" if value is None else f"{'-' if value < 0 else ''}{abs(value) // 1000}.{abs(value) % 1000:03}"
+
+
+def mode_of(zone):
+    """The mode of a zone."""
+    return "failsafe" if zone.failsafe else "normal"
 
 
 def item_row(item, machine):
@@ -827,12 +872,19 @@ def item_row(item, machine):
     return f"  {quoted(item.kind)} {quoted(item.name)}{''.join(numbers)}{live}"
 
 
-def sensor_row(item, sensor):
-    """The row of a live sensor. Nothing ticks, so a reading has the age 0."""
+def sensor_row(item, sensor, machine):
+    """The row of a live sensor."""
     state = "failed" if sensor.losses == FAILING_LOSSES else "ok"
-    age = "-" if sensor.value is None else 0
+    age = "-" if sensor.value is None else machine.ticks - sensor.read_at
     alarms = "".join(f" {at}" for at, on in enumerate(sensor.alarms) if on)
     return f"sensor {quoted(item.name)} {value_text(sensor.value)} {state} {age}{alarms}"
+
+
+def zone_rows(machine):
+    """The rows of live zones, and then those of live fans."""
+    of_zones = [(item.name, mode_of(it), value_text(it.setpoint)) for item, it in machine.zones.items()]
+    rows = [f"zone {quoted(name)} {mode} {setpoint}" for name, mode, setpoint in of_zones]
+    return rows + [f"fan {quoted(item.name)} {value_text(duty)}" for item, duty in machine.duties.items()]
 
 
 def show(topic, machine):
@@ -840,7 +892,9 @@ def show(topic, machine):
     if topic == b"frus":
         return [row(place, machine.present[place]) for place in sorted(machine.present)]
     if topic == b"sensors":
-        return [sensor_row(item, sensor) for item, sensor in machine.sensors.items()]
+        return [sensor_row(item, sensor, machine) for item, sensor in machine.sensors.items()]
+    if topic == b"zones":
+        return zone_rows(machine)
     if topic == b"indexes":
         ever = [(number, place) for number, had in enumerate(machine.had) for place in had]
         return [f"index {board_text(it, machine)}" for it in ever]
@@ -853,7 +907,7 @@ def show(topic, machine):
 
 # What stands before the first space, with the form of the line and what it asks for.
 COMMANDS = {b"config": (CONFIG, None), b"plug": (PLUG, plug), b"unplug": (UNPLUG, unplug)}
-COMMANDS |= {b"read": (READ, read), b"lose": (LOSE, lose), b"show": (SHOW, show)}
+COMMANDS |= {b"read": (READ, read), b"lose": (LOSE, lose), b"tick": (TICK, tick), b"show": (SHOW, show)}
 
 
 def line_alone(line, machine):
