@@ -1,0 +1,5 @@
+pub mod RowsLemmas
+pub mod PassedLemmas
+pub mod ReadLemmas
+pub mod NamesLemmas
+pub mod NumbersLemmas

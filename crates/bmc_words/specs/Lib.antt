@@ -1,0 +1,5 @@
+pub mod Arguments
+pub mod Numbers
+pub mod Settings
+pub mod Examples
+pub mod Laws
