@@ -22,8 +22,6 @@ mod sensors;
 mod shelf;
 mod stepwises;
 mod template_names;
-#[cfg(test)]
-mod tests;
 mod values;
 
 pub use boxed::Boxed;

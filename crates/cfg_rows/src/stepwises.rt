@@ -1,12 +1,12 @@
-use crate::tests::controls::{STEPWISE, control_in};
-use crate::tests::reading::{assert_members, assert_with, read, repeated};
+use crate::controls::{STEPWISE, control_in};
+use crate::reading::{assert_members, assert_with, read, repeated};
 use bmc_base::Milli;
 use ctl_face::{Setting, StepRow, StepSetting};
 use std::process::Abort;
 use std::test::Fail;
 
 // The members of stepwise controllers, and the first rule that they break.
-const STEPWISES: [(&str, &str); 10] = [
+const STEPWISES: &[(&str, &str)] = &[
     // members that are missing
     (
         r#""Name":"P","Type":"Stepwise","Inputs":["S"],"Reading":[20],"Output":[40]"#,
@@ -50,14 +50,14 @@ const STEPWISES: [(&str, &str); 10] = [
 
 #[test]
 fn first_rules_of_stepwises(rt: HostRuntime) -> Result<(), Fail> {
-    for (members, fault) in STEPWISES {
+    for &(members, fault) in STEPWISES {
         assert_members(&rt, rt.alloc(), members, fault)?;
     }
     Ok(())
 }
 
 // What a stepwise controller with two readings has besides, and the first rule that it breaks.
-const MORE: [(&str, &str); 44] = [
+const MORE: &[(&str, &str)] = &[
     // readings, and outputs, which are as many
     (r#""Reading":null"#, "WrongKind"),
     (r#""Reading":5"#, "WrongKind"),
@@ -117,14 +117,14 @@ const MORE: [(&str, &str); 44] = [
 
 #[test]
 fn first_rules_of_more(rt: HostRuntime) -> Result<(), Fail> {
-    for (more, fault) in MORE {
+    for &(more, fault) in MORE {
         assert_with(&rt, rt.alloc(), STEPWISE, more, fault)?;
     }
     Ok(())
 }
 
 // Readings and outputs, in thousandths.
-const ELEMENTS: [(&str, &str); 14] = [
+const ELEMENTS: &[(&str, &str)] = &[
     ("0", "Ok"),
     ("-1000000", "Ok"),
     ("-1000001", "OutOfRange"),
@@ -145,7 +145,7 @@ const ELEMENTS: [(&str, &str); 14] = [
 fn first_rules_of_elements(rt: HostRuntime) -> Result<(), Fail> {
     let alloc = rt.alloc();
     for key in ["Reading", "Output"] {
-        for (value, fault) in ELEMENTS {
+        for &(value, fault) in ELEMENTS {
             let more = format!(in alloc; r#""{key}":[{value},0]"#)?;
             assert_with(&rt, alloc, STEPWISE, more.as_str(), fault)?;
             let more = format!(in alloc; r#""{key}":[0,{value}]"#)?;
@@ -156,7 +156,7 @@ fn first_rules_of_elements(rt: HostRuntime) -> Result<(), Fail> {
 }
 
 // How many readings and how many outputs there are behind the first one.
-const LENGTHS: [(usize, usize, &str); 8] = [
+const LENGTHS: &[(usize, usize, &str)] = &[
     (0, 0, "Ok"),
     (18, 18, "Ok"),
     (19, 19, "Ok"),
@@ -170,7 +170,7 @@ const LENGTHS: [(usize, usize, &str); 8] = [
 #[test]
 fn lengths(rt: HostRuntime) -> Result<(), Fail> {
     let alloc = rt.alloc();
-    for (readings, outputs, fault) in LENGTHS {
+    for &(readings, outputs, fault) in LENGTHS {
         let readings = repeated(alloc, ",20", readings)?;
         let outputs = repeated(alloc, r#","40.5""#, outputs)?;
         let more = format!(in alloc; r#""Reading":[10{readings}],"Output":[30{outputs}]"#)?;

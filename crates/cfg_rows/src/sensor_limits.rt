@@ -1,8 +1,8 @@
-use crate::tests::sensors::assert_sensor;
+use crate::sensors::assert_sensor;
 use std::test::Fail;
 
 // The members of a limit of a sensor.
-const SENSOR_LIMITS: [(&str, &str); 31] = [
+const SENSOR_LIMITS: &[(&str, &str)] = &[
     (r#""Direction":"greater than","Severity":0,"Value":0"#, "Ok"),
     (
         r#""Direction":"greater than","Severity":0,"Value":0,"Units":5"#,
@@ -107,7 +107,7 @@ const SENSOR_LIMITS: [(&str, &str); 31] = [
 #[test]
 fn first_rules_of_sensor_limits(rt: HostRuntime) -> Result<(), Fail> {
     let alloc = rt.alloc();
-    for (limit, fault) in SENSOR_LIMITS {
+    for &(limit, fault) in SENSOR_LIMITS {
         let members = format!(in alloc; r#""Thresholds":[{{{limit}}}]"#)?;
         assert_sensor(&rt, alloc, members.as_str(), fault)?;
     }

@@ -1,12 +1,12 @@
-use crate::tests::controls::{FAN, TEMP, control_in};
-use crate::tests::reading::{assert_members, assert_with, read};
+use crate::controls::{FAN, TEMP, control_in};
+use crate::reading::{assert_members, assert_with, read};
 use bmc_base::Milli;
 use ctl_face::{PidClass, PidSetting, Setting};
 use std::process::Abort;
 use std::test::Fail;
 
 // The members of PID controllers, and the first rule that they break.
-const PIDS: [(&str, &str); 18] = [
+const PIDS: &[(&str, &str)] = &[
     // members that are missing
     (
         r#""Name":"P","Type":"Pid","Zones":["Z"],"Inputs":["S"],"Outputs":["F"],"OutLimitMin":0,"OutLimitMax":100"#,
@@ -85,14 +85,14 @@ const PIDS: [(&str, &str); 18] = [
 
 #[test]
 fn first_rules_of_pids(rt: HostRuntime) -> Result<(), Fail> {
-    for (members, fault) in PIDS {
+    for &(members, fault) in PIDS {
         assert_members(&rt, rt.alloc(), members, fault)?;
     }
     Ok(())
 }
 
 // What a PID controller of class fan has besides, and the first rule that it breaks.
-const FANS: [(&str, &str); 32] = [
+const FANS: &[(&str, &str)] = &[
     // classes
     (r#""Class":5"#, "WrongKind"),
     (r#""Class":null"#, "WrongKind"),
@@ -136,14 +136,14 @@ const FANS: [(&str, &str); 32] = [
 
 #[test]
 fn first_rules_of_fans(rt: HostRuntime) -> Result<(), Fail> {
-    for (more, fault) in FANS {
+    for &(more, fault) in FANS {
         assert_with(&rt, rt.alloc(), FAN, more, fault)?;
     }
     Ok(())
 }
 
 // What a PID controller of class temp has besides, and the first rule that it breaks.
-const TEMPS: [(&str, &str); 41] = [
+const TEMPS: &[(&str, &str)] = &[
     // outputs need not be percent
     (r#""OutLimitMin":-1,"OutLimitMax":101"#, "Ok"),
     (
@@ -223,7 +223,7 @@ const TEMPS: [(&str, &str); 41] = [
 
 #[test]
 fn first_rules_of_temps(rt: HostRuntime) -> Result<(), Fail> {
-    for (more, fault) in TEMPS {
+    for &(more, fault) in TEMPS {
         assert_with(&rt, rt.alloc(), TEMP, more, fault)?;
     }
     Ok(())

@@ -1,5 +1,5 @@
-use crate::Config;
 use bmc_base::Silent;
+use cfg_json::Config;
 use pat_gate::{PatternMaker, RegexMaker};
 use std::alloc::Global;
 use std::process::Abort;

@@ -1,10 +1,10 @@
-use crate::answers_are_verdicts;
-use crate::tests::reading::{assert_fault, fault_of, repeated};
+use crate::reading::{assert_fault, fault_of, repeated};
+use cfg_json::answers_are_verdicts;
 use pat_gate::RegexMaker;
 use std::test::Fail;
 
 // Documents that are no configuration, whatever their probe says.
-const FAULTS: [(&str, &str); 67] = [
+const FAULTS: &[(&str, &str)] = &[
     // no JSON
     ("", "NotJson"),
     ("{", "NotJson"),
@@ -117,7 +117,7 @@ const FAULTS: [(&str, &str); 67] = [
 ];
 
 // Documents whose probe ends with MATCH_ONE, or does not, with a channel that moves with the place, or without.
-const MATCH_ONE: [(&str, &str); 5] = [
+const MATCH_ONE: &[(&str, &str)] = &[
     (
         r#"{"Name":"A","Probe":["TRUE","MATCH_ONE"],"Exposes":[{"Name":"M","Type":"Mux","Channels":["$bus"]}]}"#,
         "MuxMatchOne",
@@ -144,10 +144,10 @@ const MATCH_ONE: [(&str, &str); 5] = [
 #[test]
 fn first_rules(rt: HostRuntime) -> Result<(), Fail> {
     answers_are_verdicts();
-    for (document, fault) in FAULTS {
+    for &(document, fault) in FAULTS {
         assert_fault(&rt, rt.alloc(), document, fault)?;
     }
-    for (document, fault) in MATCH_ONE {
+    for &(document, fault) in MATCH_ONE {
         assert_fault(&rt, rt.alloc(), document, fault)?;
     }
     Ok(())
@@ -155,12 +155,12 @@ fn first_rules(rt: HostRuntime) -> Result<(), Fail> {
 
 #[test]
 fn texts_in_utf8(rt: HostRuntime) -> Result<(), Fail> {
-    let bytes: [&[u8]; 3] = [
+    let bytes: &[&[u8]] = &[
         b"\xFF",
         b"{\"Name\":\"\xC3\",\"Probe\":\"TRUE\"}",
         b"{\"Name\":\"A\",\"Probe\":\"TRUE\"}\x00",
     ];
-    for document in bytes {
+    for &document in bytes {
         let given = fault_of(rt.alloc(), document, &mut RegexMaker::new(rt.alloc()))?;
         assert_eq!(rt; given.as_str(), "NotJson", "{document:?}");
     }
@@ -168,7 +168,7 @@ fn texts_in_utf8(rt: HostRuntime) -> Result<(), Fail> {
 }
 
 // Documents in three parts: the second may stand so often, and the fault when it stands once more.
-const LIMITS: [(&str, &str, &str, usize, &str); 12] = [
+const LIMITS: &[(&str, &str, &str, usize, &str)] = &[
     (
         r#"{"Name":""#,
         "a",
@@ -260,7 +260,7 @@ const LIMITS: [(&str, &str, &str, usize, &str); 12] = [
 #[test]
 fn limits(rt: HostRuntime) -> Result<(), Fail> {
     let alloc = rt.alloc();
-    for (head, part, tail, most, fault) in LIMITS {
+    for &(head, part, tail, most, fault) in LIMITS {
         let parts = repeated(alloc, part, most)?;
         let document = format!(in alloc; "{head}{parts}{tail}")?;
         assert_fault(&rt, alloc, document.as_str(), "Ok")?;

@@ -1,11 +1,11 @@
-use crate::tests::reading::{assert_members, read};
-use crate::{Body, Counts, Expose};
+use crate::reading::{assert_members, read};
 use bmc_base::Milli;
+use cfg_json::{Body, Counts, Expose};
 use std::process::Abort;
 use std::test::Fail;
 
 // The members of an expose, and the first rule that they break: names and types.
-const EXPOSES: [(&str, &str); 35] = [
+const EXPOSES: &[(&str, &str)] = &[
     (r#""Type":"Mux","Channels":[1]"#, "MissingKey"),
     (r#""Name":5,"Type":"Mux","Channels":[1]"#, "WrongKind"),
     (r#""Name":null,"Type":"Mux","Channels":[1]"#, "WrongKind"),
@@ -60,14 +60,14 @@ const EXPOSES: [(&str, &str); 35] = [
 
 #[test]
 fn first_rules_of_exposes(rt: HostRuntime) -> Result<(), Fail> {
-    for (members, fault) in EXPOSES {
+    for &(members, fault) in EXPOSES {
         assert_members(&rt, rt.alloc(), members, fault)?;
     }
     Ok(())
 }
 
 // The members of a zone.
-const ZONES: [(&str, &str); 15] = [
+const ZONES: &[(&str, &str)] = &[
     (r#""Name":"Z","Type":"Pid.Zone""#, "MissingKey"),
     (
         r#""Name":"Z","Type":"Pid.Zone","MinThermalOutput":0"#,
@@ -129,14 +129,14 @@ const ZONES: [(&str, &str); 15] = [
 
 #[test]
 fn first_rules_of_zones(rt: HostRuntime) -> Result<(), Fail> {
-    for (members, fault) in ZONES {
+    for &(members, fault) in ZONES {
         assert_members(&rt, rt.alloc(), members, fault)?;
     }
     Ok(())
 }
 
 // The channels of a multiplexer.
-const CHANNELS: [(&str, &str); 21] = [
+const CHANNELS: &[(&str, &str)] = &[
     (r#""Name":"M","Type":"Mux""#, "MissingKey"),
     (r#""Name":"M","Type":"Mux","Channels":null"#, "WrongKind"),
     (r#""Name":"M","Type":"Mux","Channels":1"#, "WrongKind"),
@@ -198,7 +198,7 @@ const CHANNELS: [(&str, &str); 21] = [
 
 #[test]
 fn first_rules_of_channels(rt: HostRuntime) -> Result<(), Fail> {
-    for (members, fault) in CHANNELS {
+    for &(members, fault) in CHANNELS {
         assert_members(&rt, rt.alloc(), members, fault)?;
     }
     Ok(())

@@ -1,9 +1,9 @@
-use crate::tests::controls::{FAN, TEMP};
-use crate::tests::reading::assert_with;
+use crate::controls::{FAN, TEMP};
+use crate::reading::assert_with;
 use std::test::Fail;
 
 // The coefficients.
-const COEFFICIENTS: [&str; 4] = [
+const COEFFICIENTS: &[&str] = &[
     "PCoefficient",
     "ICoefficient",
     "DCoefficient",
@@ -11,7 +11,7 @@ const COEFFICIENTS: [&str; 4] = [
 ];
 
 // Coefficients, in millionths: whole numbers, and texts of decimals with up to six places.
-const MICRO: [(&str, &str); 21] = [
+const MICRO: &[(&str, &str)] = &[
     ("0", "Ok"),
     ("-1000000", "Ok"),
     ("-1000001", "OutOfRange"),
@@ -38,8 +38,8 @@ const MICRO: [(&str, &str); 21] = [
 #[test]
 fn first_rules_of_coefficients(rt: HostRuntime) -> Result<(), Fail> {
     let alloc = rt.alloc();
-    for key in COEFFICIENTS {
-        for (value, fault) in MICRO {
+    for &key in COEFFICIENTS {
+        for &(value, fault) in MICRO {
             let more = format!(in alloc; r#""{key}":{value}"#)?;
             assert_with(&rt, alloc, FAN, more.as_str(), fault)?;
             assert_with(&rt, alloc, TEMP, more.as_str(), fault)?;
@@ -49,7 +49,7 @@ fn first_rules_of_coefficients(rt: HostRuntime) -> Result<(), Fail> {
 }
 
 // The members in thousandths.
-const THOUSANDTHS: [&str; 6] = [
+const THOUSANDTHS: &[&str] = &[
     "SetPoint",
     "FFOffCoefficient",
     "ILimitMin",
@@ -59,7 +59,7 @@ const THOUSANDTHS: [&str; 6] = [
 ];
 
 // Other numbers, in thousandths: whole numbers, and texts of decimals with up to three places.
-const MILLI: [(&str, &str); 19] = [
+const MILLI: &[(&str, &str)] = &[
     ("0", "Ok"),
     ("-1000000", "Ok"),
     ("-1000001", "OutOfRange"),
@@ -84,8 +84,8 @@ const MILLI: [(&str, &str); 19] = [
 #[test]
 fn first_rules_of_thousandths(rt: HostRuntime) -> Result<(), Fail> {
     let alloc = rt.alloc();
-    for key in THOUSANDTHS {
-        for (value, fault) in MILLI {
+    for &key in THOUSANDTHS {
+        for &(value, fault) in MILLI {
             let more = format!(in alloc; r#""{key}":{value}"#)?;
             assert_with(&rt, alloc, TEMP, more.as_str(), fault)?;
         }

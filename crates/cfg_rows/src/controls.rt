@@ -1,5 +1,5 @@
-use crate::tests::reading::{assert_with, read};
-use crate::{Body, ControlPart, Counts, Expose, controls_are_valid};
+use crate::reading::{assert_with, read};
+use cfg_json::{Body, ControlPart, Counts, Expose, controls_are_valid};
 use std::process::Abort;
 use std::test::Fail;
 use tmpl::{Rendered, Spot, Template};
@@ -17,7 +17,7 @@ pub(crate) const STEPWISE: &str =
     r#""Name":"P","Type":"Stepwise","Zones":["Z"],"Inputs":["S"],"Reading":[20,30],"Output":[40,50]"#;
 
 // Lists of one zone, and the first rule that they break.
-const ZONE_NAMES: [(&str, &str); 17] = [
+const ZONE_NAMES: &[(&str, &str)] = &[
     (r#"["Z"]"#, "Ok"),
     (r#"["Zone $index"]"#, "Ok"),
     (r#"["$"]"#, "Ok"),
@@ -40,7 +40,7 @@ const ZONE_NAMES: [(&str, &str); 17] = [
 #[test]
 fn first_rules_of_zone_names(rt: HostRuntime) -> Result<(), Fail> {
     let alloc = rt.alloc();
-    for (names, fault) in ZONE_NAMES {
+    for &(names, fault) in ZONE_NAMES {
         let zones = format!(in alloc; r#""Zones":{names}"#)?;
         for members in [FAN, TEMP, STEPWISE] {
             assert_with(&rt, alloc, members, zones.as_str(), fault)?;
@@ -50,7 +50,7 @@ fn first_rules_of_zone_names(rt: HostRuntime) -> Result<(), Fail> {
 }
 
 // Lists of names, and the first rule that they break.
-const NAMES: [(&str, &str); 20] = [
+const NAMES: &[(&str, &str)] = &[
     (r#"["S"]"#, "Ok"),
     (r#"["S","T","S"]"#, "Ok"),
     ("null", "WrongKind"),
@@ -78,7 +78,7 @@ const NAMES: [(&str, &str); 20] = [
 #[test]
 fn first_rules_of_inputs(rt: HostRuntime) -> Result<(), Fail> {
     let alloc = rt.alloc();
-    for (names, fault) in NAMES {
+    for &(names, fault) in NAMES {
         let inputs = format!(in alloc; r#""Inputs":{names}"#)?;
         for members in [FAN, TEMP, STEPWISE] {
             assert_with(&rt, alloc, members, inputs.as_str(), fault)?;
@@ -90,7 +90,7 @@ fn first_rules_of_inputs(rt: HostRuntime) -> Result<(), Fail> {
 #[test]
 fn first_rules_of_outputs(rt: HostRuntime) -> Result<(), Fail> {
     let alloc = rt.alloc();
-    for (names, fault) in NAMES {
+    for &(names, fault) in NAMES {
         let outputs = format!(in alloc; r#""Outputs":{names}"#)?;
         assert_with(&rt, alloc, FAN, outputs.as_str(), fault)?;
         // the outputs of others are not read

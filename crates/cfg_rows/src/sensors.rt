@@ -1,6 +1,6 @@
-use crate::tests::reading::{assert_members, read};
-use crate::{Body, Counts, Expose, SensorPart, settings_are_valid};
+use crate::reading::{assert_members, read};
 use bmc_base::Milli;
+use cfg_json::{Body, Counts, Expose, SensorPart, settings_are_valid};
 use sensor_core::{Limit, SensorSetting};
 use std::alloc::Global;
 use std::process::Abort;
@@ -8,7 +8,7 @@ use std::test::Fail;
 use tmpl::{Spot, Template};
 
 // The bus of a sensor: a number, a text of a number, or one substitution.
-const SENSOR_BUSES: [(&str, &str); 34] = [
+const SENSOR_BUSES: &[(&str, &str)] = &[
     (r#""Bus":0"#, "Ok"),
     (r#""Bus":255"#, "Ok"),
     (r#""Bus":256"#, "OutOfRange"),
@@ -46,7 +46,7 @@ const SENSOR_BUSES: [(&str, &str); 34] = [
 ];
 
 // The factor, the divisor, the offset and the timeout of a sensor.
-const SENSOR_NUMBERS: [(&str, &str); 27] = [
+const SENSOR_NUMBERS: &[(&str, &str)] = &[
     (r#""ScaleNum":-1000000"#, "Ok"),
     (r#""ScaleNum":-1000001"#, "OutOfRange"),
     (r#""ScaleNum":0"#, "Ok"),
@@ -77,7 +77,7 @@ const SENSOR_NUMBERS: [(&str, &str); 27] = [
 ];
 
 // The other members of a sensor.
-const SENSORS: [(&str, &str); 28] = [
+const SENSORS: &[(&str, &str)] = &[
     // an address
     (r#""Address":0"#, "Ok"),
     (r#""Address":127"#, "Ok"),
@@ -125,7 +125,7 @@ pub(crate) fn assert_sensor(
 
 #[test]
 fn first_rules_of_sensor_buses(rt: HostRuntime) -> Result<(), Fail> {
-    for (members, fault) in SENSOR_BUSES {
+    for &(members, fault) in SENSOR_BUSES {
         assert_sensor(&rt, rt.alloc(), members, fault)?;
     }
     Ok(())
@@ -133,7 +133,7 @@ fn first_rules_of_sensor_buses(rt: HostRuntime) -> Result<(), Fail> {
 
 #[test]
 fn first_rules_of_sensor_numbers(rt: HostRuntime) -> Result<(), Fail> {
-    for (members, fault) in SENSOR_NUMBERS {
+    for &(members, fault) in SENSOR_NUMBERS {
         assert_sensor(&rt, rt.alloc(), members, fault)?;
     }
     Ok(())
@@ -141,7 +141,7 @@ fn first_rules_of_sensor_numbers(rt: HostRuntime) -> Result<(), Fail> {
 
 #[test]
 fn first_rules_of_sensors(rt: HostRuntime) -> Result<(), Fail> {
-    for (members, fault) in SENSORS {
+    for &(members, fault) in SENSORS {
         assert_sensor(&rt, rt.alloc(), members, fault)?;
     }
     Ok(())

@@ -1,13 +1,13 @@
-use crate::tests::reading::{fault_of, read};
-use crate::{MOST_CONFIGS, Shelf};
+use crate::reading::{fault_of, read};
 use bmc_base::{Name, Silent, Text};
+use cfg_json::{MOST_CONFIGS, Shelf};
 use pat_gate::{ListMaker, PatternMaker};
 use std::alloc::Global;
 use std::process::Abort;
 use std::test::Fail;
 
 // Documents with the name, the number of patterns, and whether the probe ends with `MATCH_ONE`.
-const PROBES: [(&str, &str, usize, bool); 10] = [
+const PROBES: &[(&str, &str, usize, bool)] = &[
     (r#"{"Name":"A","Probe":"TRUE"}"#, "A", 0, false),
     (
         " { \"Probe\" : \"FALSE\" ,\n\"Name\" : \"A B\" }\r\n",
@@ -62,7 +62,7 @@ const PROBES: [(&str, &str, usize, bool); 10] = [
 
 #[test]
 fn configurations(rt: HostRuntime) -> Result<(), Fail> {
-    for (document, name, patterns, match_one) in PROBES {
+    for &(document, name, patterns, match_one) in PROBES {
         let config = read(rt.alloc(), document.as_bytes())?;
         assert_eq!(rt; config.name().as_str(), name, "{document}");
         assert_eq!(rt; config.patterns().len(), patterns, "{document}");
@@ -73,7 +73,7 @@ fn configurations(rt: HostRuntime) -> Result<(), Fail> {
 }
 
 // The members of two patterns, the fault of a document that has both, and the text that is too large.
-const PATTERNS: [(&str, &str, &str, &str); 9] = [
+const PATTERNS: &[(&str, &str, &str, &str)] = &[
     ("'B': 'RSR'", "'B': 1", "Ok", ""),
     (
         "'B': '('",
@@ -146,7 +146,7 @@ fn is_refused(refused: &[Text], wanted: &str) -> bool {
 #[test]
 fn patterns(rt: HostRuntime) -> Result<(), Fail> {
     let alloc = rt.alloc();
-    for (first, second, fault, refused) in PATTERNS {
+    for &(first, second, fault, refused) in PATTERNS {
         let mut maker = ListMaker::new(alloc, &["HUGE", "WIDE"])?;
         let document = with_patterns(alloc, first, second)?;
         let given = fault_of(alloc, document.as_bytes(), &mut maker)?;
