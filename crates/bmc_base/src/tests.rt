@@ -44,7 +44,7 @@ fn silent_steps_count(rt: HostRuntime) {
 
 #[test]
 fn thousandths_are_printed(rt: HostRuntime) -> Result<(), Fail> {
-    let rows = [
+    let rows = &[
         (0, "0.000"),
         (5, "0.005"),
         (-5, "-0.005"),
@@ -53,7 +53,7 @@ fn thousandths_are_printed(rt: HostRuntime) -> Result<(), Fail> {
         (i64::MAX, "9223372036854775.807"),
         (i64::MIN, "-9223372036854775.808"),
     ];
-    for (number, text) in rows {
+    for &(number, text) in rows {
         assert_eq!(rt; format!(in rt.alloc(); "{}", Milli(number))?.as_str(), text);
     }
     Ok(())
@@ -63,13 +63,13 @@ fn thousandths_are_printed(rt: HostRuntime) -> Result<(), Fail> {
 fn names_are_made(rt: HostRuntime) -> Result<(), Fail> {
     let long = [b'n'; 65];
     let long = str::from_utf8(&long)?;
-    let rows = [
+    let rows = &[
         ("", Some(NameFault::Empty)),
         ("CPU 1 Temp", None),
         (&long[..64], None),
         (long, Some(NameFault::TooLong)),
     ];
-    for (text, fault) in rows {
+    for &(text, fault) in rows {
         match Name::new(text) {
             Ok(name) => assert_eq!(rt; (name.copied().as_str(), None), (text, fault)),
             Err(other) => assert_eq!(rt; Some(other), fault),

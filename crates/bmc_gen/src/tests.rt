@@ -56,7 +56,7 @@ fn framed(alloc: Global, chosen: &str) -> Result<String, AllocError> {
 fn short_scripts(rt: HostRuntime) -> Result<(), Fail> {
     // No line; each kind of line at both ends of its choices; a place that is filled, emptied and
     // filled again; and the first lines of seed 7. The record behind a plug is left out.
-    let rows = [
+    let rows = &[
         (7, 0, ""),
         (2_147_483_647, 0, ""),
         (0, 1, "plug 1 81 \n"),
@@ -93,7 +93,7 @@ fn short_scripts(rt: HostRuntime) -> Result<(), Fail> {
             ),
         ),
     ];
-    for (seed, n, chosen) in rows {
+    for &(seed, n, chosen) in rows {
         let script = sample(&rt, rt.alloc(), seed, n)?;
         let wanted = framed(rt.alloc(), chosen)?;
         assert_eq!(rt; script.as_slice(), wanted.as_bytes(), "of seed {seed}");
@@ -110,7 +110,7 @@ fn fnv_1a(bytes: &[u8]) -> u64 {
 
 #[test]
 fn long_scripts(rt: HostRuntime) -> Result<(), Fail> {
-    let rows = [
+    let rows = &[
         (7, 60, 1423, 0xf8f8_6603_26d3_f69b),
         (7, 1000, 13_829, 0x99ca_a41d_b6ca_b55f),
         (7, 20_000, 269_093, 0x122a_efed_4a4e_82e3),
@@ -121,7 +121,7 @@ fn long_scripts(rt: HostRuntime) -> Result<(), Fail> {
         (2_147_483_647, 1000, 14_336, 0x74e1_a6be_048d_58fe),
         (2_147_483_647, 100_000, 1_340_448, 0x7490_7884_4ab5_6569),
     ];
-    for (seed, n, length, hash) in rows {
+    for &(seed, n, length, hash) in rows {
         let script = sample(&rt, rt.alloc(), seed, n)?;
         let bytes = script.as_slice();
         assert_eq!(rt; bytes.len(), length, "of seed {seed}");

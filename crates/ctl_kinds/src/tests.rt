@@ -59,7 +59,7 @@ macro_rules! steps {
     };
 }
 
-const PIDS: [(PidSetting, &[(Sample, CtlState)]); 11] = [
+const PIDS: &[(PidSetting, &[(Sample, CtlState)])] = &[
     // a temperature with slewed rises
     (
         PidSetting {
@@ -310,7 +310,7 @@ struct StepCase {
     steps: &'static [(Sample, CtlState)],
 }
 
-const STEPS: [StepCase; 6] = [
+const STEPS: &[StepCase] = &[
     // two rows
     StepCase {
         rows: &[(20_000, 2_000_000), (40_000, 4_000_000)],
@@ -526,7 +526,7 @@ fn replay<C: Controller>(
 fn pid_boxes(rt: HostRuntime) -> Result<(), Fail> {
     let mut own = PidBox::new();
     let mut boxed: Box<dyn Controller> = Box::new(rt.alloc(), PidBox::new())?;
-    for (setting, steps) in &PIDS {
+    for (setting, steps) in PIDS {
         check_pid(&rt, setting);
         let setting = Setting::Pid(*setting);
         replay(&rt, &mut own, &setting, steps);
@@ -565,7 +565,7 @@ fn step_setting(rt: &impl Abort, case: &StepCase) -> StepSetting {
 fn step_boxes(rt: HostRuntime) -> Result<(), Fail> {
     let mut own = StepBox::new();
     let mut boxed: Box<dyn Controller> = Box::new(rt.alloc(), StepBox::new())?;
-    for case in &STEPS {
+    for case in STEPS {
         let setting = step_setting(&rt, case);
         check_step(&rt, &setting);
         let setting = Setting::Stepwise(setting);

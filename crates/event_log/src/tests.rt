@@ -9,7 +9,7 @@ use std::test::Fail;
 // How many errors are kept, the classes of the entries that are added (e for an error, i for an
 // info), and what is listed: the class and the id of each entry. The listings come from a program
 // in Python that counts, for each entry, the later ones of its class.
-const ROWS: [(u32, &str, &str); 42] = [
+const ROWS: &[(u32, &str, &str)] = &[
     (1, "", ""),
     (1, "e", "e1"),
     (1, "i", "i1"),
@@ -195,7 +195,7 @@ fn listing_of(
 
 #[test]
 fn latest_entries(rt: HostRuntime) -> Result<(), Fail> {
-    for (error_cap, classes, wanted) in &ROWS {
+    for (error_cap, classes, wanted) in ROWS {
         let text = listing_of(&rt, rt.alloc(), *error_cap, classes)?;
         assert_eq!(rt; text.as_str(), *wanted, "{error_cap} {classes}");
     }

@@ -239,7 +239,7 @@ macro_rules! texts {
 }
 
 // Types and bytes of a field, and its text.
-const TEXTS: [(&[(u8, bool)], &[u8], &str); 53] = texts! {
+const TEXTS: &[(&[(u8, bool)], &[u8], &str)] = &texts! {
     BINARY &[0x0A, 0xFF] => "0aff";
     BINARY &[] => "";
     BINARY b"A" => "41";
@@ -336,13 +336,13 @@ fn languages(rt: HostRuntime) {
 
 #[test]
 fn texts(rt: HostRuntime) {
-    for (types, bytes, wanted) in TEXTS {
+    for &(types, bytes, wanted) in TEXTS {
         assert_text(&rt, types, bytes, wanted);
     }
 }
 
 // Names and their texts.
-const NAMES: [(FieldName, &str); 19] = rows! {
+const NAMES: &[(FieldName, &str)] = &rows! {
     FieldName::ChassisType => "CHASSIS_TYPE";
     FieldName::ChassisPartNumber => "CHASSIS_PART_NUMBER";
     FieldName::ChassisSerialNumber => "CHASSIS_SERIAL_NUMBER";
@@ -366,13 +366,13 @@ const NAMES: [(FieldName, &str); 19] = rows! {
 
 #[test]
 fn names(rt: HostRuntime) -> Result<(), Fail> {
-    for (name, text) in NAMES {
+    for &(name, text) in NAMES {
         assert_eq!(rt; name.text().as_str(), text);
         let shown = format!(in rt.alloc(); "{name}")?;
         assert_eq!(rt; shown.as_str(), text);
         assert_eq!(rt; FieldName::read(text), Some(name));
     }
-    let others = [
+    let others = &[
         "",
         "BOARD",
         "board_part_number",
@@ -385,7 +385,7 @@ fn names(rt: HostRuntime) -> Result<(), Fail> {
         "BOARD_INFO_AM65537",
         "BOARD_INFO_AM1 ",
     ];
-    for text in others {
+    for &text in others {
         assert_eq!(rt; FieldName::read(text), None, "at {text}");
     }
     let fault = FruFault::AreaOutside(BOARD);

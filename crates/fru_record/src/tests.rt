@@ -67,7 +67,7 @@ macro_rules! records {
 }
 
 // Bytes, and their fields.
-const RECORDS: [(&[u8], &[(&str, &str)]); 28] = records! {
+const RECORDS: &[(&[u8], &[(&str, &str)])] = &records! {
     BOARD => BOARD_FIELDS;
     // no area
     b"\x01\x00\x00\x00\x00\x00\x00\xFF" => fields![];
@@ -201,7 +201,7 @@ fn records(rt: HostRuntime) -> Result<(), Fail> {
     one_record();
     worked_records();
     worked_dates();
-    for (bytes, wanted) in RECORDS {
+    for &(bytes, wanted) in RECORDS {
         assert_record(&rt, rt.alloc(), bytes, wanted)?;
     }
     Ok(())
@@ -214,7 +214,7 @@ macro_rules! refusals {
 }
 
 // Bytes, and the first rule that they break.
-const REFUSALS: [(&[u8], FruFault); 12] = refusals! {
+const REFUSALS: &[(&[u8], FruFault)] = &refusals! {
     b"\x01\x00\x00\x01\x00\x00\x00\xFE\x01\x00\x00\x00\x00\x00\xC1\x3E" => AreaLength(Board);
     b"\x01\x00\x00\x01\x00\x00\x00\xFE\x02\x00\x00\x00\x00\x00\xC1\x3D" => AreaVersion(Board);
     b"\x01\x00\x01\x00\x00\x00\x00\xFE\x01\x01\x17\xC0\xC0\xC0\xC0\xE7" => NoEnd(Chassis);
@@ -239,7 +239,7 @@ fn refused(rt: HostRuntime) {
     faults_name_rules();
     field_faults_by_positions();
     worked_faults();
-    for (bytes, fault) in REFUSALS {
+    for &(bytes, fault) in REFUSALS {
         assert_fault(&rt, rt.alloc(), bytes, fault);
     }
 }
@@ -300,17 +300,17 @@ fn assert_text(rt: &impl Abort, given: Option<&str>, wanted: Option<&str>, name:
 #[test]
 fn fields_by_name(rt: HostRuntime) -> Result<(), Fail> {
     let record = FruRecord::decode(rt.alloc(), WHOLE)?;
-    let names = [
+    let names = &[
         (FieldName::BoardSerialNumber, Some("S1")),
         (FieldName::Custom(Area::Board, 1), Some("Z")),
         (FieldName::BoardPartNumber, Some("")),
         (FieldName::Custom(Area::Board, 2), None),
         (FieldName::Custom(Area::Product, 1), None),
     ];
-    for (name, text) in names {
+    for &(name, text) in names {
         assert_text(&rt, record.field_named(name), text, "a name");
     }
-    let rows = [
+    let rows = &[
         ("BOARD_SERIAL_NUMBER", Some("S1")),
         ("BOARD_INFO_AM1", Some("Z")),
         ("BOARD_PART_NUMBER", Some("")),
@@ -320,7 +320,7 @@ fn fields_by_name(rt: HostRuntime) -> Result<(), Fail> {
         ("board_info_am1", None),
         ("", None),
     ];
-    for (name, text) in rows {
+    for &(name, text) in rows {
         assert_text(&rt, record.field(name), text, name);
     }
     Ok(())
@@ -387,7 +387,7 @@ macro_rules! boards {
 }
 
 // Minutes and named texts of a board, and its record or why there is none.
-const BOARDS: [(u32, &[&str], Result<&[u8], BuildFault>); 17] = boards! {
+const BOARDS: &[(u32, &[&str], Result<&[u8], BuildFault>)] = &boards! {
     0, &["ACM", "RSR1", "S1", "", ""] => Ok(BOARD);
     0xFF_FFFF, &["", "", "", "", ""] =>
         Ok(b"\x01\x00\x00\x01\x00\x00\x00\xFE\x01\x02\x00\xFF\xFF\xFF\xC0\xC0\xC0\xC0\xC0\xC1\x00\x00\x00\x7F");
@@ -420,7 +420,7 @@ fn built_boards(rt: HostRuntime) -> Result<(), Fail> {
     worked_parts();
     worked_build_faults();
     let alloc = rt.alloc();
-    for (minutes, named, wanted) in BOARDS {
+    for &(minutes, named, wanted) in BOARDS {
         assert_eq!(rt; named.len(), 5);
         let parts = board_of(alloc, minutes, named, FieldTexts::new(alloc)?)?;
         assert_built(&rt, rt.alloc(), &parts, wanted);
@@ -456,12 +456,12 @@ fn built_whole(rt: HostRuntime) -> Result<(), Fail> {
 fn built_sizes(rt: HostRuntime) -> Result<(), Fail> {
     let alloc = rt.alloc();
     // custom texts of 63 characters, and the size of the record or the fault
-    let rows = [
+    let rows = &[
         (0, Ok(152)),
         (29, Ok(2008)),
         (30, Err(BuildFault::AreaTooLong)),
     ];
-    for (count, wanted) in rows {
+    for &(count, wanted) in rows {
         let custom = repeated(alloc, LONG, count)?;
         let parts = board_of(alloc, 0, &[LONG, LONG, "", "", ""], custom)?;
         let size = build(alloc, &parts).map(|bytes| bytes.as_slice().len());
@@ -502,13 +502,13 @@ fn bare_board(alloc: Global) -> Result<BoardPart, OutOfMemory>
 fn built_behind_long(rt: HostRuntime) -> Result<(), Fail> {
     let alloc = rt.alloc();
     // letters, whether a board area follows, and the size of the record or the fault
-    let rows = [
+    let rows = &[
         (50, false, Ok(2048)),
         (51, false, Err(BuildFault::AreaTooLong)),
         (42, true, Ok(2056)),
         (43, true, Err(BuildFault::RecordTooLong)),
     ];
-    for (letters, followed, wanted) in rows {
+    for &(letters, followed, wanted) in rows {
         let board = if followed {
             Some(bare_board(alloc)?)
         } else {

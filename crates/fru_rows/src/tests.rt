@@ -87,7 +87,7 @@ fn assert_buses(rt: &impl Abort, rows: &FruRows, all: &[u8], busy: &[u8]) {
 fn entries_come_by_place_from_both_lists(rt: HostRuntime) -> Result<(), Fail> {
     let mut rows = FruRows::new(rt.alloc())?;
     assert_buses(&rt, &rows, &[], &[]);
-    let plugs = [
+    let plugs = &[
         (9, Known::Hit),
         (4, Known::Nothing),
         (255, Known::Channel),
@@ -97,7 +97,7 @@ fn entries_come_by_place_from_both_lists(rt: HostRuntime) -> Result<(), Fail> {
         (8, Known::Nothing),
         (1, Known::Hit),
     ];
-    for (bus, known) in plugs {
+    for &(bus, known) in plugs {
         plug(&mut rows, rt.alloc(), bus, known)?;
     }
     assert_buses(&rt, &rows, &[0, 1, 4, 7, 8, 9, 255], &[1, 7, 9, 255]);

@@ -228,7 +228,7 @@ fn rows_at(alloc: Global, positions: &[usize]) -> Result<Vec<Row<'static>>, Fail
 #[test]
 fn live_items_go_and_come(rt: HostRuntime) -> Result<(), Fail> {
     // what is before and after, and of what is live what goes and what comes
-    let rows = [
+    let rows = &[
         (&ROWS[..], &ROWS[..], &[][..], &[][..]),
         (&[], &ROWS[2..7], &[], &[ROWS[2], ROWS[3], ROWS[5], ROWS[6]]),
         // a name goes with its holder, and comes with the next item
@@ -237,7 +237,7 @@ fn live_items_go_and_come(rt: HostRuntime) -> Result<(), Fail> {
         (&ROWS[..3], &ROWS[..2], &[], &[]),
         (&ROWS[..4], &ROWS[2..5], &[ROWS[0], ROWS[1]], &[ROWS[2]]),
     ];
-    for (before, after, gone, new) in rows {
+    for &(before, after, gone, new) in rows {
         assert_change(&rt, rt.alloc(), before, after, gone, new)?;
         assert_change(&rt, rt.alloc(), after, before, new, gone)?;
     }
@@ -247,7 +247,7 @@ fn live_items_go_and_come(rt: HostRuntime) -> Result<(), Fail> {
 #[test]
 fn controllers_are_live_where_their_zone_is_held(rt: HostRuntime) -> Result<(), Fail> {
     // what is before and after, and of what is live what goes and what comes
-    let rows = [
+    let rows = &[
         // their zone comes
         (&ROWS[7..], &ROWS[1..], &[][..], &[1, 2, 3, 5, 6, 7, 8][..]),
         // no zone has this name
@@ -257,7 +257,7 @@ fn controllers_are_live_where_their_zone_is_held(rt: HostRuntime) -> Result<(), 
         // one goes, and its zone stays
         (&ROWS[1..], &ROWS[1..8], &[8], &[]),
     ];
-    for (before, after, gone, new) in rows {
+    for &(before, after, gone, new) in rows {
         let gone = rows_at(rt.alloc(), gone)?;
         let new = rows_at(rt.alloc(), new)?;
         assert_change(&rt, rt.alloc(), before, after, &gone, &new)?;

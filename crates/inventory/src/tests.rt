@@ -34,7 +34,7 @@ fn boards_keep_their_indexes(rt: HostRuntime) -> Result<(), Fail> {
     let mut keep = IndexKeep::new(rt.alloc())?;
     keep.extend(rt.alloc(), &first)?;
     keep.extend(rt.alloc(), &second)?;
-    let rows = [
+    let rows = &[
         (0, 1, Some(1)),
         (0, 20, Some(2)),
         (0, NOWHERE, Some(3)),
@@ -45,7 +45,7 @@ fn boards_keep_their_indexes(rt: HostRuntime) -> Result<(), Fail> {
         (1, 1, None),
         (4, NOWHERE, None),
     ];
-    for (config, bus, index) in rows {
+    for &(config, bus, index) in rows {
         assert_eq!(rt; keep.index_of(&key(config, bus)), index);
     }
     Ok(())
@@ -124,7 +124,7 @@ fn a_fru_comes_beside_any_others(rt: HostRuntime) -> Result<(), Fail> {
 
 #[test]
 fn a_fru_comes_alone(rt: HostRuntime) -> Result<(), Fail> {
-    let rows = [
+    let rows = &[
         (None, false, Some(NOWHERE), Some(5)),
         (None, true, Some(NOWHERE), Some(5)),
         (Some(7), false, None, Some(5)),
@@ -135,7 +135,7 @@ fn a_fru_comes_alone(rt: HostRuntime) -> Result<(), Fail> {
     let Some(place) = Place::new(5, 80) else {
         return Err(Fail::from("no bus"));
     };
-    for (first, match_one, gone, new) in rows {
+    for &(first, match_one, gone, new) in rows {
         let first = Place::new(first.unwrap_or(NOWHERE), 80);
         let swap = swap_beside(2, place, first, match_one);
         assert_eq!(rt; swap.gone, key_if(gone));
@@ -342,7 +342,7 @@ pub(crate) const IDLE: Setting = Setting::Pid(PidSetting {
 type Texts<'t> = (&'t str, &'t str, &'t [&'t str], &'t [&'t str]);
 
 // Controllers, and as what each is rendered on bus 5, at index 3 and without a record; nothing where it is no item.
-const CONTROLS: [(Texts<'static>, &str); 6] = [
+const CONTROLS: &[(Texts<'static>, &str)] = &[
     (
         (
             "Pid $index",
@@ -394,7 +394,7 @@ fn control(alloc: Global, texts: Texts<'_>) -> Result<Expose, Fail> {
 #[test]
 fn a_controller_has_all_its_names(rt: HostRuntime) -> Result<(), Fail> {
     let alloc = rt.alloc();
-    for (texts, wanted) in CONTROLS {
+    for &(texts, wanted) in CONTROLS {
         let exposes = [control(alloc, texts)?];
         let mut items = Vec::new(alloc);
         append_items(alloc, &mut items, &board(0, 5, 3), &exposes, None)?;

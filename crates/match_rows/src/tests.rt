@@ -93,7 +93,7 @@ const MOVING: &[u8] = br#"{"Name":"W",
         {"Name":"F","Type":"Fan"},{"Name":"Y","Type":"Mux","Channels":["$bus + 20"]}]}"#;
 
 // Places, and the buses to which its channels lead from there: what is no bus is left out.
-const BUSES: [((u32, u32), &[u8]); 4] = [
+const BUSES: &[((u32, u32), &[u8])] = &[
     ((1, 80), &[20, 21]),
     ((2, 63), &[3, 252, 22]),
     ((1, 59), &[236, 21]),
@@ -108,7 +108,7 @@ fn channels_move(rt: HostRuntime) -> Result<(), Fail> {
     if shelf.position(&config.name()).is_none() && shelf.len() == 0 {
         shelf.add(alloc, config)?;
     }
-    for ((bus, address), buses) in BUSES {
+    for &((bus, address), buses) in BUSES {
         let place = Place::new(bus, address).expect(&rt, "it is in range");
         let fru = FruRecord::decode(alloc, BOARD)?;
         let entry = make(alloc, place, fru, &shelf, &mut Steps::new(Silent))?;

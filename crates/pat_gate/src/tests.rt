@@ -5,7 +5,7 @@ use std::process::Abort;
 use std::test::Fail;
 
 // Plain patterns, texts, and whether Python's `re.search` finds the one in the other.
-const PLAIN: [(&str, &str, bool); 31] = [
+const PLAIN: &[(&str, &str, bool)] = &[
     ("RSR", "XRSR1", true),
     ("RSR", "RSR", true),
     ("RSR", "RS", false),
@@ -43,7 +43,7 @@ const PLAIN: [(&str, &str, bool); 31] = [
 ];
 
 // The same of patterns with operators.
-const OTHERS: [(&str, &str, bool); 65] = [
+const OTHERS: &[(&str, &str, bool)] = &[
     // no characters of their own
     ("", "", true),
     ("", "any", true),
@@ -120,7 +120,7 @@ const OTHERS: [(&str, &str, bool); 65] = [
 ];
 
 // The same of patterns with operators and `^`.
-const AT_START: [(&str, &str, bool); 38] = [
+const AT_START: &[(&str, &str, bool)] = &[
     // with operators behind
     ("^R.R", "RSR1", true),
     ("^R.R", "XRSR", false),
@@ -166,7 +166,7 @@ const AT_START: [(&str, &str, bool); 38] = [
 ];
 
 // The same where Python differs, by the documentation of the regex crate.
-const DOCUMENTED: [(&str, &str, bool); 19] = [
+const DOCUMENTED: &[(&str, &str, bool)] = &[
     ("RSR$", "RSR\n", false),
     ("^RSR$", "RSR\n", false),
     ("R.R$", "RSR\n", false),
@@ -190,7 +190,7 @@ const DOCUMENTED: [(&str, &str, bool); 19] = [
 ];
 
 // Texts of which the regex crate says that they are no patterns.
-const BAD: [&str; 18] = [
+const BAD: &[&str] = &[
     "(",
     ")",
     "RSR)",
@@ -243,28 +243,28 @@ fn assert_found(rt: &impl Abort, alloc: Global, rows: &[(&str, &str, bool)]) {
 
 #[test]
 fn finds_plain_patterns(rt: HostRuntime) {
-    assert_found(&rt, rt.alloc(), &PLAIN);
+    assert_found(&rt, rt.alloc(), PLAIN);
 }
 
 #[test]
 fn finds_other_patterns(rt: HostRuntime) {
-    assert_found(&rt, rt.alloc(), &OTHERS);
+    assert_found(&rt, rt.alloc(), OTHERS);
 }
 
 #[test]
 fn finds_patterns_at_the_start(rt: HostRuntime) {
-    assert_found(&rt, rt.alloc(), &AT_START);
+    assert_found(&rt, rt.alloc(), AT_START);
 }
 
 #[test]
 fn finds_what_the_documentation_says(rt: HostRuntime) {
-    assert_found(&rt, rt.alloc(), &DOCUMENTED);
+    assert_found(&rt, rt.alloc(), DOCUMENTED);
 }
 
 #[test]
 fn refuses_what_is_no_pattern(rt: HostRuntime) {
     let mut maker = RegexMaker::new(rt.alloc());
-    for text in BAD {
+    for &text in BAD {
         assert_eq!(rt;
             found(rt.alloc(), &mut maker, text, ""),
             Err(MakeFault::PatternSyntax),
@@ -304,14 +304,14 @@ fn groups_nest_up_to_a_limit(rt: HostRuntime) -> Result<(), Fail> {
 fn a_maker_counts_what_is_too_large_alone(rt: HostRuntime) {
     let alloc = rt.alloc();
     let mut maker = RegexMaker::new(alloc);
-    let rows: [(&str, Result<bool, MakeFault>, &[&str]); 5] = [
+    let rows: &[(&str, Result<bool, MakeFault>, &[&str])] = &[
         ("(RSR1)", Ok(true), &[]),
         (HUGE, Err(MakeFault::PatternTooLarge), &[HUGE]),
         ("(", Err(MakeFault::PatternSyntax), &[HUGE]),
         ("^RSR1$", Ok(true), &[HUGE]),
         (HUGE, Err(MakeFault::PatternTooLarge), &[HUGE, HUGE]),
     ];
-    for (pattern, wanted, refused) in rows {
+    for &(pattern, wanted, refused) in rows {
         assert_eq!(rt;
             found(alloc, &mut maker, pattern, "RSR1"),
             wanted,
@@ -325,7 +325,7 @@ fn a_maker_counts_what_is_too_large_alone(rt: HostRuntime) {
 fn a_list_is_refused(rt: HostRuntime) -> Result<(), Fail> {
     let alloc = rt.alloc();
     let mut maker = ListMaker::new(alloc, &["^RSR1$", "("])?;
-    let rows: [(&str, Result<bool, MakeFault>, &[&str]); 6] = [
+    let rows: &[(&str, Result<bool, MakeFault>, &[&str])] = &[
         ("RSR1", Ok(true), &[]),
         ("^RSR1$", Err(MakeFault::PatternTooLarge), &["^RSR1$"]),
         ("(", Err(MakeFault::PatternTooLarge), &["^RSR1$", "("]),
@@ -337,7 +337,7 @@ fn a_list_is_refused(rt: HostRuntime) -> Result<(), Fail> {
             &["^RSR1$", "(", HUGE],
         ),
     ];
-    for (pattern, wanted, refused) in rows {
+    for &(pattern, wanted, refused) in rows {
         assert_eq!(rt;
             found(alloc, &mut maker, pattern, "RSR1"),
             wanted,

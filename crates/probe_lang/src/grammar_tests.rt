@@ -74,7 +74,7 @@ fn assert_refused(rt: &impl Abort, alloc: Global, texts: &[&str], at: u32) {
 
 #[test]
 fn probes(rt: HostRuntime) -> Result<(), Fail> {
-    let rows: [(&[&str], &str, &str); 12] = [
+    let rows: &[(&[&str], &str, &str)] = &[
         (&["TRUE"], "TRUE ", ""),
         (&["  FALSE "], "FALSE ", ""),
         (&["FOUND('A B')"], "'A B' ", ""),
@@ -126,7 +126,7 @@ fn probes(rt: HostRuntime) -> Result<(), Fail> {
             "[][][]",
         ),
     ];
-    for (texts, words, patterns) in rows {
+    for &(texts, words, patterns) in rows {
         assert_read(&rt, rt.alloc(), texts, words, patterns)?;
     }
     Ok(())
@@ -134,7 +134,7 @@ fn probes(rt: HostRuntime) -> Result<(), Fail> {
 
 #[test]
 fn words_in_wrong_places(rt: HostRuntime) {
-    let rows: [(&[&str], u32); 16] = [
+    let rows: &[(&[&str], u32)] = &[
         (&[], 0),
         (&["AND"], 0),
         (&["MATCH_ONE"], 0),
@@ -152,14 +152,14 @@ fn words_in_wrong_places(rt: HostRuntime) {
         (&["TRUE", "TRUE", "true"], 1),
         (&["TRUE", "AND", "TRUE", "FALSE", "AND"], 3),
     ];
-    for (texts, at) in rows {
+    for &(texts, at) in rows {
         assert_refused(&rt, rt.alloc(), texts, at);
     }
 }
 
 #[test]
 fn texts_that_are_no_word(rt: HostRuntime) {
-    let words = [
+    let words = &[
         "",
         " ",
         "true",
@@ -188,7 +188,7 @@ fn texts_that_are_no_word(rt: HostRuntime) {
         "xyz.openbmc_project.Inventory({})",
         "FruDevice({})",
     ];
-    for word in words {
+    for &word in words {
         assert_refused(&rt, rt.alloc(), &[word], 0);
         assert_refused(&rt, rt.alloc(), &["TRUE", word, "TRUE"], 1);
         assert_refused(&rt, rt.alloc(), &["TRUE", "AND", word, "MATCH_ONE"], 2);
@@ -202,7 +202,7 @@ fn pattern(alloc: Global, inner: &str) -> Result<String, Fail> {
 
 #[test]
 fn members(rt: HostRuntime) -> Result<(), Fail> {
-    let rows = [
+    let rows = &[
         (r"'A': '\d+'", r"[A~\d+;]"),
         (r"'A': '\\'", r"[A~\\;]"),
         (r"'A': '\n'", r"[A~\n;]"),
@@ -220,7 +220,7 @@ fn members(rt: HostRuntime) -> Result<(), Fail> {
         ("\"A\": \"x\"", "[A~x;]"),
         ("'A': '})({'", "[A~})({;]"),
     ];
-    for (inner, members) in rows {
+    for &(inner, members) in rows {
         let word = pattern(rt.alloc(), inner)?;
         assert_read(&rt, rt.alloc(), &[word.as_str()], "0 ", members)?;
     }
@@ -229,7 +229,7 @@ fn members(rt: HostRuntime) -> Result<(), Fail> {
 
 #[test]
 fn wrong_members(rt: HostRuntime) -> Result<(), Fail> {
-    let rows = [
+    let rows = &[
         "'A'",
         "'A': ",
         "'A': 1,",
@@ -250,7 +250,7 @@ fn wrong_members(rt: HostRuntime) -> Result<(), Fail> {
         "'A': 1}, {'B': 2",
         "'A': 1} {",
     ];
-    for inner in rows {
+    for &inner in rows {
         let word = pattern(rt.alloc(), inner)?;
         assert_refused(&rt, rt.alloc(), &[word.as_str()], 0);
     }

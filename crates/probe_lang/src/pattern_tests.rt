@@ -22,7 +22,7 @@ use Wanted::{Number, Text as Re};
 type Row = (&'static [(&'static str, Wanted)], bool);
 
 // Members, and whether they match the record at address 80 of bus 12.
-const MATCHES: [Row; 43] = [
+const MATCHES: &[Row] = &[
     (&[], true),
     // within a text, and the whole of it
     (&[("BOARD_PRODUCT_NAME", Re("RSR1"))], true),
@@ -139,14 +139,14 @@ fn assert_matches(rt: &impl Abort, alloc: Global, rows: &[Row]) -> Result<(), Fa
 
 #[test]
 fn patterns_match(rt: HostRuntime) -> Result<(), Fail> {
-    assert_matches(&rt, rt.alloc(), &MATCHES)
+    assert_matches(&rt, rt.alloc(), MATCHES)
 }
 
 // A text that the maker is told to refuse as too large.
 const LARGE: &str = "^RSR1$";
 
 // Texts that the grammar does not read.
-const BAD: [&str; 6] = ["(?=a)", "(?!a)", "(?<=a)", "\\1", "a{,3}", "("];
+const BAD: &[&str] = &["(?=a)", "(?!a)", "(?<=a)", "\\1", "a{,3}", "("];
 
 fn is_bad<T>(made: &Result<T, PatternFault>, wanted: &str) -> bool {
     match made {
@@ -166,7 +166,7 @@ fn is_too_large<T>(made: &Result<T, PatternFault>, wanted: &str) -> bool {
 fn patterns_are_refused(rt: HostRuntime) -> Result<(), Fail> {
     let alloc = rt.alloc();
     let mut maker = ListMaker::new(alloc, &[LARGE])?;
-    for bad in BAD {
+    for &bad in BAD {
         let alone = made(alloc, &[("NAME", Re(bad))], &mut maker);
         assert!(rt; is_bad(&alone, bad), "{bad}");
         let second = made(alloc, &[("BUS", Re("1")), ("BUS", Re(bad))], &mut maker);

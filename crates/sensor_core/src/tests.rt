@@ -61,7 +61,7 @@ macro_rules! rows {
 }
 
 // What is shown comes from a search through all rows so far, in Python.
-const ROWS: [Row; 75] = rows! {
+const ROWS: &[Row] = &rows! {
     None, 0 => None, false, None, true, 0b0000_0000;
     None, 0 => None, false, None, true, 0b0000_0000;
     None, 0 => None, false, None, true, 0b0000_0000;
@@ -184,7 +184,7 @@ fn scale(num: i64, den: i64, offset: i64) -> SensorSetting {
 
 #[test]
 fn raw_numbers_have_values(rt: HostRuntime) {
-    let rows = [
+    let rows = &[
         (1, 1, 0, 41_000, Ok(41_000)),
         (1000, 1, 0, 2000, Ok(2_000_000)),
         (1, 1, 50, 0, Ok(50)),
@@ -216,7 +216,7 @@ fn raw_numbers_have_values(rt: HostRuntime) {
         (1, 1, 0, i64::MAX, Err(ReadingRange)),
         (1, 1, 0, i64::MIN, Err(ReadingRange)),
     ];
-    for (num, den, offset, raw, wanted) in rows {
+    for &(num, den, offset, raw, wanted) in rows {
         let setting = scale(num, den, offset);
         assert!(rt; setting.is_valid());
         let mut sensor = Sensor::new(setting);
@@ -262,7 +262,7 @@ fn with_number(number: Number) -> SensorSetting {
 #[test]
 fn settings_are_valid(rt: HostRuntime) {
     use Number::*;
-    let good = [
+    let good = &[
         Num(1_000_000),
         Num(-1_000_000),
         Den(1),
@@ -276,10 +276,10 @@ fn settings_are_valid(rt: HostRuntime) {
         Value(-1_000_000_000),
         Hysteresis(1_000_000_000),
     ];
-    for number in good {
+    for &number in good {
         assert!(rt; with_number(number).is_valid(), "at {number:?}");
     }
-    let bad = [
+    let bad = &[
         Num(1_000_001),
         Num(-1_000_001),
         Den(0),
@@ -295,7 +295,7 @@ fn settings_are_valid(rt: HostRuntime) {
         Hysteresis(-1),
         Hysteresis(1_000_000_001),
     ];
-    for number in bad {
+    for &number in bad {
         assert!(rt; !with_number(number).is_valid(), "at {number:?}");
     }
     // A limit that is not in use may be any.

@@ -149,7 +149,7 @@ $BOARD_PART_NUMBER * 0 => (skip)
 CPU => CPU";
 
 // Templates of numbers, and the number that each is up to a maximum, with the record.
-const NUMBERS: [(&str, u32, Option<u32>); 30] = [
+const NUMBERS: &[(&str, u32, Option<u32>)] = &[
     ("0", 0, Some(0)),
     ("12", 12, Some(12)),
     ("12", 11, None),
@@ -183,7 +183,7 @@ const NUMBERS: [(&str, u32, Option<u32>); 30] = [
 ];
 
 // Texts, and the number that each is without substitutions.
-const FIXED: [(&str, Option<u32>); 37] = [
+const FIXED: &[(&str, Option<u32>)] = &[
     ("0", Some(0)),
     ("007", Some(7)),
     ("255", Some(255)),
@@ -224,7 +224,7 @@ const FIXED: [(&str, Option<u32>); 37] = [
 ];
 
 // Templates, whether each is fixed, whether it is one substitution, and whether it uses the index.
-const KINDS: [(&str, bool, bool, bool); 16] = [
+const KINDS: &[(&str, bool, bool, bool)] = &[
     ("CPU", true, false, false),
     ("$", true, false, false),
     ("$5 index", true, false, false),
@@ -245,7 +245,7 @@ const KINDS: [(&str, bool, bool, bool); 16] = [
 
 // Texts by length: the letter, how often it stands there, what stands behind it, and how many
 // bytes the name has that it comes to.
-const LENGTHS: [(&str, usize, &str, Option<usize>); 14] = [
+const LENGTHS: &[(&str, usize, &str, Option<usize>)] = &[
     ("x", 64, "", Some(64)),
     ("x", 65, "", None),
     ("x", 128, "", None),
@@ -329,7 +329,7 @@ fn numbers(rt: HostRuntime) -> Result<(), Fail> {
         fru: Some(&record),
         index: u32::MAX,
     };
-    for (text, max, wanted) in &NUMBERS {
+    for (text, max, wanted) in NUMBERS {
         let template = Template::parse(alloc, text)?;
         assert_eq!(rt; template.render_number(&spot, *max), *wanted, "{text}");
     }
@@ -338,7 +338,7 @@ fn numbers(rt: HostRuntime) -> Result<(), Fail> {
 
 #[test]
 fn fixed_numbers(rt: HostRuntime) -> Result<(), Fail> {
-    for (text, wanted) in &FIXED {
+    for (text, wanted) in FIXED {
         assert_eq!(rt; fixed_number(text), *wanted, "{text}");
     }
     Ok(())
@@ -347,7 +347,7 @@ fn fixed_numbers(rt: HostRuntime) -> Result<(), Fail> {
 #[test]
 fn kinds(rt: HostRuntime) -> Result<(), Fail> {
     let alloc = rt.alloc();
-    for (text, fixed, single, index) in &KINDS {
+    for (text, fixed, single, index) in KINDS {
         let template = Template::parse(alloc, text)?;
         assert_eq!(rt; template.is_fixed(), *fixed, "{text}");
         assert_eq!(rt; template.is_single(), *single, "{text}");
@@ -364,7 +364,7 @@ fn lengths(rt: HostRuntime) -> Result<(), Fail> {
         fru: None,
         index: 3,
     };
-    for (letter, count, behind, wanted) in &LENGTHS {
+    for (letter, count, behind, wanted) in LENGTHS {
         let mut text = letter.repeat(alloc, *count)?;
         text.push_str(behind)?;
         let given = match Template::parse(alloc, text.as_str())?.render(&spot) {

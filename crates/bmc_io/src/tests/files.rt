@@ -45,7 +45,7 @@ fn reads_files_of_memory(rt: HostRuntime) -> Result<(), Fail> {
     files.add(alloc, "b", b"abcd")?;
     files.add(alloc, "a", b"second")?;
     // the name, the limit, the answer, and how many calls failed
-    let rows: [(&str, usize, Answer<'_>, u64); 6] = [
+    let rows: &[(&str, usize, Answer<'_>, u64)] = &[
         ("a", 6, Ok(Some(b"second")), 0),
         ("a", 6, Err(FileFault::Failed), 1),
         ("a", 5, Ok(None), 1),
@@ -53,7 +53,7 @@ fn reads_files_of_memory(rt: HostRuntime) -> Result<(), Fail> {
         ("B", 4, Err(FileFault::Failed), 2),
         ("b", 0, Ok(None), 2),
     ];
-    for (name, limit, wanted, faults) in rows {
+    for &(name, limit, wanted, faults) in rows {
         assert!(rt;
             answers(alloc, &mut files, name, limit, &wanted),
             "{name} {limit}"
@@ -73,7 +73,7 @@ fn reads_files_of_the_system(rt: HostRuntime) -> Result<(), Fail> {
     let text = text.as_slice();
     let mut files = StdFiles::new(&rt, alloc);
     // The name, the limit, the answer, and how many calls failed. The last file can be opened and not be read.
-    let rows: [(&str, usize, Answer<'_>, u64); 10] = [
+    let rows: &[(&str, usize, Answer<'_>, u64)] = &[
         ("empty.txt", 0, Ok(Some(b"")), 0),
         ("long.txt", 9000, Ok(Some(text)), 0),
         ("long.txt", 9001, Ok(Some(text)), 0),
@@ -85,7 +85,7 @@ fn reads_files_of_the_system(rt: HostRuntime) -> Result<(), Fail> {
         ("long.txt/below", 9000, Err(FileFault::Failed), 3),
         ("/proc/self/mem", 9000, Err(FileFault::Failed), 4),
     ];
-    for (name, limit, wanted, faults) in rows {
+    for &(name, limit, wanted, faults) in rows {
         assert!(rt;
             answers(alloc, &mut files, name, limit, &wanted),
             "{name} {limit}"

@@ -4,7 +4,7 @@ use std::test::Fail;
 #[test]
 fn source_in_pieces(rt: HostRuntime) -> Result<(), Fail> {
     // the sizes, the calls that are to fail, the room of each call, and the answers
-    let rows: [(&[usize], &[u64], usize, &[Result<&[u8], IoFault>]); 4] = [
+    let rows: &[(&[usize], &[u64], usize, &[Result<&[u8], IoFault>])] = &[
         (&[], &[], 8, &[Ok(b"abcdefgh"), Ok(b""), Ok(b"")]),
         (&[], &[], 5, &[Ok(b"abcde"), Ok(b"fgh"), Ok(b"")]),
         (
@@ -20,7 +20,7 @@ fn source_in_pieces(rt: HostRuntime) -> Result<(), Fail> {
             &[Err(IoFault), Ok(b"abcdefg"), Err(IoFault), Ok(b"h")],
         ),
     ];
-    for (sizes, fails, room, answers) in rows {
+    for &(sizes, fails, room, answers) in rows {
         assert!(rt; sizes.iter().all(|size| *size > 0));
         let mut source = MemSource::new(rt.alloc(), b"abcdefgh", sizes, fails)?;
         for answer in answers {
@@ -41,7 +41,7 @@ fn source_in_pieces(rt: HostRuntime) -> Result<(), Fail> {
 #[test]
 fn sink_in_pieces(rt: HostRuntime) -> Result<(), Fail> {
     // the bytes of a call and in all, the calls that are to fail, the answers, and what is taken
-    let rows: [(usize, usize, &[u64], &[Result<usize, IoFault>], &[u8]); 5] = [
+    let rows: &[(usize, usize, &[u64], &[Result<usize, IoFault>], &[u8])] = &[
         (8, 8, &[], &[Ok(6)], b"abcdef"),
         (4, 8, &[], &[Ok(4), Ok(2)], b"abcdef"),
         (
@@ -55,7 +55,7 @@ fn sink_in_pieces(rt: HostRuntime) -> Result<(), Fail> {
         (2, 0, &[], &[Err(IoFault)], b""),
     ];
     let text = b"abcdef".as_slice();
-    for (piece, room, fails, answers, taken) in rows {
+    for &(piece, room, fails, answers, taken) in rows {
         assert!(rt; piece > 0);
         let mut sink = MemSink::new(rt.alloc(), piece, room, fails)?;
         for answer in answers {
@@ -77,13 +77,13 @@ fn sink_in_pieces(rt: HostRuntime) -> Result<(), Fail> {
 #[test]
 fn puts_all(rt: HostRuntime) -> Result<(), Fail> {
     // the bytes of a call and in all, the calls that are to fail, the answer, what is taken, and the faults
-    let rows: [(usize, usize, &[u64], Result<(), IoFault>, &[u8], u64); 4] = [
+    let rows: &[(usize, usize, &[u64], Result<(), IoFault>, &[u8], u64)] = &[
         (1, 6, &[], Ok(()), b"abcdef", 0),
         (4, 9, &[], Ok(()), b"abcdef", 0),
         (2, 9, &[1], Err(IoFault), b"ab", 1),
         (4, 5, &[], Err(IoFault), b"abcde", 1),
     ];
-    for (piece, room, fails, answer, taken, faults) in rows {
+    for &(piece, room, fails, answer, taken, faults) in rows {
         assert!(rt; piece > 0);
         let mut sink = MemSink::new(rt.alloc(), piece, room, fails)?;
         assert_eq!(rt;

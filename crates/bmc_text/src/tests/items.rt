@@ -42,7 +42,7 @@ fn all_items(alloc: Global, source: &mut Pieces, buffered: bool) -> Result<Vec<u
 }
 
 // A script, and all that comes of it.
-const CASES: [(&str, &str); 32] = [
+const CASES: &[(&str, &str)] = &[
     ("", "$$"),
     ("a\nconfig 5\nabcde\nb\n", "a|[abcde]b|$$"),
     ("config 5\nabcdeb\n", "[abcde]b|$$"),
@@ -79,7 +79,7 @@ const CASES: [(&str, &str); 32] = [
 
 #[test]
 fn takes_lines_and_blocks(rt: HostRuntime) -> Result<(), Fail> {
-    for (script, want) in CASES {
+    for &(script, want) in CASES {
         for size in 1..=32 {
             for buffered in [false, true] {
                 let mut source = Pieces::new(script.as_bytes(), size, u64::MAX);
@@ -98,12 +98,12 @@ fn takes_lines_and_blocks(rt: HostRuntime) -> Result<(), Fail> {
 #[test]
 fn takes_long_blocks(rt: HostRuntime) -> Result<(), Fail> {
     // a size and as many letters, then a line; the letters that come, and the rest
-    let cases = [
+    let cases = &[
         ("config 100000\n", 100_000, true, "b|$$"),
         ("config 262144\n", 262_144, true, "b|$$"),
         ("config 262145\n", 262_145, false, "^b|$$"),
     ];
-    for (line, count, is_given, rest) in cases {
+    for &(line, count, is_given, rest) in cases {
         let block = letters(rt.alloc(), count, b"\nb\n")?;
         let mut script = Vec::from_slice(rt.alloc(), line.as_bytes())?;
         script.extend_from_slice(&block)?;
@@ -126,7 +126,7 @@ fn takes_long_blocks(rt: HostRuntime) -> Result<(), Fail> {
 // The pieces are "conf", "ig 5", "\nabc", "de\nb", "\n" and the end; a seventh call is never made.
 #[test]
 fn stops_at_a_fault(rt: HostRuntime) -> Result<(), Fail> {
-    let cases = [
+    let cases = &[
         (0, "!", 1),
         (1, "!", 2),
         (2, "!", 3),
@@ -135,7 +135,7 @@ fn stops_at_a_fault(rt: HostRuntime) -> Result<(), Fail> {
         (5, "[abcde]b|!", 6),
         (6, "[abcde]b|$$", 6),
     ];
-    for (fails, want, calls) in cases {
+    for &(fails, want, calls) in cases {
         for buffered in [false, true] {
             let mut source = Pieces::new(b"config 5\nabcde\nb\n", 4, fails);
             let items = all_items(rt.alloc(), &mut source, buffered)?;

@@ -37,7 +37,7 @@ fn all_got(alloc: Global, source: &mut Pieces, buffered: bool) -> Result<Vec<u8>
 #[test]
 fn gets_the_lines(rt: HostRuntime) -> Result<(), Fail> {
     // letters and a text in the script, letters and a text in what is got
-    let cases: [(usize, &str, usize, &str); 16] = [
+    let cases: &[(usize, &str, usize, &str)] = &[
         (0, "", 0, "$$"),
         (0, "a\nb\n", 0, "a|b|$$"),
         (0, "a\r\nb\r\n", 0, "a|b|$$"),
@@ -55,7 +55,7 @@ fn gets_the_lines(rt: HostRuntime) -> Result<(), Fail> {
         (20_000, "\r\nb\n", 0, "?b|$$"),
         (200_000, "\nb\nc", 0, "?b|c|$$"),
     ];
-    for (letters_in, text_in, letters_got, text_got) in cases {
+    for &(letters_in, text_in, letters_got, text_got) in cases {
         let script = letters(rt.alloc(), letters_in, text_in.as_bytes())?;
         let want = letters(rt.alloc(), letters_got, text_got.as_bytes())?;
         for size in [1, 7, usize::MAX] {
@@ -87,7 +87,7 @@ fn keeps_any_bytes(rt: HostRuntime) -> Result<(), Fail> {
 // The pieces are "one\n", "two\r", "\nthr", "ee" and the end; a sixth call is never made.
 #[test]
 fn stops_at_a_fault(rt: HostRuntime) -> Result<(), Fail> {
-    let cases = [
+    let cases = &[
         (0, "!", 1),
         (1, "one|!", 2),
         (2, "one|!", 3),
@@ -95,7 +95,7 @@ fn stops_at_a_fault(rt: HostRuntime) -> Result<(), Fail> {
         (4, "one|two|!", 5),
         (5, "one|two|three|$$", 5),
     ];
-    for (fails, want, calls) in cases {
+    for &(fails, want, calls) in cases {
         let mut source = Pieces::new(b"one\ntwo\r\nthree", 4, fails);
         let got = all_got(rt.alloc(), &mut source, false)?;
         assert_eq!(rt; got.as_slice(), want.as_bytes(), "at call {fails}");

@@ -3,7 +3,7 @@ use std::test::Fail;
 
 #[test]
 fn reads_numbers(rt: HostRuntime) -> Result<(), Fail> {
-    let rows = [
+    let rows = &[
         ("0", Some(0)),
         ("7", Some(7)),
         ("000000080", Some(80)),
@@ -15,7 +15,7 @@ fn reads_numbers(rt: HostRuntime) -> Result<(), Fail> {
         ("1 ", None),
         ("0x1", None),
     ];
-    for (text, want) in rows {
+    for &(text, want) in rows {
         assert_eq!(rt; read_number(text.as_bytes()), want, "{text:?}");
     }
     Ok(())
@@ -23,7 +23,7 @@ fn reads_numbers(rt: HostRuntime) -> Result<(), Fail> {
 
 #[test]
 fn reads_raw_readings(rt: HostRuntime) -> Result<(), Fail> {
-    let rows = [
+    let rows = &[
         ("0", Some(0)),
         ("-0", Some(0)),
         ("007", Some(7)),
@@ -39,7 +39,7 @@ fn reads_raw_readings(rt: HostRuntime) -> Result<(), Fail> {
         ("1.0", None),
         (" 1", None),
     ];
-    for (text, want) in rows {
+    for &(text, want) in rows {
         assert_eq!(rt; read_raw(text.as_bytes()), want, "{text:?}");
     }
     Ok(())
@@ -48,7 +48,7 @@ fn reads_raw_readings(rt: HostRuntime) -> Result<(), Fail> {
 #[test]
 fn reads_decimals(rt: HostRuntime) -> Result<(), Fail> {
     // a text, the places, and the units
-    let rows = [
+    let rows = &[
         ("0", 3, Some(0)),
         ("-0.3", 3, Some(-300)),
         ("0.05", 2, Some(5)),
@@ -70,7 +70,7 @@ fn reads_decimals(rt: HostRuntime) -> Result<(), Fail> {
         ("1e3", 3, None),
         ("1,5", 3, None),
     ];
-    for (text, places, want) in rows {
+    for &(text, places, want) in rows {
         assert!(rt; 1 <= places && places <= 6);
         assert_eq!(rt; decimal(text, places), want, "{text:?} {places}");
     }
@@ -79,7 +79,7 @@ fn reads_decimals(rt: HostRuntime) -> Result<(), Fail> {
 
 #[test]
 fn reads_sizes_of_blocks(rt: HostRuntime) -> Result<(), Fail> {
-    let rows = [
+    let rows = &[
         ("config 27", Some(27)),
         ("config 000000005", Some(5)),
         ("config 0000000005", None),
@@ -92,7 +92,7 @@ fn reads_sizes_of_blocks(rt: HostRuntime) -> Result<(), Fail> {
         ("plug 1 80 00", None),
         ("", None),
     ];
-    for (line, want) in rows {
+    for &(line, want) in rows {
         assert_eq!(rt; block_size(line.as_bytes()), want, "{line:?}");
     }
     Ok(())
