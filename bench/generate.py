@@ -32,9 +32,12 @@
             in an order that jumps about. A twentieth of the lines are losses,
             six in a row for a sensor, and some readings are beyond a threshold
   lists     as readings, and each hundredth line asks for the list of sensors
+  ticks     COUNT zones with two fans, three controllers and four sensors each;
+            each line lets 100 ticks pass, but for each tenth, which reads a
+            sensor. The last zone takes its temperatures from the first
 
-COUNT is at most 256, and 255 for mux and still, 31 for trays, 4,096 for
-readings and lists; left out, it is as many. LINES does not count the
+COUNT is at most 256, and 255 for mux and still, 31 for trays, 32 for ticks,
+4,096 for readings and lists; left out, it is as many. LINES does not count the
 configurations and the first FRUs. The same words give the same script."""
 
 import json
@@ -46,11 +49,11 @@ sys.path.insert(0, os.path.dirname(os.path.realpath(__file__)) + "/../examples")
 from record import board_area, chassis_area, product_area, record
 
 # Each workload, and the most that COUNT can be: 256 FRUs may be present, in two of them there is one more, and there may
-# be 128 fans and 4,096 sensors.
+# be 128 fans, 4,096 sensors and 32 zones.
 WORKLOADS = dict.fromkeys(("plugs", "refused", "comments", "long", "toolong", "records"), 256)
 WORKLOADS |= dict.fromkeys(("present", "boards", "regex", "found", "idle", "under"), 256)
 WORKLOADS |= dict.fromkeys(("mux", "still"), 255)
-WORKLOADS |= {"trays": 31, "passive": 256, "readings": 4096, "lists": 4096}
+WORKLOADS |= {"trays": 31, "passive": 256, "readings": 4096, "lists": 4096, "ticks": 32}
 TEXTS = ["Norrland Systems AB", "Riser, 2 x16", "NSR2404200117", "310-00511-01", "FRU 2.1"]
 RECORD = record(board=board_area(TEXTS)).hex().upper()
 # A step that shares no factor with a power of 2, so that the places jump about and each gets its turn.
@@ -229,6 +232,40 @@ def lists(lines, count):
     yield from sensors(count)
     for at in range(lines):
         yield "show sensors\n" if at % 100 == 99 else reading(at, count)
+
+
+def zone(number, temps):
+    """A zone with its fans and their tachometers, and its controllers over these temperatures."""
+    fans, tachs = ([f"{what} {number}.{at}" for at in range(2)] for what in ("Fan", "Tach"))
+    limits = {"OutLimitMin": 1500, "OutLimitMax": 9000, "SlewPos": 400, "SlewNeg": -200}
+    pid = {"Type": "Pid", "Zones": [f"Zone {number}"]}
+    return [
+        {"Name": f"Zone {number}", "Type": "Pid.Zone", "MinThermalOutput": 1500, "FailSafePercent": 80},
+        *({"Name": fan, "Type": "Fan"} for fan in fans),
+        *({"Name": tach, "Type": "Sensor", "ScaleNum": 1000} for tach in tachs),
+        {"Name": f"Curve {number}", "Type": "Stepwise", "Zones": [f"Zone {number}"], "Inputs": temps,
+         "Reading": [0, 30, 45, 60, 75], "Output": [2000, 2600, 3600, 5200, 9000],
+         "PositiveHysteresis": 1, "NegativeHysteresis": 3},
+        {**pid, "Name": f"Thermal {number}", "Class": "temp", "Inputs": temps, "SetPoint": 55,
+         "PCoefficient": "-80.5", "ICoefficient": "-2.25", "ILimitMin": -2000, "ILimitMax": 4000, **limits},
+        {**pid, "Name": f"Fans {number}", "Class": "fan", "Inputs": tachs, "Outputs": fans,
+         "PCoefficient": "0.002", "ICoefficient": "0.001", "FFGainCoefficient": "0.01",
+         "ILimitMin": -20, "ILimitMax": 40, "OutLimitMin": 20, "OutLimitMax": 100, "SlewPos": 50, "SlewNeg": -30},
+    ]
+
+
+def ticks(lines, zones):
+    last = max(1, zones - 1)
+    temps = [[f"Temp {number}.{at}" for at in range(2)] for number in range(last)]
+    for number, names in enumerate(temps):
+        yield config(number, "TRUE", Exposes=[{"Name": name, "Type": "Sensor"} for name in names])
+    for number in range(zones):
+        yield config(last + number, "TRUE", Exposes=zone(number, temps[number % last]))
+    tachs = [f"read Tach {number}.{at} {4 + number % 3}\n" for number in range(zones) for at in range(2)]
+    warm = [f"read {name} {40 + at * 7 % 31}\n" for at, name in enumerate(sum(temps, []))]
+    yield from tachs + warm
+    for at in range(lines):
+        yield f"read Temp {at // 10 % last}.0 {40 + at * 7 % 31}\n" if at % 10 == 9 else "tick 100\n"
 
 
 def script(workload, lines, count=None):
