@@ -7,6 +7,7 @@ use bmc_core::{Act, Core};
 use bmc_replay::Status::Done;
 use bmc_report::push_change;
 use cfg_json::Config as Document;
+use ctl_face::Controller;
 use pat_gate::RegexMaker;
 use std::alloc::Global;
 use std::cell::Cell;
@@ -38,23 +39,40 @@ fn boxes_step(rt: HostRuntime) -> Result<(), Fail> {
     Ok(())
 }
 
-// What 21 ticks tell, where a reading gets too old at the last one.
-fn told(alloc: Global, strict: bool) -> Result<String, Fail> {
-    let mut maker = RegexMaker::new(alloc);
+// Takes the machine, and a reading of each of its sensors.
+fn take_machine<C: Controller>(alloc: Global, core: &mut Core<Silent, C>) -> Result<(), Fail> {
+    let document = Document::read(alloc, BOX_15.as_bytes(), &mut RegexMaker::new(alloc))?;
     let mut steps = Steps::new(Silent);
-    let document = Document::read(alloc, BOX_15.as_bytes(), &mut maker)?;
-    let mut core = Core::new(alloc, bank(alloc)?, strict)?;
     core.apply(alloc, Act::Config(document), &mut steps)?;
-    core.apply(alloc, Act::Good(&Name::new("T")?, 30_000), &mut steps)?;
-    core.apply(alloc, Act::Good(&Name::new("Tach")?, 2_000), &mut steps)?;
+    let temperature = Name::new("T")?;
+    core.apply(alloc, Act::Good(&temperature, 30_000), &mut steps)?;
+    let tachometer = Name::new("Tach")?;
+    core.apply(alloc, Act::Good(&tachometer, 2_000), &mut steps)?;
+    Ok(())
+}
+
+// What a tick tells.
+fn tick_told<C: Controller>(core: &mut Core<Silent, C>, text: &mut String) -> Result<(), Fail> {
+    core.tick();
+    for change in core.changes() {
+        push_change(text, core.tick_count(), change)?;
+    }
+    Ok(())
+}
+
+// What 21 ticks tell, where a reading gets too old at the last one.
+fn ticks_told<C: Controller>(alloc: Global, core: &mut Core<Silent, C>) -> Result<String, Fail> {
     let mut text = String::new(alloc);
     for _ in 0..21 {
-        core.tick();
-        for change in core.changes() {
-            push_change(&mut text, core.tick_count(), change)?;
-        }
+        tick_told(core, &mut text)?;
     }
     Ok(text)
+}
+
+fn told(alloc: Global, strict: bool) -> Result<String, Fail> {
+    let mut core = Core::new(alloc, bank(alloc)?, strict)?;
+    take_machine(alloc, &mut core)?;
+    ticks_told(alloc, &mut core)
 }
 
 // In strict mode a zone in failsafe commands exactly its percent.
