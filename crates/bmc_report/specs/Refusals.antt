@@ -1,7 +1,9 @@
--- Why lines are refused, as text.
+-- Why files and lines are refused, as text.
 use Rattle.std.specs.Prelude.{ℕ, List, [], ◌++◌, codes, decimal, Option, Some, None}
 use Rattle.fru_area.specs.declared.fault.Area.{Area}
 use Rattle.fru_area.specs.declared.fault.Area.TheVariants.{Chassis, Board, Product}
+use Rattle.bmc_report.specs.declared.refusal.Origin.{Origin}
+use Rattle.bmc_report.specs.declared.refusal.Origin.TheVariants.{File, Line}
 use Rattle.bmc_report.specs.declared.refusal.Refusal.{Refusal}
 use Rattle.bmc_report.specs.declared.refusal.Refusal.TheVariants.{LineTooLong, UnknownCommand, BadArguments, PlaceRange, TickLimit, BadHex}
 use Rattle.bmc_report.specs.declared.refusal.Refusal.TheVariants.{ConfigTooLong, ConfigShort}
@@ -83,6 +85,11 @@ area_ending (Some area) = codes " " ++ area_text area
 unfoldable pub refusal_text : Refusal → List ℕ
 refusal_text refusal = refusal_name refusal ++ area_ending (area_of refusal)
 
--- what is printed of a line, by its number, that is refused
-abbrev pub refused_line : ℕ → Refusal → List ℕ
-refused_line number refusal = codes "line " ++ decimal number ++ codes " refused " ++ refusal_text refusal ++ codes "\n"
+-- the word of a file or of a line
+abbrev pub origin_text : Origin → List ℕ
+origin_text File = codes "file "
+origin_text Line = codes "line "
+
+-- what is printed of a file or of a line, by its number, that is refused
+abbrev pub refused_line : Origin → ℕ → Refusal → List ℕ
+refused_line origin number refusal = origin_text origin ++ decimal number ++ codes " refused " ++ refusal_text refusal ++ codes "\n"

@@ -1,6 +1,7 @@
 ghost use Rattle.std.specs.Prelude.{◌≡◌, ◌++◌, [], codes, false, Some};
 ghost use Rattle.fru_area.specs.declared.fault.Area.TheVariants.{Board};
-ghost use Rattle.bmc_report.specs.declared.refusal.Refusal.TheVariants.{NotPresent, AreaChecksum};
+ghost use Rattle.bmc_report.specs.declared.refusal.Origin.TheVariants.{File, Line};
+ghost use Rattle.bmc_report.specs.declared.refusal.Refusal.TheVariants.{DuplicateName, NotPresent, AreaChecksum};
 ghost use Rattle.bmc_report.specs.Refusals.{refused_line};
 ghost use Rattle.bmc_report.specs.Changes.{change_line};
 ghost use Rattle.bmc_report.specs.Quoted.{quoted};
@@ -13,8 +14,9 @@ ghost use Rattle.bmc_report.specs.Examples.{odd_text, odd_quoted, odd_fields};
 /// without a place and one with it, an alarm, a text with each kind of character, a FRU without fields and one
 /// with, and a sensor with two alarms.
 pub fn printed_texts()
-    ensures refused { refused_line 3 NotPresent ≡ codes "line 3 refused NotPresent\n" }
-    ensures area { refused_line 12 (AreaChecksum Board) ≡ codes "line 12 refused AreaChecksum Board\n" }
+    ensures refused { refused_line Line 3 NotPresent ≡ codes "line 3 refused NotPresent\n" }
+    ensures file { refused_line File 1 DuplicateName ≡ codes "file 1 refused DuplicateName\n" }
+    ensures area { refused_line Line 12 (AreaChecksum Board) ≡ codes "line 12 refused AreaChecksum Board\n" }
     ensures new { change_line 0 new_chassis ≡ codes "0 new board \"Chassis\" 1\n" }
     ensures gone { change_line 600 gone_riser ≡ codes "600 gone board \"Riser\" 2 at 1 80\n" }
     ensures alarm { change_line 7 alarm_on ≡ codes "7 alarm on \"T\" 0 high critical\n" }

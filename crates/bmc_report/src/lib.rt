@@ -26,7 +26,7 @@ pub use change_line::{change_text, push_change};
 pub use examples::printed_texts;
 pub use live_kind::LiveKind;
 pub use log_row::push_log_row;
-pub use refusal::{Refusal, push_refused_line, refusal_text};
+pub use refusal::{Origin, Refusal, push_refused_line, refusal_text};
 pub use row::push_fru_row;
 pub use sensor_row::{SensorRow, push_sensor_row};
 pub use topic::Topic;

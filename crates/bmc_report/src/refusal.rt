@@ -1,12 +1,12 @@
 ghost use Rattle.std.specs.Prelude.{◌≡◌, ◌++◌, OnOk, IfOk, string_bytes};
-ghost use Rattle.bmc_report.specs.Refusals.{area_text, refusal_name, area_of, area_ending, refusal_text, refused_line};
+ghost use Rattle.bmc_report.specs.Refusals.{area_text, refusal_name, area_of, area_ending, refusal_text, origin_text, refused_line};
 
 use crate::decimal::push_decimal;
 use bmc_base::{OutOfMemory, Text};
 use fru_area::Area;
 use std::alloc::Global;
 
-/// Why a line is refused. Each variant has the name that is printed. A rule of records that an area breaks has
+/// Why a file or a line is refused. Each variant has the name that is printed. A rule of records that an area breaks has
 /// that area, whose name is printed too.
 #[derive(Clone, Copy, Debug, PartialEq, Eq)]
 pub enum Refusal {
@@ -198,13 +198,39 @@ pub(crate) fn push_refusal(out: &mut String, refusal: Refusal) -> Result<(), Out
     push_area(out, refusal.area())
 }
 
-/// Appends the line that is printed of a refused line of the script. `number` counts the lines of the script,
+/// Where an item comes from that may be refused.
+#[derive(Clone, Copy, Debug, PartialEq, Eq)]
+pub enum Origin {
+    /// It is a configuration file of the command line.
+    File,
+    /// It is a line of the script, with its block.
+    Line,
+}
+
+impl Origin {
+    // The word that is printed before the number.
+    fn word(self) -> &'static str
+        ensures { result.now ≡ origin_text self }
+    {
+        match self {
+            Origin::File => "file ",
+            Origin::Line => "line ",
+        }
+    }
+}
+
+/// Appends the line that is printed of a refused file or line. `number` counts the files, or the lines of the script,
 /// from 1.
 #[tactic(auto, using(std::proofs::Common::append_assoc))]
-pub fn push_refused_line(out: &mut String, number: u64, refusal: Refusal) -> Result<(), OutOfMemory>
-    ensures { OnOk result (string_bytes out.new ≡ string_bytes out.old ++ refused_line number refusal) }
+pub fn push_refused_line(
+    out: &mut String,
+    origin: Origin,
+    number: u64,
+    refusal: Refusal,
+) -> Result<(), OutOfMemory>
+    ensures { OnOk result (string_bytes out.new ≡ string_bytes out.old ++ refused_line origin number refusal) }
 {
-    out.push_str("line ")?;
+    out.push_str(origin.word())?;
     push_decimal(out, number)?;
     out.push_str(" refused ")?;
     push_refusal(out, refusal)?;

@@ -9,6 +9,8 @@ pub enum Topic {
     Sensors,
     /// The live zones and fans.
     Zones,
+    /// The entries that the log keeps.
+    Log,
     /// The indexes that boards have for good.
     Indexes,
 }

@@ -8,7 +8,7 @@ use Rattle.std.specs.Result.{result_ok}
 use Rattle.bmc_base.specs.Names.{name_of}
 use Rattle.bmc_base.specs.Places.{Place, place_of}
 use Rattle.bmc_report.specs.declared.topic.Topic.{Topic}
-use Rattle.bmc_report.specs.declared.topic.Topic.TheVariants.{Frus, Inventory, Sensors, Zones, Indexes}
+use Rattle.bmc_report.specs.declared.topic.Topic.TheVariants.{Frus, Inventory, Sensors, Zones, Log, Indexes}
 use Rattle.bmc_text.specs.Hex.{hex_decoded}
 use Rattle.bmc_text.specs.Words.{split_space, number, raw}
 use Rattle.bmc_script.specs.declared.command.Command.{Command}
@@ -95,6 +95,7 @@ topic_of word =
     else if bytes_eq word (codes "inventory") then Some Inventory
     else if bytes_eq word (codes "sensors") then Some Sensors
     else if bytes_eq word (codes "zones") then Some Zones
+    else if bytes_eq word (codes "log") then Some Log
     else if bytes_eq word (codes "indexes") then Some Indexes
     else None
 

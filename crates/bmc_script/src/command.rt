@@ -195,6 +195,7 @@ fn topic_of(word: &[u8]) -> Option<Topic>
         b"inventory" => Some(Topic::Inventory),
         b"sensors" => Some(Topic::Sensors),
         b"zones" => Some(Topic::Zones),
+        b"log" => Some(Topic::Log),
         b"indexes" => Some(Topic::Indexes),
         _ => None,
     }

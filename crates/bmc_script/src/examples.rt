@@ -1,5 +1,5 @@
 ghost use Rattle.std.specs.Prelude.{◌≡◌, [], ◌∷◌, ◌++◌, codes, pos};
-ghost use Rattle.bmc_report.specs.declared.topic.Topic.TheVariants.{Frus, Inventory, Sensors, Zones, Indexes};
+ghost use Rattle.bmc_report.specs.declared.topic.Topic.TheVariants.{Frus, Inventory, Sensors, Zones, Log, Indexes};
 ghost use Rattle.bmc_script.specs.Commands.{command_of};
 ghost use Rattle.bmc_script.specs.Examples.{configured, plugged, unplugged, nothing, unknown, malformed, out_of_range, not_hexadecimal};
 ghost use Rattle.bmc_script.specs.Examples.{read_as, frost, lost, name_of_size, shown, ticked, ticks_out_of_range};
@@ -91,6 +91,8 @@ pub fn commands_of_tick_lines()
     ensures upper_case { command_of (codes "Tick 1") ≡ unknown }
     ensures longer_verb { command_of (codes "ticks 1") ≡ unknown }
     ensures show_zones { command_of (codes "show zones") ≡ shown Zones }
+    ensures show_log { command_of (codes "show log") ≡ shown Log }
+    ensures show_logs { command_of (codes "show logs") ≡ malformed }
     ensures show_zones_space { command_of (codes "show zones ") ≡ malformed }
     ensures show_zone { command_of (codes "show zone") ≡ malformed }
 {}

@@ -484,6 +484,7 @@ const SHOW_LINES: &str = "show Frus: show frus
 show Inventory: show inventory
 show Sensors: show sensors
 show Zones: show zones
+show Log: show log
 show Indexes: show indexes
 unknown command: shows frus
 unknown command: sho frus
@@ -540,7 +541,9 @@ bad arguments: show zones\r
 bad arguments: show zonez
 bad arguments: show zones 1
 bad arguments: show fans
-bad arguments: show log
+bad arguments: show logs
+bad arguments: show Log
+bad arguments: show log\x20
 bad arguments: show configs
 bad arguments: show all
 bad arguments: show 1 80";

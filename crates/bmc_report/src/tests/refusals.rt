@@ -1,4 +1,4 @@
-use crate::{Refusal, push_refused_line, refusal_text};
+use crate::{Origin, Refusal, push_refused_line, refusal_text};
 use fru_area::Area;
 use std::fmt::Write;
 use std::test::Fail;
@@ -52,9 +52,13 @@ fn lines_of_refusals(rt: HostRuntime) -> Result<(), Fail> {
     for &(refusal, name) in rows {
         for number in ["1", "30", "18446744073709551615"] {
             let mut out = String::from_str(rt.alloc(), "before")?;
-            push_refused_line(&mut out, number.parse::<u64>()?, refusal)?;
+            push_refused_line(&mut out, Origin::Line, number.parse::<u64>()?, refusal)?;
+            push_refused_line(&mut out, Origin::File, 7, refusal)?;
             let mut line = String::new(rt.alloc());
-            write!(line, "beforeline {number} refused {name}\n")?;
+            write!(
+                line,
+                "beforeline {number} refused {name}\nfile 7 refused {name}\n"
+            )?;
             assert_eq!(rt; out.as_str(), line.as_str());
         }
     }

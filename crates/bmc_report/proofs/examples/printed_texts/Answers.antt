@@ -12,4 +12,4 @@ use Rattle.bmc_report.proofs.examples.printed_texts.Goals as goal
 
 pub returns : goal.returns
 unfolding encode chars digits name_text change_text quoted area_text refusal_name refusal_text field_row fru_row alarms_text sensor_row
-returns c = record { refused = refl; area = refl; new = refl; gone = refl; alarm = refl; quoted = refl; bare = refl; fields = refl; sensor = refl }
+returns c = record { refused = refl; file = refl; area = refl; new = refl; gone = refl; alarm = refl; quoted = refl; bare = refl; fields = refl; sensor = refl }

@@ -25,6 +25,8 @@ returns c = record {
   upper_case = refl;
   longer_verb = refl;
   show_zones = refl;
+  show_log = refl;
+  show_logs = refl;
   show_zones_space = refl;
   show_zone = refl;
 }
