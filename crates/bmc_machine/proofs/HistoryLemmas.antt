@@ -8,12 +8,13 @@ use Rattle.bmc_script.specs.declared.command.Command.{Command}
 use Rattle.bmc_script.specs.declared.command.Command.TheVariants as commands
 use Rattle.bmc_script.specs.declared.command.ScriptFault.{ScriptFault}
 use Rattle.bmc_report.specs.Refusals.{refused_line}
+use Rattle.bmc_report.specs.declared.refusal.Origin.{Origin}
 use Rattle.bmc_report.specs.declared.refusal.Refusal.{Refusal}
 use Rattle.cfg_json.specs.Configs.{Config}
 use Rattle.cfg_json.specs.Documents.{config_read}
 use Rattle.cfg_json.specs.Verdicts.{Verdict, Accepted, BadPattern, LargePattern}
 use Rattle.cfg_json.specs.declared.config_fault.ConfigFault.{ConfigFault}
-use Rattle.bmc_machine.specs.Histories.{Step, Configure, Plug, Unplug, Read, Lose, Tick}
+use Rattle.bmc_machine.specs.Histories.{Options, Step, Configure, Plug, Unplug, Read, Lose, Tick, begun}
 use Rattle.bmc_machine.specs.Refusals.{command_refusal, config_refusal, refusal_after, IsLegalStep, IsLegal}
 use Rattle.bmc_machine.specs.Answers.{past_refused, answer_by, answer_step, answer_command, answer_broken, answer_config, answer_ticks, answer}
 use Rattle.bmc_machine.specs.Answers.{first_verdict, later_verdicts, answers}
@@ -82,13 +83,17 @@ module _ (line : Refusal → List ℕ) (past : List Step) (legal : IsLegal past)
   item_is_legal verdict BlockShort = legal
 
 -- what items leave of a legal history is legal
-pub items_are_legal : (number : ℕ) (past : List Step) (verdicts : List Verdict) (items : List Item) → IsLegal past
-    → IsLegal (answers number past verdicts items).past
+pub items_are_legal : (origin : Origin) (number : ℕ) (past : List Step) (verdicts : List Verdict) (items : List Item) → IsLegal past
+    → IsLegal (answers origin number past verdicts items).past
 unfolding answers
-items_are_legal number past verdicts [] legal = legal
-items_are_legal number past verdicts (item ∷ items) legal =
-    items_are_legal (number + 1) _ (later_verdicts verdicts) items (item_is_legal (refused_line number) past legal (first_verdict verdicts) item)
+items_are_legal origin number past verdicts [] legal = legal
+items_are_legal origin number past verdicts (item ∷ items) legal =
+    items_are_legal origin (number + 1) _ (later_verdicts verdicts) items (item_is_legal (refused_line origin number) past legal (first_verdict verdicts) item)
 
 pub nothing_is_legal : IsLegal []
 unfolding IsLegal
 nothing_is_legal = tt
+
+pub start_is_legal : (options : Options) → IsLegal (begun options)
+unfolding IsLegal
+start_is_legal options = (tt, tt)

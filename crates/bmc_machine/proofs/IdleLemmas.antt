@@ -15,7 +15,7 @@ use Rattle.inventory.proofs.BoardLemmas.{except_none, pass_all}
 use Rattle.inventory.proofs.IdsLemmas.{id_itself}
 use Rattle.inventory.proofs.ListLemmas.{all_weaker, filter_none}
 use Rattle.bmc_machine.specs.Boards.{boards, board_keys, fields_at}
-use Rattle.bmc_machine.specs.Histories.{Step, Strict, Configure, Plug, RefusedPlug, Unplug, Read, Lose, Tick, standing, is_idle_step}
+use Rattle.bmc_machine.specs.Histories.{Step, Start, Configure, Plug, RefusedPlug, Unplug, Read, Lose, Tick, standing, is_idle_step}
 use Rattle.bmc_machine.specs.Indexes.{kept, boards_now, items_now, live_now}
 use Rattle.bmc_machine.specs.Lives.{has_id}
 use Rattle.bmc_machine.specs.Changes.{Inventory, inventory, board_change, item_change, changes_between}
@@ -23,7 +23,7 @@ use Rattle.bmc_machine.proofs.IndexLemmas.{kept_idle}
 
 pub standing_idle : (step : Step) (past : List Step) → is_idle_step step ≡ true → standing (step ∷ past) ≡ standing past
 unfolding standing
-standing_idle Strict past idle = refl
+standing_idle (Start options) past idle = refl
 standing_idle (Configure config) past idle = absurd (cc)
 standing_idle (Plug place bytes) past idle = absurd (cc)
 standing_idle (RefusedPlug place bytes refusal) past idle = refl

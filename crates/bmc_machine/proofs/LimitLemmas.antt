@@ -23,7 +23,7 @@ use Rattle.inventory.specs.declared.fault.InventoryFault.{InventoryFault}
 use Rattle.inventory.specs.declared.fault.InventoryFault.TheVariants as limits
 use Rattle.bmc_machine.specs.Standings.{Fru, is_at, is_present, without, Standing}
 use Rattle.bmc_machine.specs.Boards.{sights_of, boards, board_keys}
-use Rattle.bmc_machine.specs.Histories.{Step, Strict, Configure, Plug, RefusedPlug, Unplug, Read, Lose, Tick, after_step, standing}
+use Rattle.bmc_machine.specs.Histories.{Step, Start, Configure, Plug, RefusedPlug, Unplug, Read, Lose, Tick, after_step, standing}
 use Rattle.bmc_machine.specs.Refusals.{limit_refusal, refusal_by_limit, ◌or_else◌, IsLegalStep, IsLegal}
 use Rattle.bmc_machine.proofs.FewerLemmas.{boards_fewer}
 
@@ -170,7 +170,7 @@ last_of None later none = none
 last_of (Some refusal) later none = absurd (cc)
 
 within_next : (past : List Step) (step : Step) → IsLegalStep past step → IsWithin (standing past) → IsWithin (after_step (standing past) step)
-within_next past Strict legal within = within
+within_next past (Start options) legal within = within
 within_next past (Configure config) legal within =
     not_refused _ (by (standing past).plugged (is_some (number_of (standing past).configs config.name))
     (nat_le most_configs (length (standing past).configs)) legal)

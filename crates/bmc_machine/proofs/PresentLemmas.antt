@@ -14,7 +14,7 @@ use Rattle.inventory.specs.Boards.{places_or_none, config_places, board_places, 
 use Rattle.inventory.proofs.BoardLemmas.{place_cmp_eq, place_same}
 use Rattle.bmc_machine.specs.Standings.{Fru, fields_of, is_at, is_present, put, without, Standing}
 use Rattle.bmc_machine.specs.Boards.{sights_of, sights, boards, fields_at}
-use Rattle.bmc_machine.specs.Histories.{Step, Strict, Configure, Plug, RefusedPlug, Unplug, Read, Lose, Tick, after_step, standing}
+use Rattle.bmc_machine.specs.Histories.{Step, Start, Configure, Plug, RefusedPlug, Unplug, Read, Lose, Tick, after_step, standing}
 use Rattle.bmc_machine.specs.Refusals.{IsLegalStep}
 use Rattle.bmc_machine.proofs.StandingLemmas.{free_place}
 
@@ -99,7 +99,7 @@ get_front (first ∷ front) back (suc position) there = get_front front back pos
 
 pub config_stays : (now : Standing) (step : Step) (number : ℕ) (place : Option Place) → has_board (boards now number) place ≡ true
     → slice_get (after_step now step).configs number ≡ slice_get now.configs number
-config_stays now Strict number place has = refl
+config_stays now (Start options) number place has = refl
 config_stays now (Configure config) number place has = get_front now.configs (config ∷ []) number (board_has_config now number place has)
 config_stays now (Plug at bytes) number place has = refl
 config_stays now (RefusedPlug at bytes refusal) number place has = refl
@@ -151,7 +151,7 @@ pub fields_stay : (past : List Step) (step : Step) (number : ℕ) (place : Optio
     → has_board (boards (standing past) number) place ≡ true → has_board (boards (after_step (standing past) step) number) place ≡ true
     → option_and_then (fields_at (after_step (standing past) step).frus) place ≡ option_and_then (fields_at (standing past).frus) place
 fields_stay past step number None legal has has_then = refl
-fields_stay past Strict number (Some place) legal has has_then = refl
+fields_stay past (Start options) number (Some place) legal has has_then = refl
 fields_stay past (Configure config) number (Some place) legal has has_then = refl
 fields_stay past (Plug at bytes) number (Some place) legal has has_then =
     ap (option_map fields_of) (find_put place (record { place = at; bytes = bytes }) (standing past).frus (false_from_ne_true _ (λ here.

@@ -20,7 +20,7 @@ use Rattle.fru_record.proofs.RecordsLemmas.{record_of-rule}
 use Rattle.bmc_report.specs.declared.refusal.Refusal.{Refusal}
 use Rattle.bmc_report.specs.declared.refusal.Refusal.TheVariants.{Occupied}
 use Rattle.bmc_machine.specs.Standings.{Fru, is_at, is_present, put, without}
-use Rattle.bmc_machine.specs.Histories.{Step, Strict, Configure, Plug, RefusedPlug, Unplug, Read, Lose, Tick, after_step, standing}
+use Rattle.bmc_machine.specs.Histories.{Step, Start, Configure, Plug, RefusedPlug, Unplug, Read, Lose, Tick, after_step, standing}
 use Rattle.bmc_machine.specs.Refusals.{record_refusal, plug_refusal, ◌or_else◌, refusal_by_limit, most_frus, refusal_after, IsLegalStep, IsLegal}
 use Rattle.inventory.proofs.BoardLemmas.{place_cmp_eq}
 use Rattle.inventory.proofs.ListLemmas.{all_weaker, ascending_filter}
@@ -66,7 +66,7 @@ put_ascends fru (other ∷ frus) free ascend = by (place_cmp fru.place other.pla
 
 frus_ascend_next : (past : List Step) (step : Step) → IsLegalStep past step → IsStrictlySortedBy place_cmp (places (standing past).frus)
     → IsStrictlySortedBy place_cmp (places (after_step (standing past) step).frus)
-frus_ascend_next past Strict legal ascend = ascend
+frus_ascend_next past (Start options) legal ascend = ascend
 frus_ascend_next past (Configure config) legal ascend = ascend
 frus_ascend_next past (Plug place bytes) legal ascend =
     put_ascends (record { place = place; bytes = bytes }) (standing past).frus (free_place past place bytes legal) ascend
@@ -145,7 +145,7 @@ length_without place (fru ∷ frus) = by (is_at place fru) (length_without place
 
 frus_few_next : (past : List Step) (step : Step) → IsLegalStep past step → length (standing past).frus ≤ most_frus
     → length (after_step (standing past) step).frus ≤ most_frus
-frus_few_next past Strict legal few = few
+frus_few_next past (Start options) legal few = few
 frus_few_next past (Configure config) legal few = few
 frus_few_next past (Plug place bytes) legal few =
     let room = room_before past place bytes legal in

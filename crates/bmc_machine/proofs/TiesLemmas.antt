@@ -5,6 +5,7 @@ use Rattle.std.proofs.lemmas.Bool.{both_ways}
 use Rattle.std.proofs.lemmas.List.Elements.{All-contains}
 use Rattle.bmc_text.specs.Items.{Item, Line, LineTooLong, Block, BlockTooLong, BlockShort}
 use Rattle.bmc_report.specs.Refusals.{refused_line}
+use Rattle.bmc_report.specs.declared.refusal.Origin.{Origin}
 use Rattle.bmc_report.specs.declared.refusal.Refusal.{Refusal}
 use Rattle.pat_gate.specs.Grammar.{IsPattern}
 use Rattle.cfg_json.specs.Configs.{Config, pattern_texts}
@@ -48,22 +49,22 @@ later_empty [] back none = none
 later_empty (text ∷ front) back none = absurd (cc)
 
 -- where there is one for each item
-pub verdicts_answer : (number : ℕ) (past : List Step) (items : List Item) (verdicts others : List Verdict) → AreTied items verdicts → AreTied items others
+pub verdicts_answer : (origin : Origin) (number : ℕ) (past : List Step) (items : List Item) (verdicts others : List Verdict) → AreTied items verdicts → AreTied items others
     → length verdicts ≡ length items → length others ≡ length items → large_texts verdicts ≡ [] → large_texts others ≡ []
-    → answers number past verdicts items ≡ answers number past others items
+    → answers origin number past verdicts items ≡ answers origin number past others items
 unfolding answers
-verdicts_answer number past [] verdicts others tied also_tied each also_each small also_small = refl
-verdicts_answer number past (item ∷ items) [] others tied also_tied each also_each small also_small = absurd (omega (arith, each))
-verdicts_answer number past (item ∷ items) (verdict ∷ verdicts) [] tied also_tied each also_each small also_small = absurd (omega (arith, also_each))
-verdicts_answer number past (item ∷ items) (verdict ∷ verdicts) (other ∷ others) tied also_tied each also_each small also_small =
-    ap (λ (it : Answer). and_then it (answers (number + 1) it.past verdicts items)) same
-    ∙ ap (and_then first) (verdicts_answer (number + 1) first.past items verdicts others tied.1 also_tied.1 (omega (arith, each)) (omega (arith, also_each))
+verdicts_answer origin number past [] verdicts others tied also_tied each also_each small also_small = refl
+verdicts_answer origin number past (item ∷ items) [] others tied also_tied each also_each small also_small = absurd (omega (arith, each))
+verdicts_answer origin number past (item ∷ items) (verdict ∷ verdicts) [] tied also_tied each also_each small also_small = absurd (omega (arith, also_each))
+verdicts_answer origin number past (item ∷ items) (verdict ∷ verdicts) (other ∷ others) tied also_tied each also_each small also_small =
+    ap (λ (it : Answer). and_then it (answers origin (number + 1) it.past verdicts items)) same
+    ∙ ap (and_then first) (verdicts_answer origin (number + 1) first.past items verdicts others tied.1 also_tied.1 (omega (arith, each)) (omega (arith, also_each))
     (later_empty (large_in verdict) (large_texts verdicts) small) (later_empty (large_in other) (large_texts others) also_small))
   where
     first : Answer
-    first = answer (refused_line number) past other item
+    first = answer (refused_line origin number) past other item
 
-    same : answer (refused_line number) past verdict item ≡ first
+    same : answer (refused_line origin number) past verdict item ≡ first
     same =
-        item_answers (refused_line number) past item verdict other tied.0 also_tied.0
+        item_answers (refused_line origin number) past item verdict other tied.0 also_tied.0
         (first_empty (large_in verdict) (large_texts verdicts) small) (first_empty (large_in other) (large_texts others) also_small)

@@ -8,6 +8,7 @@ pub mod Lives
 pub mod Turns
 pub mod Refusals
 pub mod Changes
+pub mod Logs
 pub mod Shows
 pub mod Answers
 pub mod Ties

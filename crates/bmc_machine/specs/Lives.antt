@@ -7,7 +7,7 @@ use Rattle.inventory.specs.Items.{holder, id_eq}
 use Rattle.inventory.specs.declared.family.Family.TheVariants as families
 use Rattle.sensor_core.specs.Sensors.{Outcome, Good, Lost, Sensor, sensor_of}
 use Rattle.live_sensors.specs.Items.{setting_in}
-use Rattle.bmc_machine.specs.Histories.{Step, Strict, Configure, Plug, RefusedPlug, Unplug, Read, Lose, Tick, tick_of}
+use Rattle.bmc_machine.specs.Histories.{Step, Start, Configure, Plug, RefusedPlug, Unplug, Read, Lose, Tick, tick_of}
 use Rattle.bmc_machine.specs.Indexes.{live_now}
 
 -- whether an item with this id is among these
@@ -18,7 +18,7 @@ has_id items id = list_any (λ (item : Item). id_eq item.id id) items
 abbrev pub outcome_of : List ℕ → ℕ → Step → List Outcome
 outcome_of name tick (Read other raw) = if bytes_eq name other then Good raw tick ∷ [] else []
 outcome_of name tick (Lose other) = if bytes_eq name other then Lost ∷ [] else []
-outcome_of name tick Strict = []
+outcome_of name tick (Start options) = []
 outcome_of name tick (Configure config) = []
 outcome_of name tick (Plug place bytes) = []
 outcome_of name tick (RefusedPlug place bytes refusal) = []

@@ -28,7 +28,7 @@ use Rattle.inventory.specs.declared.fault.InventoryFault.{InventoryFault}
 use Rattle.inventory.specs.declared.fault.InventoryFault.TheVariants as limits
 use Rattle.bmc_machine.specs.Standings.{Standing, is_present}
 use Rattle.bmc_machine.specs.Boards.{board_keys}
-use Rattle.bmc_machine.specs.Histories.{Step, Strict, Configure, Plug, RefusedPlug, Unplug, Read, Lose, Tick, standing, after_step}
+use Rattle.bmc_machine.specs.Histories.{Step, Start, Configure, Plug, RefusedPlug, Unplug, Read, Lose, Tick, standing, after_step}
 use Rattle.bmc_machine.specs.Indexes.{live_now}
 
 -- the refusal by a rule that bytes break to be a record; want of memory is no rule
@@ -102,7 +102,7 @@ is_unknown live name = is_none (holder live families.Sensor name)
 
 -- why a step is refused where this stands and these items are live, or none
 abbrev pub refusal_of : Standing → List Item → Step → Option Refusal
-refusal_of now live Strict = None
+refusal_of now live (Start options) = None
 refusal_of now live (Configure config) =
     if now.plugged then Some ConfigAfterPlug
     else if is_some (number_of now.configs config.name) then Some DuplicateName
@@ -126,7 +126,7 @@ refusal_after past step = refusal_of (standing past) (live_now past) step
 
 -- a step may follow a history: it is not refused there, or it says for which reason a plug is
 abbrev pub IsLegalStep : List Step → Step → Type 0
-IsLegalStep past Strict = ⊤
+IsLegalStep past (Start options) = ⊤
 IsLegalStep past (Configure config) = refusal_after past (Configure config) ≡ None
 IsLegalStep past (Plug place bytes) = refusal_after past (Plug place bytes) ≡ None
 IsLegalStep past (RefusedPlug place bytes refusal) = refusal_after past (Plug place bytes) ≡ Some refusal

@@ -17,7 +17,7 @@ use Rattle.bmc_report.specs.Rows.{fru_row}
 use Rattle.bmc_report.specs.SensorRows.{sensor_row}
 use Rattle.bmc_report.specs.ZoneRows.{zone_row, fan_row}
 use Rattle.bmc_report.specs.declared.topic.Topic.{Topic}
-use Rattle.bmc_report.specs.declared.topic.Topic.TheVariants.{Frus, Inventory, Sensors, Zones, Indexes}
+use Rattle.bmc_report.specs.declared.topic.Topic.TheVariants.{Frus, Inventory, Sensors, Zones, Log, Indexes}
 use Rattle.sensor_core.specs.Sensors.{Sensor, has_failed, age_at}
 use Rattle.fan_zone.specs.Live.{LiveZone, LiveFan, zones, fans}
 use Rattle.fan_zone.specs.declared.rows.ZoneRow.{ZoneRow}
@@ -27,6 +27,7 @@ use Rattle.bmc_machine.specs.Boards.{fields_at, name_of}
 use Rattle.bmc_machine.specs.Histories.{Step, standing, tick_of}
 use Rattle.bmc_machine.specs.Indexes.{kept, boards_now, live_now}
 use Rattle.bmc_machine.specs.Lives.{has_id, item_sensor}
+use Rattle.bmc_machine.specs.Logs.{log_list}
 use Rattle.bmc_machine.specs.Turns.{zone_now, fan_now}
 
 -- the row of a FRU that is present, read from its bytes
@@ -108,4 +109,5 @@ shown Frus past = fru_list (standing past).frus
 shown Inventory past = board_lists past
 shown Sensors past = sensor_list past
 shown Zones past = zone_list past
+shown Log past = log_list past
 shown Indexes past = index_list past

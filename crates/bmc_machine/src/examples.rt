@@ -1,7 +1,8 @@
-ghost use Rattle.std.specs.Prelude.{◌≡◌, ◌++◌, ◌∷◌, [], codes, true, Some};
+ghost use Rattle.std.specs.Prelude.{◌≡◌, ◌++◌, ◌∷◌, [], codes, false, Some};
 ghost use Rattle.cfg_json.specs.Verdicts.{Accepted, LargePattern};
 ghost use Rattle.bmc_machine.specs.Meetings.{first_met, met_before};
-ghost use Rattle.bmc_machine.specs.Answers.{answer_of, out};
+ghost use Rattle.bmc_machine.specs.Answers.{answer_of, answer_files, out, out_after};
+ghost use Rattle.bmc_text.specs.Items.{Block, BlockTooLong};
 ghost use Rattle.bmc_machine.specs.Examples.{riser, riser_fields, chassis, chassis_fields, damaged, bare, plug, unplug, config, fru, refused};
 ghost use Rattle.bmc_machine.specs.Examples.{always_found, never_found, asks_before, asks_behind, finds_any, finds_first, finds_chassis, finds_riser};
 ghost use Rattle.bmc_machine.specs.Examples.{opens_20, opens_below, names_fans, has_sensor, has_alarm, has_sensors};
@@ -19,7 +20,7 @@ pub fn scripts_with_frus()
     ensures twice { out [] (plug bus_1_80 riser ++ plug bus_1_80 damaged ++ unplug bus_1_80 ++ unplug bus_1_80)
         ≡ refused (codes "2") (codes "Occupied") ++ refused (codes "4") (codes "NotPresent") }
     ensures silent { out [] (codes "# a comment\n\n\r\nunplug 1 80\r") ≡ refused (codes "4") (codes "NotPresent") }
-    ensures refused { (answer_of [] (codes "unplug 1 80")).refused ≡ true }
+    ensures refused { (answer_of [] (codes "unplug 1 80")).refused ≡ 1 }
 {}
 
 /// What it prints for scripts with configurations: one that is always found and one whose block is cut short; one whose
@@ -88,6 +89,28 @@ pub fn scripts_with_sensors()
         ≡ codes "0 new board \"F\" 1 at 1 80\n0 new sensor \"T\"\n0 gone board \"F\" 1 at 1 80\n0 gone sensor \"T\"\nindex \"F\" 1 at 1 80\n"
         ++ codes "0 new board \"F\" 1 at 1 80\n0 new sensor \"T\"\nsensor \"T\" none ok -\n"
         ++ codes "board \"F\" 1 at 1 80\n  \"Sensor\" \"T\" bus 1 address 76 live\n" ++ fru bus_1_80 [] }
+{}
+
+/// What it prints of the log: the alarm of a sensor, a plug that is refused and a board that goes, each by its class, with ids from
+/// 1; items, other refusals and duties are not logged. Where the run keeps one error, the log has the last one.
+pub fn scripts_with_logs()
+    ensures classes { out [] (config (codes "150") has_alarm ++ read (codes "T 2000") ++ read (codes "T 0") ++ plug bus_1_80 damaged ++ lose (codes "U")
+        ++ show (codes "log"))
+        ≡ codes "0 new board \"A\" 1\n0 new sensor \"T\"\n0 alarm on \"T\" 0 high critical\n0 alarm off \"T\" 0 high critical\n"
+        ++ refused (codes "4") (codes "AreaChecksum Product") ++ refused (codes "5") (codes "UnknownSensor")
+        ++ codes "log 1 info 0 new board \"A\" 1\nlog 2 error 0 alarm on \"T\" 0 high critical\n"
+        ++ codes "log 3 info 0 alarm off \"T\" 0 high critical\nlog 4 error 0 refused plug 1 80 AreaChecksum Product\n" }
+    ensures capped { out_after (answer_files (record { strict = false; log_cap = 1 }) [] []) [] (plug bus_1_80 damaged ++ plug bus_1_81 damaged
+        ++ show (codes "log"))
+        ≡ refused (codes "1") (codes "AreaChecksum Product") ++ refused (codes "2") (codes "AreaChecksum Product")
+        ++ codes "log 2 error 0 refused plug 1 81 AreaChecksum Product\n" }
+{}
+
+/// What it prints for files before a script: files are numbered for themselves, and what they configure stands when the script begins.
+pub fn files_before_scripts()
+    ensures { out_after (answer_files (record { strict = false; log_cap = 200 }) [] (Block always_found ∷ Block always_found ∷ BlockTooLong ∷ []))
+        [] (codes "unplug 1 80\n")
+        ≡ codes "0 new board \"A\" 1\nfile 2 refused DuplicateName\nfile 3 refused ConfigTooLong\n" ++ refused (codes "1") (codes "NotPresent") }
 {}
 
 /// What it prints for a script with a controller: it is live once its zone is there, stays while the name of the zone moves to

@@ -3,21 +3,24 @@ ghost use Rattle.std.specs.List.{IsDistinct};
 ghost use Rattle.std.specs.List.Sorted.{IsStrictlySortedBy};
 ghost use Rattle.bmc_base.specs.Places.{Place, place_cmp, place_eq};
 ghost use Rattle.bmc_text.specs.Items.{Item};
+ghost use Rattle.bmc_report.specs.declared.refusal.Origin.{Origin};
 ghost use Rattle.bmc_report.specs.declared.refusal.Refusal.{Refusal};
 ghost use Rattle.cfg_json.specs.Configs.{Config};
 ghost use Rattle.cfg_json.specs.Verdicts.{Verdict};
-ghost use Rattle.bmc_machine.specs.Histories.{Step, Configure, Plug, RefusedPlug, Unplug, Read, Lose, standing};
+ghost use Rattle.bmc_machine.specs.Histories.{Options, Step, Configure, Plug, RefusedPlug, Unplug, Read, Lose, standing};
 ghost use Rattle.bmc_machine.specs.Indexes.{kept};
 ghost use Rattle.bmc_machine.specs.Refusals.{refusal_after, most_frus, IsLegal};
-ghost use Rattle.bmc_machine.specs.Answers.{answer_step, answer, answers, answer_of, whole_answer_of};
+ghost use Rattle.bmc_machine.specs.Answers.{Answer, answer_step, answer, answers, answer_files, answer_after, whole_answer_after};
 
 /// Each step of a history is one that may follow those before it: items leave a legal history of a legal one,
-/// and so do a whole script and the items that are whole in what was taken of one, whatever the verdicts are.
+/// and so do the files of a run that is started, a whole script behind them, and the items that are whole in what was taken of one, whatever
+/// the verdicts are.
 pub fn histories_are_legal()
-    ensures items { (number : ℕ) (past : List Step) (verdicts : List Verdict) (items : List Item)
-        → IsLegal past → IsLegal (answers number past verdicts items).past }
-    ensures script { (verdicts : List Verdict) (script : List ℕ) → IsLegal (answer_of verdicts script).past }
-    ensures whole { (verdicts : List Verdict) (bytes : List ℕ) → IsLegal (whole_answer_of verdicts bytes).past }
+    ensures items { (origin : Origin) (number : ℕ) (past : List Step) (verdicts : List Verdict) (items : List Item)
+        → IsLegal past → IsLegal (answers origin number past verdicts items).past }
+    ensures files { (options : Options) (verdicts : List Verdict) (files : List Item) → IsLegal (answer_files options verdicts files).past }
+    ensures script { (first : Answer) (verdicts : List Verdict) (script : List ℕ) → IsLegal first.past → IsLegal (answer_after first verdicts script).past }
+    ensures whole { (first : Answer) (verdicts : List Verdict) (bytes : List ℕ) → IsLegal first.past → IsLegal (whole_answer_after first verdicts bytes).past }
 {}
 
 /// After a legal history no two FRUs that are present have one place, and they stand in order of place.
@@ -57,8 +60,8 @@ pub fn refused_plugs_are_idle()
 
 /// An item that is refused leaves the configurations, the FRUs that are present and the indexes as they are.
 pub fn refused_items_are_idle()
-    ensures standing { (line : Refusal → List ℕ) (past : List Step) (verdict : Verdict) (item : Item) → (answer line past verdict item).refused ≡ true
+    ensures standing { (line : Refusal → List ℕ) (past : List Step) (verdict : Verdict) (item : Item) → (answer line past verdict item).refused ≡ 1
         → standing (answer line past verdict item).past ≡ standing past }
     ensures kept { (line : Refusal → List ℕ) (past : List Step) (verdict : Verdict) (item : Item) (number : ℕ)
-        → (answer line past verdict item).refused ≡ true → kept (answer line past verdict item).past number ≡ kept past number }
+        → (answer line past verdict item).refused ≡ 1 → kept (answer line past verdict item).past number ≡ kept past number }
 {}

@@ -10,8 +10,9 @@ mod verdicts;
 mod zones;
 
 pub use examples::{
-    boards_were_met, scripts_with_boards, scripts_with_configs, scripts_with_controllers,
-    scripts_with_frus, scripts_with_items, scripts_with_sensors,
+    boards_were_met, files_before_scripts, scripts_with_boards, scripts_with_configs,
+    scripts_with_controllers, scripts_with_frus, scripts_with_items, scripts_with_logs,
+    scripts_with_sensors,
 };
 pub use histories::{
     frus_are_few, frus_by_place, histories_are_legal, refused_items_are_idle,
