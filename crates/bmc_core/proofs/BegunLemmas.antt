@@ -1,5 +1,5 @@
--- A core to which nothing has happened.
-use Rattle.std.proofs.Common.{◌≡◌, ◌∙◌, ℕ, zero, suc, List, [], ◌∷◌, Bool, true, false, refl, ap, arith, map, subst, sym}
+-- A state to which nothing has happened.
+use Rattle.std.proofs.Common.{◌≡◌, ◌∙◌, ◌≤◌, ℕ, zero, suc, List, [], ◌∷◌, Bool, true, false, ◌||◌, refl, ap, arith, map, subst, sym}
 use Rattle.std.specs.List.{All}
 use Rattle.ctl_face.specs.Seen.{Seen, unloaded}
 use Rattle.cfg_json.specs.declared.item.Item.{Item}
@@ -7,6 +7,7 @@ use Rattle.inventory.specs.Boards.{board_places, boards_in}
 use Rattle.inventory.specs.Items.{items, live}
 use Rattle.live_sensors.specs.Sensors.{LiveSensors}
 use Rattle.bmc_report.specs.declared.change.Change.{Change}
+use Rattle.event_log.specs.Stands.{LogView, Stands as LogIsOf}
 use Rattle.fan_zone.specs.Boxes.{box_at}
 use Rattle.fan_zone.specs.IsSets.{Paired}
 use Rattle.fan_zone.specs.Live.{controls, fans, zones}
@@ -15,13 +16,15 @@ use Rattle.fan_zone.specs.Ticks.{ZonesView, no_zones}
 use Rattle.fan_zone.proofs.Numbered.{all_tail}
 use Rattle.bmc_machine.specs.Banks.{HasBank}
 use Rattle.bmc_machine.specs.Boards.{board_keys, boards}
-use Rattle.bmc_machine.specs.Histories.{Step, Strict, standing}
+use Rattle.bmc_machine.specs.Histories.{Step, Options, Start, begun, default_log_cap, is_strict, standing}
+use Rattle.bmc_machine.specs.Logs.{entries}
 use Rattle.bmc_machine.specs.Indexes.{boards_now, items_now, live_now}
 use Rattle.bmc_machine.specs.Refusals.{IsLegal}
 use Rattle.bmc_machine.specs.Turns.{fan_now, zone_now}
 use Rattle.bmc_machine.specs.Zones.{Holds, ZonesStand}
 use Rattle.bmc_machine.proofs.IdleLemmas.{live_same}
-use Rattle.bmc_core.specs.Cores.{IsCore, IsStated, Stands, begun}
+use Rattle.bmc_core.specs.Cores.{IsStated, LogStands}
+use Rattle.bmc_core.specs.States.{IsState, StateStands}
 use Rattle.bmc_core.specs.Senses.{AreLast, SensesStand, SensesView}
 use Rattle.bmc_core.proofs.NotesLemmas.{sensors_idle, watch_idle}
 
@@ -48,41 +51,54 @@ no_zones_stand bank sensors past none free = record {
   others = λ number taken. unloaded_at bank number free;
 }
 
--- strict mode is asked for, and nothing else happened
-asked_legal : IsLegal (Strict ∷ [])
+-- a run was started, and nothing else happened
+begun_legal : (options : Options) → IsLegal (begun options)
 unfolding IsLegal
-asked_legal = (tt, tt)
+begun_legal options = (tt, tt)
 
-asked_last : (told : List Change) → AreLast told [] → AreLast told (Strict ∷ [])
-asked_last [] last = tt
-asked_last (change ∷ more) last = absurd last
+begun_last : (options : Options) (told : List Change) → AreLast told [] → AreLast told (begun options)
+begun_last options [] last = tt
+begun_last options (change ∷ more) last = absurd last
 
-asked_senses : (senses : SensesView) → SensesStand senses [] → SensesStand senses (Strict ∷ [])
-asked_senses senses stood = record {
-  watch = watch_idle senses.watch senses.watch [] Strict senses.watch.changes refl asked_legal stood.watch refl;
-  sensors = λ name. stood.sensors name ∙ sym (sensors_idle [] Strict refl (λ name tick. refl) asked_legal name);
+begun_senses : (options : Options) (senses : SensesView) → SensesStand senses [] → SensesStand senses (begun options)
+begun_senses options senses stood = record {
+  watch = watch_idle senses.watch senses.watch [] (Start options) senses.watch.changes refl (begun_legal options) stood.watch refl;
+  sensors = λ name. stood.sensors name ∙ sym (sensors_idle [] (Start options) refl (λ name tick. refl) (begun_legal options) name);
   ticks = stood.ticks;
-  last = asked_last senses.watch.changes stood.last;
+  last = begun_last options senses.watch.changes stood.last;
 }
 
+-- strict mode is asked for, or not
+begun_strict : (options : Options) → is_strict (begun options) ≡ options.strict
+begun_strict options = by options.strict
+  where
+    by : (strict : Bool) → (strict || false) ≡ strict
+    by true = refl
+    by false = refl
+
+-- the state stands for the history of a run that was started in this mode, whatever else it was told
 pub stands_begun : (strict : Bool) (senses : SensesView) (bank : List Seen) (zones : ZonesView) → SensesStand senses [] → IsStated bank
-    → zones ≡ no_zones bank → Stands (record { senses = senses; zones = zones; strict = strict }) (begun strict)
-stands_begun true senses bank zones stood stated are = record {
-  senses = asked_senses senses stood;
-  zones = subst (λ (zones : ZonesView). ZonesStand zones senses.sensors (Strict ∷ [])) (sym are)
-      (no_zones_stand bank senses.sensors (Strict ∷ []) (live_same Strict [] refl ∙ none_live) stated.free);
-  strict = refl;
-}
-stands_begun false senses bank zones stood stated are = record {
-  senses = stood;
-  zones = subst (λ (zones : ZonesView). ZonesStand zones senses.sensors []) (sym are) (no_zones_stand bank senses.sensors [] none_live stated.free);
-  strict = refl;
+    → zones ≡ no_zones bank → (options : Options) → options.strict ≡ strict
+    → StateStands (record { senses = senses; zones = zones; strict = strict }) (begun options)
+stands_begun strict senses bank zones stood stated are options same = record {
+  senses = begun_senses options senses stood;
+  zones = subst (λ (zones : ZonesView). ZonesStand zones senses.sensors (begun options)) (sym are)
+      (no_zones_stand bank senses.sensors (begun options) (live_same (Start options) [] refl ∙ none_live) stated.free);
+  strict = sym (begun_strict options ∙ same);
 }
 
-pub core_begun : (strict : Bool) (senses : SensesView) (bank : List Seen) (zones : ZonesView) → SensesStand senses [] → IsStated bank
-    → zones ≡ no_zones bank → IsCore (record { senses = senses; zones = zones; strict = strict })
-core_begun strict senses bank zones stood stated are = record {
-  past = begun strict;
-  stands = stands_begun strict senses bank zones stood stated are;
-  enough = subst (λ (zones : ZonesView). HasBank zones.bank) (sym are) stated.enough;
-}
+pub state_begun : (strict : Bool) (senses : SensesView) (bank : List Seen) (zones : ZonesView) → SensesStand senses [] → IsStated bank
+    → zones ≡ no_zones bank → IsState (record { senses = senses; zones = zones; strict = strict })
+state_begun strict senses bank zones stood stated are =
+    let options : Options = record { strict = strict; log_cap = default_log_cap } in
+    record {
+      past = begun options;
+      stands = stands_begun strict senses bank zones stood stated are options refl;
+      enough = subst (λ (zones : ZonesView). HasBank zones.bank) (sym are) stated.enough;
+    }
+
+-- the log of a run that was started has no entries
+pub log_begun : (options : Options) (log : LogView) → LogIsOf log [] → log.error_cap ≡ options.log_cap → 1 ≤ options.log_cap
+    → LogStands log (begun options)
+unfolding entries
+log_begun options log none cap some = record { entries = none; cap = cap; some = subst (λ (most : ℕ). 1 ≤ most) (sym cap) some }

@@ -1,244 +1,184 @@
--- What each act leaves of a core: what it leaves of the senses, and of the zones.
-use Rattle.std.proofs.Common.{◌≡◌, ◌≤◌, ◌∙◌, ℕ, List, ◌∷◌, ◌||◌, Bool, true, false, Ok, Err, refl, ap, sym, subst, arith, length}
+-- What each act leaves of a core: what it leaves of its state, and of its log.
+use Rattle.std.proofs.Common.{◌≡◌, ◌∙◌, ◌≤◌, ◌+◌, ℕ, List, [], ◌∷◌, ◌++◌, Option, Some, None, Ok, Err, arith, length, refl, ap, sym, subst}
 use Rattle.std.specs.Prelude.{⊤, Result}
-use Rattle.std.specs.List.{All}
-use Rattle.cfg_json.specs.Configs.{IsValidConfig}
-use Rattle.cfg_json.specs.declared.item.Item.{Item}
-use Rattle.inventory.specs.Items.{live}
-use Rattle.inventory.proofs.ListLemmas.{all_any}
+use Rattle.std.specs.List.{fold}
+use Rattle.bmc_base.specs.Places.{Place}
+use Rattle.bmc_report.specs.declared.change.Change.{Change}
 use Rattle.bmc_report.specs.declared.refusal.Refusal.{Refusal}
-use Rattle.live_sensors.specs.Sensors.{LiveSensors}
-use Rattle.fan_zone.specs.IsSets.{IsSet}
-use Rattle.fan_zone.specs.Live.{LiveControl, controls, fans, zones}
-use Rattle.fan_zone.specs.Sets.{held_of, seat_of}
-use Rattle.fan_zone.specs.declared.held.Held.{Held}
-use Rattle.fan_zone.specs.Settings.{CanSet}
-use Rattle.fan_zone.specs.Ticks.{ZonesView}
-use Rattle.fan_zone.proofs.ActsLemmas.{controls_acting, fans_acting, length_acting, zones_acting}
+use Rattle.bmc_base.specs.Counts.{raised}
+use Rattle.event_log.specs.Stands.{LogView, Stands as LogIsOf, nth_id}
+use Rattle.event_log.specs.Updates.{next_entry}
+use Rattle.event_log.specs.declared.entry.LogEntry.{LogEntry}
+use Rattle.event_log.proofs.KeptLemmas.{stands_more}
+use Rattle.event_log.specs.declared.entry.Class.{Class}
 use Rattle.bmc_machine.specs.Answers.{past_refused}
-use Rattle.bmc_machine.specs.Banks.{AreFit, HasBank}
-use Rattle.bmc_machine.specs.Histories.{Step, Strict, Configure, Plug, RefusedPlug, Unplug, Read, Lose, Tick, asks_strict, is_idle_step, is_strict, is_tick}
-use Rattle.bmc_machine.specs.Indexes.{live_now}
-use Rattle.bmc_machine.specs.Zones.{Holds, ZonesStand}
-use Rattle.bmc_machine.proofs.BankLemmas.{can_set}
-use Rattle.bmc_machine.proofs.FitLemmas.{fit, fit_alike}
-use Rattle.bmc_machine.proofs.LiveLimitLemmas.{few_controls, few_fans, few_zones}
-use Rattle.bmc_machine.proofs.SettingLemmas.{zones_set}
-use Rattle.bmc_machine.proofs.WaitingLemmas.{paired_with, zones_wait}
-use Rattle.bmc_watch.specs.Watches.{view_items}
-use Rattle.bmc_watch.proofs.WatchesLemmas.{live_is}
-use Rattle.bmc_core.specs.Acting.{acting, most_acting}
-use Rattle.bmc_core.specs.Acts.{Applies, Notes, TakesMemory}
-use Rattle.bmc_core.specs.Cores.{CoreView, IsCore, Stands}
-use Rattle.bmc_core.specs.Senses.{SensesStand, SensesView}
+use Rattle.bmc_machine.specs.Changes.{changes}
+use Rattle.bmc_machine.specs.Histories.{Step, Start, Configure, Plug, RefusedPlug, Unplug, Read, Lose, Tick, cap_after, log_cap, tick_of}
+use Rattle.bmc_machine.specs.Logs.{class_of, entries, news, with_change, with_entry}
+use Rattle.bmc_core.specs.declared.act.Act.{Act}
+use Rattle.bmc_core.specs.declared.act.Act.TheVariants as acts
 use Rattle.bmc_core.specs.declared.fault.CoreFault.{CoreFault}
 use Rattle.bmc_core.specs.declared.fault.CoreFault.TheVariants.{Refused, OutOfMemory}
+use Rattle.bmc_core.specs.Acts.{Applies, StateApplies, step_of}
+use Rattle.bmc_core.specs.Cores.{CoreView, LogStands, Stands, ticked_core}
+use Rattle.bmc_core.specs.Logging.{Logs, heard, log_refused, noted, noted_as, noted_change, plug_place, refused_plug}
+use Rattle.bmc_core.specs.States.{StateView, ticked_state}
+use Rattle.bmc_core.proofs.TickedLemmas.{tick_applies}
 
--- ---- what a step leaves of strictness, and of zones that wait
+-- a step that may be done: all that it changed is news for the log, and the log keeps as many errors as before
+pub record IsDone (step : Step) : Type 0 where
+  pub tells : (told : List Change) → news step told ≡ told
+  pub keeps : (cap : ℕ) → cap_after step cap ≡ cap
 
-strict_next : (past : List Step) (step : Step) → asks_strict step ≡ false → is_strict (step ∷ past) ≡ is_strict past
-strict_next past step not = ap (λ (asks : Bool). asks || is_strict past) not
+-- each act is one
+pub is_done : {L : Type 0} (act : Act L) → IsDone (step_of act)
+is_done (acts.Config config) = record { tells = λ told. refl; keeps = λ cap. refl }
+is_done (acts.Plug place bytes) = record { tells = λ told. refl; keeps = λ cap. refl }
+is_done (acts.Unplug place) = record { tells = λ told. refl; keeps = λ cap. refl }
+is_done (acts.Good name raw) = record { tells = λ told. refl; keeps = λ cap. refl }
+is_done (acts.Lost name) = record { tells = λ told. refl; keeps = λ cap. refl }
+is_done acts.Tick = record { tells = λ told. refl; keeps = λ cap. refl }
 
-strict_refused : (past : List Step) (step : Step) (refusal : Refusal) → is_strict (past_refused past step refusal) ≡ is_strict past
-strict_refused past Strict refusal = refl
-strict_refused past (Configure config) refusal = refl
-strict_refused past (Plug place bytes) refusal = refl
-strict_refused past (RefusedPlug place bytes reason) refusal = refl
-strict_refused past (Unplug place) refusal = refl
-strict_refused past (Read name raw) refusal = refl
-strict_refused past (Lose name) refusal = refl
-strict_refused past Tick refusal = refl
+pub tick_done : IsDone Tick
+tick_done = record { tells = λ told. refl; keeps = λ cap. refl }
 
--- zones stand as well where the names of the sensors keep their slots
-zones_same : (view : ZonesView) (sensors now : LiveSensors) (past : List Step) → now.names ≡ sensors.names → ZonesStand view sensors past
-    → ZonesStand view now past
-zones_same view sensors now past names stands = record {
-  zone_plans = stands.zone_plans;
-  zone_rows = stands.zone_rows;
-  fan_plans = stands.fan_plans;
-  fan_rows = stands.fan_rows;
-  held = paired_with (λ (control : LiveControl). ⊤) (Holds view.zone_rows sensors view.bank past) (Holds view.zone_rows now view.bank past)
-      (controls (live_now past)) view.held renamed (all_any _ (λ (control : LiveControl). tt) (controls (live_now past))) stands.held;
-  apart = stands.apart;
-  others = stands.others;
-}
+-- ---- the log
+
+-- a log that notes changes keeps as many errors as before
+noted_cap : (tick : ℕ) (told : List Change) (log : LogView) → (noted tick told log).error_cap ≡ log.error_cap
+noted_cap tick [] log = refl
+noted_cap tick (change ∷ told) log = noted_cap tick told (noted_change tick log change) ∙ one (class_of change)
   where
-    renamed : (control : LiveControl) (held : Held) → ⊤ → Holds view.zone_rows sensors view.bank past control held
-        → Holds view.zone_rows now view.bank past control held
-    renamed control held any holds = record {
-      names =
-          holds.names
-          ∙ ap (λ (names : List (List ℕ × ℕ)). held_of view.zone_rows (record { names = names; slots = sensors.slots; room = sensors.room }) control
-          (seat_of held)) (sym names);
-      age = holds.age;
-      box = holds.box;
-    }
+    one : (class : Option Class) → (noted_as tick log change class).error_cap ≡ log.error_cap
+    one None = refl
+    one (Some class) = refl
 
--- zones wait while a step is refused, where the names of the sensors keep their slots
-zones_refused : (view : ZonesView) (sensors now : LiveSensors) (past : List Step) (step : Step) (refusal : Refusal) → now.names ≡ sensors.names
-    → ZonesStand view sensors past → ZonesStand view now (past_refused past step refusal)
-zones_refused view sensors now past (Plug place bytes) refusal names stands =
-    zones_wait view sensors now (RefusedPlug place bytes refusal) past refl refl names stands
-zones_refused view sensors now past Strict refusal names stands = zones_same view sensors now past names stands
-zones_refused view sensors now past (Configure config) refusal names stands = zones_same view sensors now past names stands
-zones_refused view sensors now past (RefusedPlug place bytes reason) refusal names stands = zones_same view sensors now past names stands
-zones_refused view sensors now past (Unplug place) refusal names stands = zones_same view sensors now past names stands
-zones_refused view sensors now past (Read name raw) refusal names stands = zones_same view sensors now past names stands
-zones_refused view sensors now past (Lose name) refusal names stands = zones_same view sensors now past names stands
-zones_refused view sensors now past Tick refusal names stands = zones_same view sensors now past names stands
+still_some : (old new : LogView) (tick : ℕ) (told : List Change) → Logs old tick told new → 1 ≤ old.error_cap → 1 ≤ new.error_cap
+still_some old new tick told logs some =
+    subst (λ (most : ℕ). 1 ≤ most) (sym (ap (λ (log : LogView). log.error_cap) logs.exact ∙ noted_cap tick told old)) some
 
--- ---- an act that leaves the zones
+-- a log that keeps at least one error notes any changes
+logs_noted : (tick : ℕ) (told : List Change) (log : LogView) → 1 ≤ log.error_cap → Logs log tick told (noted tick told log)
+logs_noted tick [] log some = record { exact = refl; stands = λ all stands. stands }
+logs_noted tick (change ∷ told) log some =
+    let later = logs_noted tick told (noted_change tick log change) (subst (λ (most : ℕ). 1 ≤ most) (sym (noted_cap tick (change ∷ []) log)) some) in
+    record { exact = refl; stands = λ all stands. later.stands (with_change tick all change) (one (class_of change) all stands) }
+  where
+    one : (class : Option Class) (all : List LogEntry) → LogIsOf log all → LogIsOf (noted_as tick log change class) (with_entry tick all change class)
+    one None all stands = stands
+    one (Some class) all stands =
+        subst (λ (entry : LogEntry). LogIsOf (noted_as tick log change (Some class)) (all ++ entry ∷ []))
+        (λ i. record { id = next stands i; class = class; tick = tick; change = change })
+        (stands_more log all (next_entry log class tick change) some refl stands)
+      where
+        next : LogIsOf log all → raised log.last_id 1 ≡ nth_id (length all + 1)
+        next stands = let counted = stands.counted in grind (arith, counted)
 
--- the names of the sensors keep their slots where a step is not done
-names_left : (old new : SensesView) (step : Step) (fault : CoreFault) → Notes old step (Err fault) new → new.sensors.names ≡ old.sensors.names
-names_left old new step (Refused refusal) notes = ap (λ (senses : SensesView). senses.sensors.names) notes.left
-names_left old new step OutOfMemory notes = notes.left.1.sensors.names
-
--- an act that is not done leaves the zones
-pub not_done : (old new : CoreView) (step : Step) (fault : CoreFault) → Notes old.senses step (Err fault) new.senses → new.zones ≡ old.zones
-    → new.strict ≡ old.strict → Applies old step (Err fault) new
-not_done old new step (Refused refusal) notes zones strict = record {
-  stands = λ past stood.
-      let noted = notes.stand past stood.senses in (
-        noted.0,
-        record {
-          senses = noted.1;
-          zones = subst (λ (view : ZonesView). ZonesStand view new.senses.sensors (past_refused past step refusal)) (sym zones)
-              (zones_refused old.zones old.senses.sensors new.senses.sensors past step refusal
-              (names_left old.senses new.senses step (Refused refusal) notes) stood.zones);
-          strict = strict ∙ stood.strict ∙ sym (strict_refused past step refusal);
-        },
-      );
-  left = λ i. record { senses = notes.left i; zones = zones i; strict = strict i };
-}
-not_done old new step OutOfMemory notes zones strict = record {
-  stands = λ past stood. record {
-    senses = notes.stand past stood.senses;
-    zones = subst (λ (view : ZonesView). ZonesStand view new.senses.sensors past) (sym zones)
-        (zones_same old.zones old.senses.sensors new.senses.sensors past (names_left old.senses new.senses step OutOfMemory notes) stood.zones);
-    strict = strict ∙ stood.strict;
-  };
-  left = (notes.left.0, record { senses = notes.left.1; zones = zones; strict = strict });
+-- a log notes what a done step changed
+log_done : (old new : LogView) (past : List Step) (step : Step) (tick : ℕ) (told : List Change) → IsDone step → tick ≡ tick_of (step ∷ past)
+    → told ≡ changes past step → Logs old tick told new → LogStands old past → LogStands new (step ∷ past)
+unfolding entries
+log_done old new past step tick told done clock same logs stood = record {
+  entries = subst (LogIsOf new) (λ i. fold (with_change (clock i)) (entries past) ((same ∙ sym (done.tells (changes past step))) i))
+      (logs.stands (entries past) stood.entries);
+  cap = ap (λ (log : LogView). log.error_cap) logs.exact ∙ noted_cap tick told old ∙ stood.cap ∙ sym (done.keeps (log_cap past));
+  some = still_some old new tick told logs stood.some;
 }
 
--- a reading and a loss leave the zones, done or not
-pub sensed : (old new : CoreView) (step : Step) (result : Result ⊤ CoreFault) → is_idle_step step ≡ true → is_tick step ≡ false → asks_strict step ≡ false
-    → Notes old.senses step result new.senses → new.senses.sensors.names ≡ old.senses.sensors.names → new.zones ≡ old.zones → new.strict ≡ old.strict
-    → Applies old step result new
-sensed old new step (Err fault) idle still plain notes names zones strict = not_done old new step fault notes zones strict
-sensed old new step (Ok done) idle still plain notes names zones strict = record {
+-- a log that notes nothing stands as it did
+log_same : (old new : LogView) (past : List Step) (tick : ℕ) → Logs old tick [] new → LogStands old past → LogStands new past
+log_same old new past tick logs stood = record {
+  entries = logs.stands (entries past) stood.entries;
+  cap = ap (λ (log : LogView). log.error_cap) logs.exact ∙ stood.cap;
+  some = still_some old new tick [] logs stood.some;
+}
+
+-- a log notes a plug that was refused
+log_plug : (old new : LogView) (past : List Step) (step : Step) (tick : ℕ) (told : List Change) → tick ≡ tick_of (step ∷ past)
+    → news step (changes past step) ≡ told → log_cap (step ∷ past) ≡ log_cap past → Logs old tick told new → LogStands old past
+    → LogStands new (step ∷ past)
+unfolding entries
+log_plug old new past step tick told clock same keeps logs stood = record {
+  entries = subst (LogIsOf new) (λ i. fold (with_change (clock i)) (entries past) (sym same i)) (logs.stands (entries past) stood.entries);
+  cap = ap (λ (log : LogView). log.error_cap) logs.exact ∙ noted_cap tick told old ∙ stood.cap ∙ sym keeps;
+  some = still_some old new tick told logs stood.some;
+}
+
+log_refuses : (old new : LogView) (past : List Step) (step : Step) (refusal : Refusal) (tick : ℕ) → tick ≡ tick_of past
+    → Logs old tick (refused_plug (plug_place step) refusal) new → LogStands old past → LogStands new (past_refused past step refusal)
+log_refuses old new past (Plug place bytes) refusal tick clock logs stood =
+    log_plug old new past (RefusedPlug place bytes refusal) tick _ clock refl refl logs stood
+log_refuses old new past (Start options) refusal tick clock logs stood = log_same old new past tick logs stood
+log_refuses old new past (Configure config) refusal tick clock logs stood = log_same old new past tick logs stood
+log_refuses old new past (RefusedPlug place bytes reason) refusal tick clock logs stood = log_same old new past tick logs stood
+log_refuses old new past (Unplug place) refusal tick clock logs stood = log_same old new past tick logs stood
+log_refuses old new past (Read name raw) refusal tick clock logs stood = log_same old new past tick logs stood
+log_refuses old new past (Lose name) refusal tick clock logs stood = log_same old new past tick logs stood
+log_refuses old new past Tick refusal tick clock logs stood = log_same old new past tick logs stood
+
+-- ---- the core
+
+-- an act that is done to the state, or not, is done to the core, or not, where the log notes what it hears of it
+pub core_applies : (old new : CoreView) (step : Step) (result : Result ⊤ CoreFault) → IsDone step → StateApplies old.state step result new.state
+    → Logs old.log new.state.senses.ticks (heard result (plug_place step) new.state.senses.watch.changes) new.log → Applies old step result new
+core_applies old new step (Ok done) may applies logs = record {
   stands = λ past stood.
-      let noted = notes.stand past stood.senses in (
-        noted.0,
+      let now = applies.stands past stood.state in (
+        now.0,
         record {
-          senses = noted.1;
-          zones = subst (λ (view : ZonesView). ZonesStand view new.senses.sensors (step ∷ past)) (sym zones)
-              (zones_wait old.zones old.senses.sensors new.senses.sensors step past idle still names stood.zones);
-          strict = strict ∙ stood.strict ∙ sym (strict_next past step plain);
+          state = now.1;
+          log = log_done old.log new.log past step new.state.senses.ticks new.state.senses.watch.changes may now.1.senses.ticks now.2 logs stood.log;
         },
-        noted.2,
+        now.2,
       );
   left = tt;
 }
-
--- ---- an event, after which the zones are set to the live items
-
-module _ (old : CoreView) (step : Step) (new : SensesView) (still : is_tick step ≡ false) (plain : asks_strict step ≡ false)
-    (notes : Notes old.senses step (Ok tt) new) where
-  abbrev pub those : List Item
-  those = acting (live (view_items new.watch))
-
-  module _ (past : List Step) (stood : Stands old past) where
-    stands_then : SensesStand new (step ∷ past)
-    stands_then = (notes.stand past stood.senses).1
-
-    are_live : live (view_items new.watch) ≡ live_now (step ∷ past)
-    are_live = live_is new.watch (step ∷ past) stands_then.watch
-
-    same_controls : controls those ≡ controls (live_now (step ∷ past))
-    same_controls = controls_acting (live (view_items new.watch)) ∙ ap controls are_live
-
-    same_zones : zones those ≡ zones (live_now (step ∷ past))
-    same_zones = zones_acting (live (view_items new.watch)) ∙ ap zones are_live
-
-    same_fans : fans those ≡ fans (live_now (step ∷ past))
-    same_fans = fans_acting (live (view_items new.watch)) ∙ ap fans are_live
-
-    fits : All IsValidConfig new.watch.configs → AreFit those
-    fits valid =
-        fit_alike (live_now (step ∷ past)) those same_controls same_zones same_fans
-        (fit (step ∷ past) stands_then.watch.legal (subst (All IsValidConfig) stands_then.watch.configs valid))
-
-    few : length those ≤ most_acting
-    few =
-        let legal = stands_then.watch.legal in
-        let all = length_acting (live (view_items new.watch)) in
-        let zones_few = few_zones (step ∷ past) legal in
-        let fans_few = few_fans (step ∷ past) legal in
-        let controls_few = few_controls (step ∷ past) legal in
-        let zones_are : length (zones (live (view_items new.watch))) ≡ length (zones (live_now (step ∷ past))) =
-        ap (λ (items : List Item). length (zones items)) are_live in
-        let fans_are : length (fans (live (view_items new.watch))) ≡ length (fans (live_now (step ∷ past))) =
-        ap (λ (items : List Item). length (fans items)) are_live in
-        let controls_are : length (controls (live (view_items new.watch))) ≡ length (controls (live_now (step ∷ past))) =
-        ap (λ (items : List Item). length (controls items)) are_live in
-        omega (arith, all, zones_few, fans_few, controls_few, zones_are, fans_are, controls_are)
-
-  -- there is room to gather them
-  pub few_acting : IsCore old → length those ≤ most_acting
-  few_acting core = few core.past core.stands
-
-  -- and the zones can take them
-  pub can_take : IsCore old → All IsValidConfig new.watch.configs → CanSet old.zones those
-  can_take core valid =
-      can_set old.zones old.senses.sensors step core.past those (stands_then core.past core.stands).watch.legal (same_controls core.past core.stands)
-      core.stands.zones core.enough (fits core.past core.stands valid)
-
-  -- then the core stands for the longer history
-  pub happened : (view : ZonesView) → IsSet old.zones those new.sensors view
-      → Applies old step (Ok tt) (record { senses = new; zones = view; strict = old.strict })
-  happened view set = record {
-    stands = λ past stood.
-        let noted = notes.stand past stood.senses in (
-          noted.0,
-          record {
-            senses = noted.1;
-            zones = zones_set old.zones view old.senses.sensors new.sensors step past those noted.1.watch.legal still (same_controls past stood)
-                (same_zones past stood) (same_fans past stood) stood.zones set;
-            strict = stood.strict ∙ sym (strict_next past step plain);
-          },
-          noted.2,
-        );
-    left = tt;
-  }
-
--- ---- each core stands for a history
-
--- an act leaves a core, whether it is done or not
-pub core_next : (old new : CoreView) (step : Step) (result : Result ⊤ CoreFault) → IsCore old → Applies old step result new → HasBank new.zones.bank → IsCore new
-core_next old new step (Ok done) core applies bank =
-    let then = applies.stands core.past core.stands in
-    record { past = step ∷ core.past; stands = then.1; enough = bank }
-core_next old new step (Err (Refused refusal)) core applies bank =
-    let then = applies.stands core.past core.stands in
-    record { past = past_refused core.past step refusal; stands = then.1; enough = bank }
-core_next old new step (Err OutOfMemory) core applies bank =
-    record { past = core.past; stands = applies.stands core.past core.stands; enough = bank }
-
--- memory is wanting before an event
-pub not_begun : (old : CoreView) (step : Step) → TakesMemory step → Applies old step (Err OutOfMemory) old
-not_begun old step takes = record {
-  stands = λ past stood. stood;
-  left = (
-    takes,
-    record {
-      senses = record {
-        watch = record { configs = refl; entries = refl; plugged = refl; kept = λ number. refl; changes = refl };
-        sensors = record { names = refl; slots = refl };
-        ticks = refl;
-      };
-      zones = refl;
-      strict = refl;
-    },
-  );
+core_applies old new step (Err (Refused refusal)) may applies logs = record {
+  stands = λ past stood.
+      let now = applies.stands past stood.state in (
+        now.0,
+        record {
+          state = now.1;
+          log = log_refuses old.log new.log past step refusal new.state.senses.ticks (still ∙ stood.state.senses.ticks) logs stood.log;
+        },
+      );
+  left = (applies.left, logs.exact ∙ ap (λ (tick : ℕ). log_refused step refusal tick old.log) still);
 }
+  where
+    still : new.state.senses.ticks ≡ old.state.senses.ticks
+    still = ap (λ (state : StateView). state.senses.ticks) applies.left
+core_applies old new step (Err OutOfMemory) may applies logs = record {
+  stands = λ past stood. record {
+    state = applies.stands past stood.state;
+    log = log_same old.log new.log past new.state.senses.ticks logs stood.log;
+  };
+  left = (applies.left.0, applies.left.1, logs.exact);
+}
+
+-- the same, where the log heard it at the tick count of then, of the changes of then, and by the place of the plug
+pub core_tried : (old new : CoreView) (step : Step) (result : Result ⊤ CoreFault) (plugged : Option Place) (tick : ℕ) (told : List Change) → IsDone step
+    → StateApplies old.state step result new.state → plugged ≡ plug_place step → tick ≡ new.state.senses.ticks → told ≡ new.state.senses.watch.changes
+    → Logs old.log tick (heard result plugged told) new.log → Applies old step result new
+core_tried old new step result plugged tick told may applies place clock same logs =
+    core_applies old new step result may applies
+    (subst (λ (told : List Change). Logs old.log new.state.senses.ticks told new.log) (λ i. heard result (place i) (same i))
+    (subst (λ (tick : ℕ). Logs old.log tick (heard result plugged told) new.log) clock logs))
+
+-- a core after a tick
+pub core_ticked : (old : CoreView) (state : StateView) (tick : ℕ) (told : List Change) (log : LogView) → state ≡ ticked_state old.state
+    → tick ≡ state.senses.ticks → told ≡ state.senses.watch.changes → log ≡ noted tick told old.log
+    → record { state = state; log = log } ≡ ticked_core old
+core_ticked old state tick told log is clock same logged = λ i. record { state = is i; log = (logged ∙ then) i }
+  where
+    then : noted tick told old.log ≡ (ticked_core old).log
+    then = λ i.
+        noted ((clock ∙ ap (λ (state : StateView). state.senses.ticks) is) i) ((same ∙ ap (λ (state : StateView). state.senses.watch.changes) is) i) old.log
+
+-- and it stands for the history with the tick, where the core stood for the history
+pub core_ticks : (core : CoreView) (past : List Step) → Stands core past
+    → Stands (ticked_core core) (Tick ∷ past) × ((ticked_core core).state.senses.watch.changes ≡ changes past Tick)
+core_ticks core past stood =
+    let then = ticked_state core.state in
+    let logs = logs_noted then.senses.ticks then.senses.watch.changes core.log stood.log.some in
+    let applies = core_applies core (ticked_core core) Tick (Ok tt) tick_done (tick_applies core.state) logs in
+    let stands = applies.stands past stood in (stands.1, stands.2)

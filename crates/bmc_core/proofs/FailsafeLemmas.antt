@@ -26,26 +26,26 @@ use Rattle.bmc_machine.proofs.SinceLemmas.{since_live}
 use Rattle.bmc_machine.proofs.TickLemmas.{at_place, found_passes}
 use Rattle.bmc_machine.proofs.TickedLemmas.{fans_there}
 use Rattle.bmc_watch.proofs.WatchesLemmas.{live_is}
-use Rattle.bmc_core.specs.Cores.{CoreView, IsCore, Stands, ticked_core, zones_ticked}
+use Rattle.bmc_core.specs.States.{StateView, IsState, StateStands, ticked_state, zones_ticked}
 use Rattle.bmc_core.specs.Failsafe.{IsFailsafe, holder_of, is_zone_bad, live_items, zone_of}
 use Rattle.bmc_core.proofs.TickedLemmas.{ticked_stands}
 
-module _ (core : CoreView) (past : List Step) (stood : Stands core past) where
-  live_are : live_items (ticked_core core) ≡ live_now past
-  live_are = live_is core.senses.watch past stood.senses.watch
+module _ (state : StateView) (past : List Step) (stood : StateStands state past) where
+  live_are : live_items (ticked_state state) ≡ live_now past
+  live_are = live_is state.senses.watch past stood.senses.watch
 
-  counted : raised core.senses.ticks 1 ≡ next_tick past
+  counted : raised state.senses.ticks 1 ≡ next_tick past
   counted = ap (λ (count : ℕ). raised count 1) stood.senses.ticks
 
-  inputs_are : (names : List (List ℕ)) → map (sensor_in core.senses.sensors) names ≡ map (sensor_now past) names
+  inputs_are : (names : List (List ℕ)) → map (sensor_in state.senses.sensors) names ≡ map (sensor_now past) names
   inputs_are [] = refl
   inputs_are (name ∷ names) =
       ap₂ (λ (first : Option Sensor) (later : List (Option Sensor)). first ∷ later) (stood.senses.sensors name) (inputs_are names)
 
-  -- what is bad for the core is bad for the history
+  -- what is bad for the state is bad for the history
   bad_are : (name : List ℕ) (those : List LiveControl)
       → list_any (λ (control : LiveControl). bytes_eq control.item.zone name
-      && has_bad (raised core.senses.ticks 1) (map (sensor_in core.senses.sensors) control.item.inputs)) those
+      && has_bad (raised state.senses.ticks 1) (map (sensor_in state.senses.sensors) control.item.inputs)) those
       ≡ list_any (λ (control : LiveControl). bytes_eq control.item.zone name
       && has_bad (next_tick past) (map (sensor_now past) control.item.inputs)) those
   bad_are name [] = refl
@@ -55,8 +55,8 @@ module _ (core : CoreView) (past : List Step) (stood : Stands core past) where
       (bad_are name those)
 
   module _ (number : ℕ) (fan : LiveFan) (control : LiveControl) (zone : LiveZone)
-      (at : slice_get (fans (live_items (ticked_core core))) number ≡ Some fan) (holds : holder_of (ticked_core core) fan ≡ Some control)
-      (named : zone_of (ticked_core core) control ≡ Some zone) (bad : is_zone_bad (ticked_core core) zone.name ≡ true) where
+      (at : slice_get (fans (live_items (ticked_state state))) number ≡ Some fan) (holds : holder_of (ticked_state state) fan ≡ Some control)
+      (named : zone_of (ticked_state state) control ≡ Some zone) (bad : is_zone_bad (ticked_state state) zone.name ≡ true) where
     fan_at : slice_get (fans (live_now past)) number ≡ Some fan
     fan_at = ap (λ (live : List Item). slice_get (fans live) number) (sym live_are) ∙ at
 
@@ -75,7 +75,7 @@ module _ (core : CoreView) (past : List Step) (stood : Stands core past) where
     failsafe =
         ap (in_failsafe past) (sym same_name) ∙ sym (bad_are zone.name (controls (live_now past)))
         ∙ ap (λ (live : List Item). list_any (λ (control : LiveControl). bytes_eq control.item.zone zone.name
-        && has_bad (raised core.senses.ticks 1) (map (sensor_in core.senses.sensors) control.item.inputs)) (controls live)) (sym live_are)
+        && has_bad (raised state.senses.ticks 1) (map (sensor_in state.senses.sensors) control.item.inputs)) (controls live)) (sym live_are)
         ∙ bad
 
     percent : percent_of past control.item.zone ≡ zone.setting.failsafe.0
@@ -84,25 +84,25 @@ module _ (core : CoreView) (past : List Step) (stood : Stands core past) where
     abbrev output : ℤ
     output = unwrap_or (state_now control (Tick ∷ past)).output full
 
-    duty : duty_now past fan ≡ milli (commanded core.strict true zone.setting.failsafe.0 output)
+    duty : duty_now past fan ≡ milli (commanded state.strict true zone.setting.failsafe.0 output)
     duty =
         ap (λ (holder : Option LiveControl). milli (option_map_or (duty_by past) holder full)) held_by
         ∙ (λ i. milli (commanded (sym stood.strict i) (failsafe i) (percent i) output))
 
-    row : slice_get (zones_ticked core).fan_rows number ≡ Some (fan_now (Tick ∷ past) fan)
+    row : slice_get (zones_ticked state).fan_rows number ≡ Some (fan_now (Tick ∷ past) fan)
     row =
-        ap (λ (rows : List FanRow). slice_get rows number) ((ticked_stands core past stood).0.zones.fan_rows
+        ap (λ (rows : List FanRow). slice_get rows number) ((ticked_stands state past stood).0.zones.fan_rows
         ∙ ap (λ (live : List Item). map (fan_now (Tick ∷ past)) (fans live)) (live_same Tick past refl))
         ∙ slice_get-map (fan_now (Tick ∷ past)) (fans (live_now past)) number ∙ ap (option_map (fan_now (Tick ∷ past))) fan_at
 
     fan_then : fan_now (Tick ∷ past) fan ≡ record { name = fan.name; duty = Some (duty_now past fan) }
     fan_then = since_live _ _ fan.id Tick past (at_place _ (fans (live_now past)) number fan (fans_there past) fan_at)
 
-    shown : duty_of (zones_ticked core) number ≡ Some (milli (commanded core.strict true zone.setting.failsafe.0 output))
+    shown : duty_of (zones_ticked state) number ≡ Some (milli (commanded state.strict true zone.setting.failsafe.0 output))
     shown = ap duty_in row ∙ ap (λ (row : FanRow). row.duty) fan_then ∙ ap Some duty
 
-    is_safe : IsSafe core.strict zone.setting.failsafe.0 (duty_of (zones_ticked core) number)
-    is_safe = subst (IsSafe core.strict zone.setting.failsafe.0) (sym shown) (commands_failsafe core.strict zone.setting.failsafe.0 output)
+    is_safe : IsSafe state.strict zone.setting.failsafe.0 (duty_of (zones_ticked state) number)
+    is_safe = subst (IsSafe state.strict zone.setting.failsafe.0) (sym shown) (commands_failsafe state.strict zone.setting.failsafe.0 output)
 
-pub always_failsafe : (core : CoreView) → IsCore core → IsFailsafe (ticked_core core)
-always_failsafe core is = λ number fan control zone at holds named bad. is_safe core is.past is.stands number fan control zone at holds named bad
+pub always_failsafe : (state : StateView) → IsState state → IsFailsafe (ticked_state state)
+always_failsafe state is = λ number fan control zone at holds named bad. is_safe state is.past is.stands number fan control zone at holds named bad

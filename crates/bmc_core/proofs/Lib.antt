@@ -5,6 +5,7 @@ pub mod LiveLemmas
 pub mod ListsLemmas
 pub mod ActingLemmas
 pub mod BegunLemmas
-pub mod CoreLemmas
+pub mod StateLemmas
 pub mod TickedLemmas
 pub mod FailsafeLemmas
+pub mod CoreLemmas

@@ -19,7 +19,11 @@ use Rattle.inventory.proofs.ListLemmas.{all_weaker}
 use Rattle.bmc_report.specs.BoardRows.{board_row}
 use Rattle.bmc_report.specs.Rows.{fru_row}
 use Rattle.bmc_report.specs.declared.topic.Topic.{Topic}
-use Rattle.bmc_report.specs.declared.topic.Topic.TheVariants.{Frus, Inventory, Sensors, Zones, Indexes}
+use Rattle.bmc_report.specs.declared.topic.Topic.TheVariants.{Frus, Inventory, Sensors, Zones, Log, Indexes}
+use Rattle.event_log.specs.Listed.{listed}
+use Rattle.event_log.specs.Stands.{LogView}
+use Rattle.event_log.specs.Updates.{entries_of}
+use Rattle.event_log.proofs.ListedLemmas.{lists_all}
 use Rattle.live_sensors.specs.Items.{setting_in}
 use Rattle.live_sensors.specs.Sensors.{LiveSensors, sensor_in}
 use Rattle.fan_zone.specs.Live.{zones as live_zones, fans as live_fans}
@@ -30,6 +34,7 @@ use Rattle.bmc_machine.specs.Boards.{board_keys, boards, fields_at, name_of}
 use Rattle.bmc_machine.specs.Histories.{Step, standing, tick_of}
 use Rattle.bmc_machine.specs.Indexes.{boards_now, live_now}
 use Rattle.bmc_machine.specs.Lives.{item_sensor, outcomes, sensor_now}
+use Rattle.bmc_machine.specs.Logs.{entries, log_list}
 use Rattle.bmc_machine.specs.Names.{is_of}
 use Rattle.bmc_machine.specs.Refusals.{IsLegal}
 use Rattle.bmc_machine.specs.Shows.{board_lists, board_text, fan_text, fru_list, index_list, index_rows, item_text, sensor_list, sensor_text, shown, zone_list, zone_text}
@@ -41,8 +46,8 @@ use Rattle.bmc_machine.proofs.SettledLemmas.{AreNamedOnce, live_once, none_behin
 use Rattle.bmc_watch.specs.Watches.{WatchView, WatchStands, fru_entry, view_boards, view_list}
 use Rattle.bmc_watch.proofs.ItemsLemmas.{IsAlike, busy_alike}
 use Rattle.bmc_watch.proofs.WatchesLemmas.{boards_are, fields_are, known_by_place, live_is}
-use Rattle.bmc_core.specs.Cores.{CoreView, Stands}
-use Rattle.bmc_core.specs.Lists.{board_rows, core_list, entry_rows, inventory_rows, item_sensor_row, kept_rows, sensor_of_item, sensor_rows, zones_list}
+use Rattle.bmc_core.specs.Cores.{CoreView, LogStands, Stands}
+use Rattle.bmc_core.specs.Lists.{board_rows, core_list, entry_rows, inventory_rows, item_sensor_row, kept_rows, log_rows, sensor_of_item, sensor_rows, zones_list}
 use Rattle.bmc_core.proofs.LiveLemmas.{all_told_rows, told_rows}
 
 -- the rows of elements that have the same rows
@@ -157,11 +162,18 @@ zones_are zones sensors past stood =
     ∙ ap₂ (λ (first later : List ℕ). first ++ later) (rows_of zone_text (zone_now past) (live_zones (live_now past)))
     (rows_of fan_text (fan_now past) (live_fans (live_now past)))
 
+-- the entries that a log keeps are those of the history that are kept
+log_is : (log : LogView) (past : List Step) → LogStands log past → log_rows (entries_of log) ≡ log_list past
+unfolding log_list
+log_is log past stood =
+    ap log_rows (lists_all log (entries_of log) refl (entries past) stood.entries ∙ ap (λ (cap : ℕ). listed cap (entries past)) stood.cap)
+
 pub lists_are : (topic : Topic) (core : CoreView) (past : List Step) → Stands core past → core_list topic core ≡ shown topic past
-lists_are Frus core past stood = ap entry_rows stood.senses.watch.entries ∙ frus_are (standing past).configs (standing past).frus
-lists_are Inventory core past stood = boards_same core.senses.watch past stood.senses.watch
+lists_are Frus core past stood = ap entry_rows stood.state.senses.watch.entries ∙ frus_are (standing past).configs (standing past).frus
+lists_are Inventory core past stood = boards_same core.state.senses.watch past stood.state.senses.watch
 lists_are Sensors core past stood =
-    ap₂ (sensor_rows core.senses.sensors) stood.senses.ticks (live_is core.senses.watch past stood.senses.watch)
-    ∙ sensors_are past core.senses.sensors stood.senses.sensors stood.senses.watch.legal
-lists_are Zones core past stood = zones_are core.zones core.senses.sensors past stood.zones
-lists_are Indexes core past stood = indexes_are core.senses.watch past stood.senses.watch
+    ap₂ (sensor_rows core.state.senses.sensors) stood.state.senses.ticks (live_is core.state.senses.watch past stood.state.senses.watch)
+    ∙ sensors_are past core.state.senses.sensors stood.state.senses.sensors stood.state.senses.watch.legal
+lists_are Zones core past stood = zones_are core.state.zones core.state.senses.sensors past stood.state.zones
+lists_are Log core past stood = log_is core.log past stood.log
+lists_are Indexes core past stood = indexes_are core.state.senses.watch past stood.state.senses.watch

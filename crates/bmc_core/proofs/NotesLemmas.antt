@@ -24,7 +24,7 @@ use Rattle.bmc_report.specs.declared.change.Change.{Change}
 use Rattle.bmc_report.specs.declared.refusal.Refusal.{Refusal}
 use Rattle.bmc_report.specs.declared.refusal.Refusal.TheVariants.{UnknownSensor, ReadingRange}
 use Rattle.bmc_machine.specs.Standings.{Standing}
-use Rattle.bmc_machine.specs.Histories.{Step, Strict, Configure, Plug, RefusedPlug, Unplug, Read, Lose, Tick, standing, is_idle_step, is_tick, tick_of}
+use Rattle.bmc_machine.specs.Histories.{Step, Start, Configure, Plug, RefusedPlug, Unplug, Read, Lose, Tick, standing, is_idle_step, is_tick, tick_of}
 use Rattle.bmc_machine.specs.Boards.{boards, board_keys}
 use Rattle.bmc_machine.specs.Indexes.{boards_now, items_now, live_now}
 use Rattle.bmc_machine.specs.Lives.{IsNoOutcome, outcomes, sensor_now}
@@ -105,7 +105,7 @@ sensors_idle past step idle watched legal name =
 sensors_refused : (sensors : LiveSensors) (past : List Step) (step : Step) (refusal : Refusal) → IsLegal (past_refused past step refusal)
     → SensorsStand sensors past → SensorsStand sensors (past_refused past step refusal)
 sensors_refused sensors past (Plug place bytes) refusal legal stood = λ name. stood name ∙ sym (sensors_idle past (RefusedPlug place bytes refusal) refl (λ name tick. refl) legal name)
-sensors_refused sensors past Strict refusal legal stood = stood
+sensors_refused sensors past (Start options) refusal legal stood = stood
 sensors_refused sensors past (Configure config) refusal legal stood = stood
 sensors_refused sensors past (RefusedPlug place bytes reason) refusal legal stood = stood
 sensors_refused sensors past (Unplug place) refusal legal stood = stood
@@ -118,7 +118,7 @@ ticks_wait : (past : List Step) (step : Step) → is_tick step ≡ false → tic
 ticks_wait past step still = ap (λ (tick : Bool). if tick then raised (tick_of past) 1 else tick_of past) still
 
 ticks_refused : (past : List Step) (step : Step) (refusal : Refusal) → tick_of (past_refused past step refusal) ≡ tick_of past
-ticks_refused past Strict refusal = refl
+ticks_refused past (Start options) refusal = refl
 ticks_refused past (Configure config) refusal = refl
 ticks_refused past (Plug place bytes) refusal = refl
 ticks_refused past (RefusedPlug place bytes reason) refusal = refl

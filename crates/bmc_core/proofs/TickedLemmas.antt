@@ -1,4 +1,4 @@
--- What a tick leaves of a core.
+-- What a tick leaves of a state.
 use Rattle.std.proofs.Common.{◌≡◌, ◌∙◌, ℕ, List, [], ◌∷◌, ◌++◌, Bool, true, Ok, refl, ap, ap₂, sym, subst, map, cond, length, arith, ◌≤◌}
 use Rattle.std.proofs.lemmas.List.{length-map}
 use Rattle.std.specs.List.{AllByRecursion, flat_map, zip}
@@ -23,8 +23,8 @@ use Rattle.bmc_machine.proofs.LiveLimitLemmas.{few_fans, few_zones}
 use Rattle.bmc_machine.proofs.SinceLemmas.{fan_name, zone_name}
 use Rattle.bmc_machine.proofs.TickedLemmas.{changes_ticked, fans_there, zones_there, zones_tick}
 use Rattle.bmc_watch.specs.Panels.{PanelView, duties_of, modes_of, panel_changes, panel_of, row_duty, row_mode}
-use Rattle.bmc_core.specs.Acts.{Applies}
-use Rattle.bmc_core.specs.Cores.{CoreView, IsCore, Stands, ticked_core, zones_ticked}
+use Rattle.bmc_core.specs.Acts.{StateApplies}
+use Rattle.bmc_core.specs.States.{StateView, IsState, StateStands, ticked_state, zones_ticked}
 use Rattle.bmc_core.specs.Senses.{SensesView}
 use Rattle.bmc_core.proofs.NotesLemmas.{last_told, sensors_idle, watch_idle}
 
@@ -72,35 +72,35 @@ module _ (past : List Step) where
       duties_then : fan_rows_then ≡ map (fan_now (Tick ∷ past)) (fans (live_now past))
       duties_then = fans_then ∙ ap (λ (live : List Item). map (fan_now (Tick ∷ past)) (fans live)) same
 
--- ---- the core
+-- ---- the state
 
-module _ (core : CoreView) (past : List Step) (stood : Stands core past) where
+module _ (state : StateView) (past : List Step) (stood : StateStands state past) where
   legal : IsLegal (Tick ∷ past)
   unfolding IsLegal
   legal = (stood.senses.watch.legal, tt)
 
-  counted : raised core.senses.ticks 1 ≡ next_tick past
+  counted : raised state.senses.ticks 1 ≡ next_tick past
   counted = ap (λ (count : ℕ). raised count 1) stood.senses.ticks
 
-  zones_stand : ZonesStand (zones_ticked core) core.senses.sensors (Tick ∷ past)
+  zones_stand : ZonesStand (zones_ticked state) state.senses.sensors (Tick ∷ past)
   zones_stand =
-      subst (λ (view : ZonesView). ZonesStand view core.senses.sensors (Tick ∷ past))
-      (sym (λ i. ticked core.senses.sensors.slots (counted i) (stood.strict i) core.zones))
-      (zones_tick past core.senses.sensors core.zones stood.senses.watch.legal stood.senses.sensors stood.zones)
+      subst (λ (view : ZonesView). ZonesStand view state.senses.sensors (Tick ∷ past))
+      (sym (λ i. ticked state.senses.sensors.slots (counted i) (stood.strict i) state.zones))
+      (zones_tick past state.senses.sensors state.zones stood.senses.watch.legal stood.senses.sensors stood.zones)
 
-  told : (ticked_core core).senses.watch.changes ≡ changes past Tick
-  told = panel_told past core.zones.zone_rows (zones_ticked core).zone_rows core.zones.fan_rows (zones_ticked core).fan_rows stood.zones.zone_rows
+  told : (ticked_state state).senses.watch.changes ≡ changes past Tick
+  told = panel_told past state.zones.zone_rows (zones_ticked state).zone_rows state.zones.fan_rows (zones_ticked state).fan_rows stood.zones.zone_rows
       stood.zones.fan_rows zones_stand.zone_rows zones_stand.fan_rows
 
-  pub ticked_stands : Stands (ticked_core core) (Tick ∷ past) × ((ticked_core core).senses.watch.changes ≡ changes past Tick)
+  pub ticked_stands : StateStands (ticked_state state) (Tick ∷ past) × ((ticked_state state).senses.watch.changes ≡ changes past Tick)
   ticked_stands = (
     record {
       senses = record {
-        watch = watch_idle core.senses.watch (ticked_core core).senses.watch past Tick (ticked_core core).senses.watch.changes refl legal
+        watch = watch_idle state.senses.watch (ticked_state state).senses.watch past Tick (ticked_state state).senses.watch.changes refl legal
             stood.senses.watch refl;
         sensors = λ name. stood.senses.sensors name ∙ sym (sensors_idle past Tick refl (λ name tick. refl) legal name);
         ticks = counted;
-        last = last_told (ticked_core core).senses.watch.changes past Tick told;
+        last = last_told (ticked_state state).senses.watch.changes past Tick told;
       };
       zones = zones_stand;
       strict = stood.strict;
@@ -109,40 +109,40 @@ module _ (core : CoreView) (past : List Step) (stood : Stands core past) where
   )
 
 -- a tick is an act that is always done
-pub tick_applies : (core : CoreView) → Applies core Tick (Ok tt) (ticked_core core)
-tick_applies core = record {
-  stands = λ past stood. let then = ticked_stands core past stood in (refl, then.0, then.1);
+pub tick_applies : (state : StateView) → StateApplies state Tick (Ok tt) (ticked_state state)
+tick_applies state = record {
+  stands = λ past stood. let then = ticked_stands state past stood in (refl, then.0, then.1);
   left = tt;
 }
 
--- and leaves a core
-pub core_ticked : (core : CoreView) → IsCore core → IsCore (ticked_core core)
-core_ticked core is = record {
+-- and leaves a state
+pub state_ticked : (state : StateView) → IsState state → IsState (ticked_state state)
+state_ticked state is = record {
   past = Tick ∷ is.past;
-  stands = (ticked_stands core is.past is.stands).0;
-  enough = bank_kept_by_tick core.senses.sensors.slots (raised core.senses.ticks 1) core.strict core.zones is.enough;
+  stands = (ticked_stands state is.past is.stands).0;
+  enough = bank_kept_by_tick state.senses.sensors.slots (raised state.senses.ticks 1) state.strict state.zones is.enough;
 }
 
--- ---- a core's rows are few
+-- ---- a state's rows are few
 
 few_rows : {X R : Type 0} (row : X → R) (all : List X) (rows : List R) (most : ℕ) → rows ≡ map row all → length all ≤ most → length rows ≤ most
 few_rows {X} {R} row all rows most are few =
     let same : length rows ≡ length all = ap (λ (rows : List R). length rows) are ∙ length-map all row in
     omega (arith, same, few)
 
-pub few_zone_rows : (core : CoreView) → IsCore core → length core.zones.zone_rows ≤ most_zones
-few_zone_rows core is =
-    few_rows (zone_now is.past) (zones (live_now is.past)) core.zones.zone_rows most_zones is.stands.zones.zone_rows
+pub few_zone_rows : (state : StateView) → IsState state → length state.zones.zone_rows ≤ most_zones
+few_zone_rows state is =
+    few_rows (zone_now is.past) (zones (live_now is.past)) state.zones.zone_rows most_zones is.stands.zones.zone_rows
     (few_zones is.past is.stands.senses.watch.legal)
 
-pub few_fan_rows : (core : CoreView) → IsCore core → length core.zones.fan_rows ≤ most_fans
-few_fan_rows core is =
-    few_rows (fan_now is.past) (fans (live_now is.past)) core.zones.fan_rows most_fans is.stands.zones.fan_rows
+pub few_fan_rows : (state : StateView) → IsState state → length state.zones.fan_rows ≤ most_fans
+few_fan_rows state is =
+    few_rows (fan_now is.past) (fans (live_now is.past)) state.zones.fan_rows most_fans is.stands.zones.fan_rows
     (few_fans is.past is.stands.senses.watch.legal)
 
 -- ---- the tick that is counted, passed on to the zones, and told
 
-pub record Passes (old : CoreView) (counted told : SensesView) (zones : ZonesView) (panel : PanelView) (zone_rows : List ZoneRow) (fan_rows : List FanRow)
+pub record Passes (old : StateView) (counted told : SensesView) (zones : ZonesView) (panel : PanelView) (zone_rows : List ZoneRow) (fan_rows : List FanRow)
     : Type 0 where
   pub counts : counted ≡ record old.senses { ticks = raised old.senses.ticks 1 }
   pub ticks : zones ≡ zones_ticked old
@@ -151,8 +151,8 @@ pub record Passes (old : CoreView) (counted told : SensesView) (zones : ZonesVie
   pub zone_rows_are : zone_rows ≡ zones.zone_rows
   pub fan_rows_are : fan_rows ≡ zones.fan_rows
 
-pub is_ticked : (old : CoreView) (counted told : SensesView) (zones : ZonesView) (panel : PanelView) (zone_rows : List ZoneRow) (fan_rows : List FanRow)
-    → Passes old counted told zones panel zone_rows fan_rows → record { senses = told; zones = zones; strict = old.strict } ≡ ticked_core old
+pub is_ticked : (old : StateView) (counted told : SensesView) (zones : ZonesView) (panel : PanelView) (zone_rows : List ZoneRow) (fan_rows : List FanRow)
+    → Passes old counted told zones panel zone_rows fan_rows → record { senses = told; zones = zones; strict = old.strict } ≡ ticked_state old
 is_ticked old counted told zones panel zone_rows fan_rows passes =
     λ i. record { senses = (passes.tells ∙ senses) i; zones = passes.ticks i; strict = old.strict }
   where
@@ -162,5 +162,5 @@ is_ticked old counted told zones panel zone_rows fan_rows passes =
     duties : fan_rows ≡ (zones_ticked old).fan_rows
     duties = passes.fan_rows_are ∙ ap (λ (zones : ZonesView). zones.fan_rows) passes.ticks
 
-    senses : record counted { watch = record counted.watch { changes = panel_changes panel zone_rows fan_rows } } ≡ (ticked_core old).senses
+    senses : record counted { watch = record counted.watch { changes = panel_changes panel zone_rows fan_rows } } ≡ (ticked_state old).senses
     senses = λ i. record (passes.counts i) { watch = record (passes.counts i).watch { changes = panel_changes (passes.before i) (rows i) (duties i) } }

@@ -1,63 +1,37 @@
 -- What is seen of a core, and when it stands for a history.
-use Rattle.std.specs.Prelude.{◌≡◌, Bool, true, false, List, [], ◌∷◌}
+use Rattle.std.specs.Prelude.{◌≡◌, ◌≤◌, List}
 use Rattle.std.specs.List.{All}
-use Rattle.bmc_base.specs.Counts.{raised}
 use Rattle.ctl_face.specs.Seen.{Seen, unloaded}
-use Rattle.fan_zone.specs.Ticks.{ZonesView, ticked}
+use Rattle.event_log.specs.Stands.{LogView, Stands as LogIsOf}
 use Rattle.bmc_machine.specs.Banks.{HasBank}
-use Rattle.bmc_machine.specs.Histories.{Step, Strict, is_strict}
-use Rattle.bmc_machine.specs.Zones.{ZonesStand}
-use Rattle.bmc_watch.specs.Panels.{panel_changes, panel_of}
-use Rattle.bmc_core.specs.Senses.{SensesView, SensesStand, quiet_senses, AreUnchanged}
+use Rattle.bmc_machine.specs.Histories.{Step, log_cap}
+use Rattle.bmc_machine.specs.Logs.{entries}
+use Rattle.bmc_core.specs.Logging.{noted}
+use Rattle.bmc_core.specs.States.{StateView, StateStands, ticked_state}
 
--- what is known of the bus and of the sensors, the zones over their bank of boxes, and whether duties are commanded in strict mode
+-- a core as it is seen: its state, and its log
 pub record CoreView : Type 0 where
-  pub senses : SensesView
-  pub zones : ZonesView
-  pub strict : Bool
+  pub state : StateView
+  pub log : LogView
 
--- a core stands for a history: what it knows of the bus and the sensors, and its zones, are what the history gives
+-- a log stands for a history: its entries are those of the history, and it keeps as many errors as the run was started with, at least one
+pub record LogStands (log : LogView) (past : List Step) : Type 0 where
+  pub entries : LogIsOf log (entries past)
+  pub cap : log.error_cap ≡ log_cap past
+  pub some : 1 ≤ log.error_cap
+
+-- a core stands for a history: its state and its log are what the history gives
 pub record Stands (core : CoreView) (past : List Step) : Type 0 where
-  pub senses : SensesStand core.senses past
-  pub zones : ZonesStand core.zones core.senses.sensors past
-  pub strict : core.strict ≡ is_strict past
-
--- the history of a core to which nothing has happened: strict mode is asked for, or not
-abbrev pub begun : Bool → List Step
-begun true = Strict ∷ []
-begun false = []
+  pub state : StateStands core.state past
+  pub log : LogStands core.log past
 
 -- a bank from which each controller that may be live gets a box: there are enough of each kind, and none is loaded
 pub record IsStated (bank : List Seen) : Type 0 where
   pub enough : HasBank bank
   pub free : All (λ (seen : Seen). seen ≡ unloaded seen.kind) bank
 
--- each core stands for a history, over a bank that is enough
-pub record IsCore (core : CoreView) : Type 0 where
-  pub past : List Step
-  pub stands : Stands core past
-  pub enough : HasBank core.zones.bank
-
--- a core as it was, without the last changes
-abbrev pub quiet : CoreView → CoreView
-quiet core = record core { senses = quiet_senses core.senses }
-
--- all is as it was that is seen of a core
-pub record IsUnchanged (old new : CoreView) : Type 0 where
-  pub senses : AreUnchanged old.senses new.senses
-  pub zones : new.zones ≡ old.zones
-  pub strict : new.strict ≡ old.strict
-
--- the zones after a tick
-abbrev pub zones_ticked : CoreView → ZonesView
-zones_ticked core = ticked core.senses.sensors.slots (raised core.senses.ticks 1) core.strict core.zones
-
--- A core after a tick: the tick is counted, the zones have ticked, and the last changes are what zones and fans show otherwise than before.
+-- a core after a tick: its state has ticked, and what changed is noted in its log, at the tick count of then
 abbrev pub ticked_core : CoreView → CoreView
 ticked_core core =
-    let told = panel_changes (panel_of core.zones.zone_rows core.zones.fan_rows) (zones_ticked core).zone_rows (zones_ticked core).fan_rows in
-    record {
-      senses = record core.senses { watch = record core.senses.watch { changes = told }; ticks = raised core.senses.ticks 1 };
-      zones = zones_ticked core;
-      strict = core.strict;
-    }
+    let then = ticked_state core.state in
+    record { state = then; log = noted then.senses.ticks then.senses.watch.changes core.log }

@@ -1,4 +1,6 @@
 pub mod Senses
+pub mod States
+pub mod Logging
 pub mod Cores
 pub mod Acting
 pub mod Failsafe

@@ -14,12 +14,15 @@ use Rattle.inventory.specs.declared.board.Board.{Board}
 use Rattle.bmc_report.specs.BoardRows.{board_row, item_row}
 use Rattle.bmc_report.specs.Rows.{fru_row}
 use Rattle.bmc_report.specs.declared.topic.Topic.{Topic}
-use Rattle.bmc_report.specs.declared.topic.Topic.TheVariants.{Frus, Inventory, Sensors, Zones, Indexes}
+use Rattle.bmc_report.specs.declared.topic.Topic.TheVariants.{Frus, Inventory, Sensors, Zones, Log, Indexes}
+use Rattle.event_log.specs.Updates.{entries_of}
+use Rattle.event_log.specs.declared.entry.LogEntry.{LogEntry}
 use Rattle.sensor_core.specs.Sensors.{Sensor}
 use Rattle.live_sensors.specs.Items.{setting_in}
 use Rattle.live_sensors.specs.Sensors.{LiveSensors, sensor_in}
 use Rattle.fan_zone.specs.Ticks.{ZonesView}
 use Rattle.bmc_machine.specs.Boards.{name_of}
+use Rattle.bmc_machine.specs.Logs.{entry_row as log_entry_row}
 use Rattle.bmc_machine.specs.Shows.{sensor_text, zone_text, fan_text, index_rows, bus_in, address_in}
 use Rattle.bmc_watch.specs.Watches.{WatchView, view_items, view_list}
 use Rattle.bmc_core.specs.Cores.{CoreView}
@@ -81,10 +84,15 @@ inventory_rows watch = flat_map (board_rows watch) (view_list watch)
 abbrev pub zones_list : ZonesView → List ℕ
 zones_list zones = flat_map zone_text zones.zone_rows ++ flat_map fan_text zones.fan_rows
 
+-- the rows of entries of the log
+abbrev pub log_rows : List LogEntry → List ℕ
+log_rows entries = flat_map log_entry_row entries
+
 -- what a core shows of a topic
 abbrev pub core_list : Topic → CoreView → List ℕ
-core_list Frus core = entry_rows core.senses.watch.entries
-core_list Inventory core = inventory_rows core.senses.watch
-core_list Sensors core = sensor_rows core.senses.sensors core.senses.ticks (live (view_items core.senses.watch))
-core_list Zones core = zones_list core.zones
-core_list Indexes core = kept_rows core.senses.watch.configs core.senses.watch.kept
+core_list Frus core = entry_rows core.state.senses.watch.entries
+core_list Inventory core = inventory_rows core.state.senses.watch
+core_list Sensors core = sensor_rows core.state.senses.sensors core.state.senses.ticks (live (view_items core.state.senses.watch))
+core_list Zones core = zones_list core.state.zones
+core_list Log core = log_rows (entries_of core.log)
+core_list Indexes core = kept_rows core.state.senses.watch.configs core.state.senses.watch.kept

@@ -1,94 +1,95 @@
-ghost use Rattle.std.specs.Prelude.{◌≡◌, ◌<◌, ◌++◌, List, Ok, IfOk, OnOk, All, length, map, string_bytes};
-ghost use Rattle.bmc_machine.specs.Histories.{Step, Configure, Plug, Unplug, Read, Lose, Tick, tick_of};
+ghost use Rattle.std.specs.Prelude.{◌≡◌, ◌≤◌, ◌<◌, ◌++◌, List, Ok, IfOk, OnOk, All, length, map, string_bytes};
+ghost use Rattle.event_log.specs.Kept.{most_errors};
+ghost use Rattle.bmc_machine.specs.Histories.{Step, Tick, begun, tick_of};
 ghost use Rattle.bmc_core.specs.Acts.{step_of, Applies, IsCounted};
-ghost use Rattle.bmc_core.specs.Cores.{Stands, IsStated, begun, ticked_core};
+ghost use Rattle.bmc_core.specs.Cores.{Stands, IsStated, ticked_core};
 ghost use Rattle.bmc_core.specs.Failsafe.{IsFailsafe};
 ghost use Rattle.bmc_core.specs.Lists.{board_rows, core_list};
-ghost use Rattle.bmc_report.specs.declared.topic.Topic.TheVariants.{Sensors, Zones as ZonesTopic, Indexes};
+ghost use Rattle.bmc_report.specs.declared.topic.Topic.TheVariants.{Sensors, Zones as ZonesTopic, Log as LogTopic, Indexes};
 ghost use Rattle.bmc_watch.specs.Watches.{view_list};
 ghost use Rattle.inventory.specs.declared.board.Board.{Board as BoardView};
 
-use crate::acting::set_zones;
 use crate::board_list::{list_boards, push_board};
-use crate::lists::{push_indexes, push_sensors, push_zones};
-use crate::senses::Senses;
+use crate::lists::{push_indexes, push_log, push_sensors, push_zones};
+use crate::logging::{note_answer, note_changes, plug_place};
+use crate::state::State;
 use crate::{Act, CoreFault};
-use bmc_base::{Ledger, Name, OutOfMemory, Place, Steps};
+use bmc_base::{Ledger, OutOfMemory, Steps};
 use bmc_report::Change;
-use bmc_watch::Panel;
-use cfg_json::Config;
 use ctl_face::Controller;
-use fan_zone::Zones;
+use event_log::Log;
 use fru_rows::Entries;
 use inventory::Board;
 use std::alloc::Global;
 use std::marker::Model;
 
-/// The core: what is known of the bus and of the sensors, the zones over a bank of boxes, and what the last act changed.
+/// The core: what is known of the bus and of the sensors, the zones over a bank of boxes, what the last act changed, and a log
+/// of what went wrong or changed.
 #[derive(Drop)]
 pub struct Core<L: Ledger, C: Controller> {
-    senses: Senses<L>,
-    zones: Zones<C>,
-    strict: bool,
+    state: State<L, C>,
+    log: Log,
 }
 
 impl<L: Ledger, C: Controller> Model for Core<L, C> {
-    ghost use Rattle.bmc_core.specs.Cores.{CoreView, IsCore};
+    ghost use Rattle.bmc_core.specs.Cores.{CoreView};
 
     ghost Value = { CoreView };
 
-    ghost view = { λ c. record { senses = c.senses; zones = c.zones; strict = c.strict } };
-
-    ghost invariant = { λ c. IsCore (record { senses = c.senses; zones = c.zones; strict = c.strict }) };
+    ghost view = { λ c. record { state = c.state; log = c.log } };
 }
 
 impl<L: Ledger, C: Controller> Core<L, C> {
     /// Returns the core to which nothing has happened, over a bank with at least 128 boxes for PID controllers and 64 for
-    /// stepwise ones, none of which is loaded. In strict mode a zone in failsafe commands exactly its FailSafePercent. It takes
-    /// the room for all that zones ever hold, and for the changes of an act that takes no memory, once.
-    pub fn new(alloc: Global, bank: Vec<C>, strict: bool) -> Result<Core<L, C>, OutOfMemory>
-        requires { IsStated (map C.seen bank.items) }
-        ensures { IfOk result (λ core. Stands core (begun strict)) }
+    /// stepwise ones, none of which is loaded. In strict mode a zone in failsafe commands exactly its FailSafePercent. Its log
+    /// keeps the last `log_cap` errors, 1 to 1,000, and the last 10 infos. The core takes the room for its log, for all that
+    /// zones ever hold, and for the changes of an act that takes no memory, once.
+    pub fn new(
+        alloc: Global,
+        bank: Vec<C>,
+        strict: bool,
+        log_cap: u32,
+    ) -> Result<Core<L, C>, OutOfMemory>
+        requires bank { IsStated (map C.seen bank.items) }
+        requires low { 1 ≤ log_cap }
+        requires high { log_cap ≤ most_errors }
+        ensures { IfOk result (λ core. Stands core (begun (record { strict = strict; log_cap = log_cap }))) }
     {
-        let senses = Senses::new(alloc)?;
-        let zones = Zones::new(alloc, bank)?;
-        Ok(Core {
-            senses,
-            zones,
-            strict,
-        })
+        let state = State::new(alloc, bank, strict)?;
+        let log = Log::new(alloc, log_cap)?;
+        Ok(Core { state, log })
     }
 
     /// Borrows the changes of the last act, if it was done: boards that are gone and boards that are new, live items that are
     /// gone and live items that are new, what sensors show otherwise than before, and then zones with another mode and fans
     /// with another duty.
     pub fn changes(&self) -> &[Change]
-        ensures { result.now ≡ self.now.senses.watch.changes }
+        ensures { result.now ≡ self.now.state.senses.watch.changes }
     {
-        self.senses.watch().changes()
+        self.state.senses().watch().changes()
     }
 
     /// Returns the number of ticks of 100 milliseconds that have passed. It stands still at the greatest number.
     pub fn tick_count(&self) -> u64
-        ensures value { result ≡ self.now.senses.ticks }
+        ensures value { result ≡ self.now.state.senses.ticks }
         ensures stands { (past : List Step) → Stands self.now past → result ≡ tick_of past }
     {
-        self.senses.ticks()
+        self.state.senses().ticks()
     }
 
     /// Returns an iterator over the FRUs that are present, by place.
     pub fn entries(&self) -> Entries<'_>
-        ensures { result ≡ self.now.senses.watch.entries }
+        ensures { result ≡ self.now.state.senses.watch.entries }
     {
-        self.senses.watch().entries()
+        self.state.senses().watch().entries()
     }
 
     /// Lists the boards, by configuration and place.
     pub fn boards(&self, alloc: Global) -> Result<Vec<Board>, OutOfMemory>
-        ensures all { IfOk result (λ boards. boards.items ≡ view_list self.now.senses.watch) }
-        ensures within { IfOk result (λ boards. All (λ (board : BoardView). board.key.config < length self.now.senses.watch.configs) boards.items) }
+        ensures all { IfOk result (λ boards. boards.items ≡ view_list self.now.state.senses.watch) }
+        ensures within { IfOk result (λ boards. All (λ (board : BoardView). board.key.config < length self.now.state.senses.watch.configs) boards.items) }
     {
-        list_boards(alloc, self.senses.watch())
+        list_boards(alloc, self.state.senses().watch())
     }
 
     /// Appends the row of a board, and behind it those of its items.
@@ -98,125 +99,60 @@ impl<L: Ledger, C: Controller> Core<L, C> {
         board: &Board,
         text: &mut String,
     ) -> Result<(), OutOfMemory>
-        requires { board.now.key.config < length self.now.senses.watch.configs }
-        ensures { OnOk result (string_bytes text.new ≡ string_bytes text.old ++ board_rows self.now.senses.watch board.now) }
+        requires { board.now.key.config < length self.now.state.senses.watch.configs }
+        ensures { OnOk result (string_bytes text.new ≡ string_bytes text.old ++ board_rows self.now.state.senses.watch board.now) }
     {
-        push_board(alloc, self.senses.watch(), board, text)
+        push_board(alloc, self.state.senses().watch(), board, text)
     }
 
     /// Appends the rows of the live sensors.
     pub fn push_sensors(&self, text: &mut String) -> Result<(), OutOfMemory>
         ensures { OnOk result (string_bytes text.new ≡ string_bytes text.old ++ core_list Sensors self.now) }
     {
-        push_sensors(
-            self.senses.watch(),
-            self.senses.sensors(),
-            self.senses.ticks(),
-            text,
-        )
+        let senses = self.state.senses();
+        push_sensors(senses.watch(), senses.sensors(), senses.ticks(), text)
     }
 
     /// Appends the rows of the live zones, and then of the live fans.
     pub fn push_zones(&self, text: &mut String) -> Result<(), OutOfMemory>
         ensures { OnOk result (string_bytes text.new ≡ string_bytes text.old ++ core_list ZonesTopic self.now) }
     {
-        push_zones(self.zones.zone_rows(), self.zones.fan_rows(), text)
+        let zones = self.state.zones();
+        push_zones(zones.zone_rows(), zones.fan_rows(), text)
     }
 
     /// Appends the rows of all boards that each configuration ever had.
     pub fn push_indexes(&self, text: &mut String) -> Result<(), OutOfMemory>
         ensures { OnOk result (string_bytes text.new ≡ string_bytes text.old ++ core_list Indexes self.now) }
     {
-        let watch = self.senses.watch();
+        let watch = self.state.senses().watch();
         push_indexes(watch.configs(), watch.keep(), text)
     }
 
-    // Takes a configuration.
-    fn configure(
-        &mut self,
-        alloc: Global,
-        config: Config<L>,
-        steps: &mut Steps<L>,
-    ) -> Result<(), CoreFault>
-        ensures applies { Applies self.old (Configure config) result self.new }
-        ensures counted { IsCounted result self.old.senses (Configure config) steps.old steps.new }
+    /// Appends the rows of the entries that the log keeps, by id. It takes memory for them, and for the text.
+    pub fn push_log(&self, alloc: Global, text: &mut String) -> Result<(), OutOfMemory>
+        ensures { OnOk result (string_bytes text.new ≡ string_bytes text.old ++ core_list LogTopic self.now) }
     {
-        match self.senses.configure(alloc, config, steps) {
-            Ok(()) => {
-                set_zones(&mut self.zones, self.senses.watch(), self.senses.sensors());
-                Ok(())
-            }
-            Err(fault) => Err(fault),
-        }
+        let entries = self.log.entries(alloc)?;
+        push_log(entries.as_slice(), text)
     }
 
-    // Takes a FRU that appeared.
-    fn plug(
-        &mut self,
-        alloc: Global,
-        place: Place,
-        bytes: &[u8],
-        steps: &mut Steps<L>,
-    ) -> Result<(), CoreFault>
-        ensures applies { Applies self.old (Plug place bytes.now) result self.new }
-        ensures counted { IsCounted result self.old.senses (Plug place bytes.now) steps.old steps.new }
-    {
-        match self.senses.plug(alloc, place, bytes, steps) {
-            Ok(()) => {
-                set_zones(&mut self.zones, self.senses.watch(), self.senses.sensors());
-                Ok(())
-            }
-            Err(fault) => Err(fault),
-        }
-    }
-
-    // Takes away the FRU at a place.
-    fn unplug(&mut self, alloc: Global, place: Place, steps: &mut Steps<L>) -> Result<(), CoreFault>
-        ensures applies { Applies self.old (Unplug place) result self.new }
-        ensures counted { IsCounted result self.old.senses (Unplug place) steps.old steps.new }
-    {
-        match self.senses.unplug(alloc, place, steps) {
-            Ok(()) => {
-                set_zones(&mut self.zones, self.senses.watch(), self.senses.sensors());
-                Ok(())
-            }
-            Err(fault) => Err(fault),
-        }
-    }
-
-    // Takes a good reading of a sensor.
-    fn read(&mut self, name: &Name, raw: i64) -> Result<(), CoreFault>
-        ensures { Applies self.old (Read name.now raw) result self.new }
-    {
-        self.senses.read(name, raw)
-    }
-
-    // Takes the loss of a reading of a sensor.
-    fn lose(&mut self, name: &Name) -> Result<(), CoreFault>
-        ensures { Applies self.old (Lose name.now) result self.new }
-    {
-        self.senses.lose(name)
-    }
-
-    /// Lets a tick pass: it is counted, controllers step, and zones and fans show what comes of it. It is never refused, and
-    /// takes no memory.
+    /// Lets a tick pass: it is counted, controllers step, zones and fans show what comes of it, and the log notes which zones
+    /// went into failsafe or are normal again. It is never refused, and takes no memory.
     pub fn tick(&mut self)
         ensures exact { self.new ≡ ticked_core self.old }
         ensures applies { Applies self.old Tick (Ok tt) self.new }
         // Whatever happened before: each live fan that a controller of a zone with a failed, missing or stale input holds is
         // commanded at least the FailSafePercent of the zone, and in strict mode exactly that.
-        ensures failsafe { IsFailsafe self.new }
+        ensures failsafe { IsFailsafe self.new.state }
     {
-        let before = Panel::of(self.zones.zone_rows(), self.zones.fan_rows());
-        self.senses.count_tick();
-        let sensors = self.senses.sensors().table();
-        self.zones.tick(sensors, self.senses.ticks(), self.strict);
-        self.senses
-            .tell_tick(&before, self.zones.zone_rows(), self.zones.fan_rows());
+        self.state.tick();
+        let senses = self.state.senses();
+        note_changes(&mut self.log, senses.ticks(), senses.watch().changes());
     }
 
     /// Does an act, or returns why it is not done. Readings, losses and ticks take no memory; all else takes its memory first,
-    /// and then changes.
+    /// and then changes. What a done act changed joins the log, and that a plug was refused; no other refusal does.
     #[inline(always)]
     pub fn apply(
         &mut self,
@@ -225,19 +161,19 @@ impl<L: Ledger, C: Controller> Core<L, C> {
         steps: &mut Steps<L>,
     ) -> Result<(), CoreFault>
         ensures applies { Applies self.old (step_of act.entry) result self.new }
-        ensures counted { IsCounted result self.old.senses (step_of act.entry) steps.old steps.new }
-        ensures failsafe { step_of act.entry ≡ Tick → (result ≡ Ok tt) × IsFailsafe self.new }
+        ensures counted { IsCounted result self.old.state.senses (step_of act.entry) steps.old steps.new }
+        ensures failsafe { step_of act.entry ≡ Tick → (result ≡ Ok tt) × IsFailsafe self.new.state }
     {
-        match act {
-            Act::Config(config) => self.configure(alloc, config, steps),
-            Act::Plug(place, bytes) => self.plug(alloc, place, bytes, steps),
-            Act::Unplug(place) => self.unplug(alloc, place, steps),
-            Act::Good(name, raw) => self.read(name, raw),
-            Act::Lost(name) => self.lose(name),
-            Act::Tick => {
-                self.tick();
-                Ok(())
-            }
-        }
+        let plugged = plug_place(&act);
+        let answer = self.state.apply(alloc, act, steps);
+        let senses = self.state.senses();
+        note_answer(
+            &mut self.log,
+            senses.ticks(),
+            senses.watch().changes(),
+            plugged,
+            answer,
+        );
+        answer
     }
 }

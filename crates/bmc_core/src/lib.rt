@@ -1,4 +1,4 @@
-//! The core of the controller: takes acts in turn, and tells what each of them changes.
+//! The core of the controller: takes acts in turn, tells what each of them changes, and keeps a log of it.
 #![tactic(auto)]
 
 mod act;
@@ -7,7 +7,9 @@ mod board_list;
 mod core_state;
 mod fault;
 mod lists;
+mod logging;
 mod senses;
+mod state;
 
 pub use act::Act;
 pub use core_state::Core;

@@ -3,14 +3,18 @@ ghost use Rattle.std.specs.List.{flat_map};
 ghost use Rattle.inventory.specs.Indexes.{kept_of, index_in};
 ghost use Rattle.inventory.specs.Items.{live};
 ghost use Rattle.bmc_report.specs.BoardRows.{index_row};
+ghost use Rattle.bmc_machine.specs.Logs.{is_error, entry_row as log_entry_row};
 ghost use Rattle.bmc_machine.specs.Shows.{zone_text, fan_text};
 ghost use Rattle.bmc_watch.specs.Watches.{view_items};
-ghost use Rattle.bmc_core.specs.Lists.{item_sensor_row, row_if_live, sensor_rows, kept_rows};
+ghost use Rattle.bmc_core.specs.Lists.{item_sensor_row, row_if_live, sensor_rows, kept_rows, log_rows};
 
 use bmc_base::{Ledger, Name, OutOfMemory};
-use bmc_report::{SensorRow, push_fan_row, push_index_row, push_sensor_row, push_zone_row};
+use bmc_report::{
+    SensorRow, push_fan_row, push_index_row, push_log_row, push_sensor_row, push_zone_row,
+};
 use bmc_watch::Watch;
 use cfg_json::{Item, ItemPart, Shelf};
+use event_log::{Class, LogEntry};
 use fan_zone::{FanRow, ZoneRow};
 use inventory::{BoardKey, IndexKeep};
 use live_sensors::LiveSensors;
@@ -164,4 +168,34 @@ pub(crate) fn push_zones(
 {
     push_zone_rows(zones, text)?;
     push_fan_rows(fans, text)
+}
+
+// Whether a class is that of errors.
+fn is_error(class: Class) -> bool
+    ensures { result ≡ is_error class }
+{
+    matches!(class, Class::Error)
+}
+
+// Appends the row of an entry of the log.
+fn push_entry(entry: &LogEntry, text: &mut String) -> Result<(), OutOfMemory>
+    ensures { OnOk result (string_bytes text.new ≡ string_bytes text.old ++ log_entry_row entry.now) }
+{
+    push_log_row(
+        text,
+        entry.id,
+        is_error(entry.class),
+        entry.tick,
+        &entry.change,
+    )
+}
+
+/// Appends the rows of entries of the log.
+pub(crate) fn push_log(entries: &[LogEntry], text: &mut String) -> Result<(), OutOfMemory>
+    ensures { OnOk result (string_bytes text.new ≡ string_bytes text.old ++ log_rows entries.now) }
+{
+    for entry in entries {
+        push_entry(entry, text)?;
+    }
+    Ok(())
 }

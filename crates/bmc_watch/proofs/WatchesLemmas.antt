@@ -22,7 +22,7 @@ use Rattle.inventory.proofs.ListLemmas.{distinct_filter}
 use Rattle.bmc_report.specs.declared.refusal.Refusal.{Refusal}
 use Rattle.bmc_machine.specs.Standings.{Fru, Standing, is_at, fields_of}
 use Rattle.bmc_machine.specs.Boards.{sights_of, boards, board_keys, fields_at}
-use Rattle.bmc_machine.specs.Histories.{Step, Strict, Configure, Plug, RefusedPlug, Unplug, Read, Lose, Tick, is_tick, standing}
+use Rattle.bmc_machine.specs.Histories.{Step, Start, Configure, Plug, RefusedPlug, Unplug, Read, Lose, Tick, is_tick, standing}
 use Rattle.bmc_machine.specs.Lives.{IsNoOutcome}
 use Rattle.bmc_machine.specs.Indexes.{kept, boards_now, items_now, live_now}
 use Rattle.bmc_machine.specs.Refusals.{limit_refusal, refusal_by_limit, refusal_after, IsLegalStep, IsLegal}
@@ -210,7 +210,7 @@ refused old new step refusal reasons left = record {
   where
     of : (step : Step) (past : List Step) → refusal_after past step ≡ Some refusal → WatchStands (record old { changes = [] }) past
         → WatchStands (record old { changes = [] }) (past_refused past step refusal)
-    of Strict past reason stood = stood
+    of (Start options) past reason stood = stood
     of (Configure config) past reason stood = stood
     of (Plug place bytes) past reason stood = refused_plug _ past place bytes refusal stood reason
     of (RefusedPlug place bytes other) past reason stood = stood

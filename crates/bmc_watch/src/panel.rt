@@ -1,4 +1,4 @@
-ghost use Rattle.std.specs.Prelude.{◌≡◌, ◌+◌, ◌≤◌, ◌++◌, length, map, vec_capacity, vec_len};
+ghost use Rattle.std.specs.Prelude.{◌≡◌, ◌+◌, ◌≤◌, ◌++◌, [], length, map, vec_capacity, vec_len};
 ghost use Rattle.std.specs.List.{flat_map, zip};
 ghost use Rattle.bmc_machine.specs.Changes.{mode_change, duty_change};
 ghost use Rattle.bmc_watch.specs.Panels.{modes_of, duties_of, panel_of, panel_changes, row_mode, row_duty};
@@ -11,8 +11,8 @@ use bmc_report::Change;
 use fan_zone::{FanRow, ZoneRow};
 use std::marker::Model;
 
-/// What zones and fans show at one moment that changes are told by: the mode of each zone, and the duty of each fan. It
-/// stands on the stack.
+/// What zones and fans show at one moment that changes are told by: the mode of each zone, and the duty of each fan. It takes
+/// no memory beyond its own, and can note one moment after another.
 #[derive(Drop)]
 pub struct Panel {
     modes: ArrayVec<bool, 32>,
@@ -27,41 +27,47 @@ impl Model for Panel {
     ghost view = { λ p. record { modes = p.modes.items; duties = p.duties.items } };
 }
 
-// The modes of zones.
-fn modes_of(zones: &[ZoneRow]) -> ArrayVec<bool, 32>
+// Puts the modes of zones in place of those that are there.
+fn note_modes(zones: &[ZoneRow], modes: &mut ArrayVec<bool, 32>)
     requires { length zones.now ≤ most_zones }
-    ensures { result.items ≡ modes_of zones.now }
+    ensures { modes.new.items ≡ modes_of zones.now }
 {
-    let mut modes = ArrayVec::new();
+    modes.clear();
     for zone in zones {
         modes.push(zone.failsafe);
     }
-    modes
 }
 
-// The duties of fans.
-fn duties_of(fans: &[FanRow]) -> ArrayVec<Option<Milli>, 128>
+// Puts the duties of fans in place of those that are there.
+fn note_duties(fans: &[FanRow], duties: &mut ArrayVec<Option<Milli>, 128>)
     requires { length fans.now ≤ most_fans }
-    ensures { result.items ≡ duties_of fans.now }
+    ensures { duties.new.items ≡ duties_of fans.now }
 {
-    let mut duties = ArrayVec::new();
+    duties.clear();
     for fan in fans {
         duties.push(fan.duty);
     }
-    duties
 }
 
 impl Panel {
-    /// Returns what zones and fans show.
-    pub fn of(zones: &[ZoneRow], fans: &[FanRow]) -> Panel
-        requires zones { length zones.now ≤ most_zones }
-        requires fans { length fans.now ≤ most_fans }
-        ensures { result ≡ panel_of zones.now fans.now }
+    /// Returns a panel of no zones and no fans.
+    pub fn new() -> Panel
+        ensures { result ≡ panel_of [] [] }
     {
         Panel {
-            modes: modes_of(zones),
-            duties: duties_of(fans),
+            modes: ArrayVec::new(),
+            duties: ArrayVec::new(),
         }
+    }
+
+    /// Notes what zones and fans show, in place of what was noted before.
+    pub fn note(&mut self, zones: &[ZoneRow], fans: &[FanRow])
+        requires zones { length zones.now ≤ most_zones }
+        requires fans { length fans.now ≤ most_fans }
+        ensures { self.new ≡ panel_of zones.now fans.now }
+    {
+        note_modes(zones, &mut self.modes);
+        note_duties(fans, &mut self.duties);
     }
 }
 

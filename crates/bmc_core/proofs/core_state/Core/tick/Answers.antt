@@ -1,59 +1,33 @@
--- A tick is counted, the zones tick, and what they show is told.
-use Rattle.std.proofs.Common.{◌≡◌, ◌∙◌, Ok, ap, subst, sym}
-use Rattle.fan_zone.specs.Ticks.{ticked}
-use Rattle.live_sensors.specs.Sensors.{LiveSensors}
+-- The state ticks, and the log notes what the tick changed.
+use Rattle.std.proofs.Common.{◌≡◌, ◌∙◌, None, Ok, ap, refl, subst}
 use Rattle.bmc_machine.specs.Histories.{Tick}
-use Rattle.bmc_watch.specs.Panels.{panel_of}
+use Rattle.bmc_watch.specs.Watches.{WatchView}
 use Rattle.bmc_core.specs.Acts.{Applies}
-use Rattle.bmc_core.specs.Cores.{CoreView, IsCore, ticked_core, zones_ticked}
-use Rattle.bmc_core.specs.Failsafe.{IsFailsafe}
+use Rattle.bmc_core.specs.Cores.{CoreView, ticked_core}
 use Rattle.bmc_core.specs.Senses.{SensesView}
-use Rattle.bmc_core.proofs.FailsafeLemmas.{always_failsafe}
-use Rattle.bmc_core.proofs.TickedLemmas.{core_ticked, is_ticked, tick_applies}
+use Rattle.bmc_core.proofs.CoreLemmas.{core_ticked, core_tried, tick_done}
 use Rattle.bmc_core.proofs.core_state.Core.tick.Goals as goal
 
-pub of-before-requires-clause-zones : goal.of-before-requires-clause-zones
-of-before-requires-clause-zones g c = c.zone_rows.ensures.few
+-- the log is told the tick count and the changes of then
+clock : (g : _) (c : goal.After-note_changes g) → c.ticks.result ≡ c.tick.new.self.senses.ticks
+clock g c = c.ticks.ensures ∙ ap (λ (senses : SensesView). senses.ticks) c.senses-senses.ensures
 
-pub of-before-requires-clause-fans : goal.of-before-requires-clause-fans
-of-before-requires-clause-fans g c = c.fan_rows.ensures.few
-
-pub tell_tick-requires-clause-zones : goal.tell_tick-requires-clause-zones
-tell_tick-requires-clause-zones g c = c.zone_rows-2.ensures.few
-
-pub tell_tick-requires-clause-fans : goal.tell_tick-requires-clause-fans
-tell_tick-requires-clause-fans g c = c.fan_rows-2.ensures.few
-
--- the core is the one that the tick gives
-exactly : (g : _) (c : goal.After-tell_tick g)
-    → record { senses = c.tell_tick.new.self; zones = c.tick.new.self; strict = c.self.inside.strict }
-    ≡ ticked_core (record { senses = c.self.inside.senses; zones = c.self.inside.zones; strict = c.self.inside.strict })
-exactly g c =
-    let old : CoreView = record { senses = c.self.inside.senses; zones = c.self.inside.zones; strict = c.self.inside.strict } in
-    let slots = c.table-sensors.ensures ∙ ap (λ (sensors : LiveSensors). sensors.slots) c.sensors.ensures
-    ∙ ap (λ (senses : SensesView). senses.sensors.slots) c.count_tick.ensures in
-    let now = c.ticks.ensures ∙ ap (λ (senses : SensesView). senses.ticks) c.count_tick.ensures in
-    is_ticked old c.count_tick.new.self c.tell_tick.new.self c.tick.new.self c.of-before.result c.zone_rows-2.result.now c.fan_rows-2.result.now (record {
-      counts = c.count_tick.ensures;
-      ticks = c.tick.ensures.ticked ∙ (λ i. ticked (slots i) (now i) c.self.inside.strict c.self.inside.zones);
-      before = c.of-before.ensures ∙ (λ i. panel_of (c.zone_rows.ensures.rows i) (c.fan_rows.ensures.rows i));
-      tells = c.tell_tick.ensures;
-      zone_rows_are = c.zone_rows-2.ensures.rows;
-      fan_rows_are = c.fan_rows-2.ensures.rows;
-    })
-
-pub invariant_of-self : goal.invariant_of-self
-invariant_of-self g c = subst IsCore (sym (exactly g c)) (core_ticked _ c.self.invariant)
+same : (g : _) (c : goal.After-note_changes g) → c.changes.result.now ≡ c.tick.new.self.senses.watch.changes
+same g c =
+    c.changes.ensures
+    ∙ ap (λ (watch : WatchView). watch.changes) (c.watch.ensures ∙ ap (λ (senses : SensesView). senses.watch) c.senses-senses.ensures)
 
 pub returns-clause-exact : goal.returns-clause-exact
-returns-clause-exact g c = exactly g c ∙ ap ticked_core c.self.view_is
+returns-clause-exact g c =
+    let old : CoreView = record { state = c.self.inside.state; log = c.self.inside.log } in
+    core_ticked old c.tick.new.self c.ticks.result c.changes.result.now c.note_changes.new.log c.tick.ensures.exact (clock g c) (same g c)
+    c.note_changes.ensures.exact
+    ∙ ap ticked_core c.self.view_is
 
 pub returns-clause-applies : goal.returns-clause-applies
 returns-clause-applies g c =
-    let new : CoreView = record { senses = c.tell_tick.new.self; zones = c.tick.new.self; strict = c.self.inside.strict } in
+    let old : CoreView = record { state = c.self.inside.state; log = c.self.inside.log } in
+    let new : CoreView = record { state = c.tick.new.self; log = c.note_changes.new.log } in
     subst (λ (core : CoreView). Applies core Tick (Ok tt) new) c.self.view_is
-    (subst (Applies (record { senses = c.self.inside.senses; zones = c.self.inside.zones; strict = c.self.inside.strict }) Tick (Ok tt)) (sym (exactly g c))
-    (tick_applies _))
-
-pub returns-clause-failsafe : goal.returns-clause-failsafe
-returns-clause-failsafe g c = subst IsFailsafe (sym (exactly g c)) (always_failsafe _ c.self.invariant)
+    (core_tried old new Tick (Ok tt) None c.ticks.result c.changes.result.now tick_done c.tick.ensures.applies refl (clock g c) (same g c)
+    c.note_changes.ensures)

@@ -1,0 +1,244 @@
+-- What each act leaves of a state: what it leaves of the senses, and of the zones.
+use Rattle.std.proofs.Common.{◌≡◌, ◌≤◌, ◌∙◌, ℕ, List, ◌∷◌, ◌||◌, Bool, true, false, Ok, Err, refl, ap, sym, subst, arith, length}
+use Rattle.std.specs.Prelude.{⊤, Result}
+use Rattle.std.specs.List.{All}
+use Rattle.cfg_json.specs.Configs.{IsValidConfig}
+use Rattle.cfg_json.specs.declared.item.Item.{Item}
+use Rattle.inventory.specs.Items.{live}
+use Rattle.inventory.proofs.ListLemmas.{all_any}
+use Rattle.bmc_report.specs.declared.refusal.Refusal.{Refusal}
+use Rattle.live_sensors.specs.Sensors.{LiveSensors}
+use Rattle.fan_zone.specs.IsSets.{IsSet}
+use Rattle.fan_zone.specs.Live.{LiveControl, controls, fans, zones}
+use Rattle.fan_zone.specs.Sets.{held_of, seat_of}
+use Rattle.fan_zone.specs.declared.held.Held.{Held}
+use Rattle.fan_zone.specs.Settings.{CanSet}
+use Rattle.fan_zone.specs.Ticks.{ZonesView}
+use Rattle.fan_zone.proofs.ActsLemmas.{controls_acting, fans_acting, length_acting, zones_acting}
+use Rattle.bmc_machine.specs.Answers.{past_refused}
+use Rattle.bmc_machine.specs.Banks.{AreFit, HasBank}
+use Rattle.bmc_machine.specs.Histories.{Step, Start, Configure, Plug, RefusedPlug, Unplug, Read, Lose, Tick, asks_strict, is_idle_step, is_strict, is_tick}
+use Rattle.bmc_machine.specs.Indexes.{live_now}
+use Rattle.bmc_machine.specs.Zones.{Holds, ZonesStand}
+use Rattle.bmc_machine.proofs.BankLemmas.{can_set}
+use Rattle.bmc_machine.proofs.FitLemmas.{fit, fit_alike}
+use Rattle.bmc_machine.proofs.LiveLimitLemmas.{few_controls, few_fans, few_zones}
+use Rattle.bmc_machine.proofs.SettingLemmas.{zones_set}
+use Rattle.bmc_machine.proofs.WaitingLemmas.{paired_with, zones_wait}
+use Rattle.bmc_watch.specs.Watches.{view_items}
+use Rattle.bmc_watch.proofs.WatchesLemmas.{live_is}
+use Rattle.bmc_core.specs.Acting.{acting, most_acting}
+use Rattle.bmc_core.specs.Acts.{StateApplies, Notes, TakesMemory}
+use Rattle.bmc_core.specs.States.{StateView, IsState, StateStands}
+use Rattle.bmc_core.specs.Senses.{SensesStand, SensesView}
+use Rattle.bmc_core.specs.declared.fault.CoreFault.{CoreFault}
+use Rattle.bmc_core.specs.declared.fault.CoreFault.TheVariants.{Refused, OutOfMemory}
+
+-- ---- what a step leaves of strictness, and of zones that wait
+
+strict_next : (past : List Step) (step : Step) → asks_strict step ≡ false → is_strict (step ∷ past) ≡ is_strict past
+strict_next past step not = ap (λ (asks : Bool). asks || is_strict past) not
+
+strict_refused : (past : List Step) (step : Step) (refusal : Refusal) → is_strict (past_refused past step refusal) ≡ is_strict past
+strict_refused past (Start options) refusal = refl
+strict_refused past (Configure config) refusal = refl
+strict_refused past (Plug place bytes) refusal = refl
+strict_refused past (RefusedPlug place bytes reason) refusal = refl
+strict_refused past (Unplug place) refusal = refl
+strict_refused past (Read name raw) refusal = refl
+strict_refused past (Lose name) refusal = refl
+strict_refused past Tick refusal = refl
+
+-- zones stand as well where the names of the sensors keep their slots
+zones_same : (view : ZonesView) (sensors now : LiveSensors) (past : List Step) → now.names ≡ sensors.names → ZonesStand view sensors past
+    → ZonesStand view now past
+zones_same view sensors now past names stands = record {
+  zone_plans = stands.zone_plans;
+  zone_rows = stands.zone_rows;
+  fan_plans = stands.fan_plans;
+  fan_rows = stands.fan_rows;
+  held = paired_with (λ (control : LiveControl). ⊤) (Holds view.zone_rows sensors view.bank past) (Holds view.zone_rows now view.bank past)
+      (controls (live_now past)) view.held renamed (all_any _ (λ (control : LiveControl). tt) (controls (live_now past))) stands.held;
+  apart = stands.apart;
+  others = stands.others;
+}
+  where
+    renamed : (control : LiveControl) (held : Held) → ⊤ → Holds view.zone_rows sensors view.bank past control held
+        → Holds view.zone_rows now view.bank past control held
+    renamed control held any holds = record {
+      names =
+          holds.names
+          ∙ ap (λ (names : List (List ℕ × ℕ)). held_of view.zone_rows (record { names = names; slots = sensors.slots; room = sensors.room }) control
+          (seat_of held)) (sym names);
+      age = holds.age;
+      box = holds.box;
+    }
+
+-- zones wait while a step is refused, where the names of the sensors keep their slots
+zones_refused : (view : ZonesView) (sensors now : LiveSensors) (past : List Step) (step : Step) (refusal : Refusal) → now.names ≡ sensors.names
+    → ZonesStand view sensors past → ZonesStand view now (past_refused past step refusal)
+zones_refused view sensors now past (Plug place bytes) refusal names stands =
+    zones_wait view sensors now (RefusedPlug place bytes refusal) past refl refl names stands
+zones_refused view sensors now past (Start options) refusal names stands = zones_same view sensors now past names stands
+zones_refused view sensors now past (Configure config) refusal names stands = zones_same view sensors now past names stands
+zones_refused view sensors now past (RefusedPlug place bytes reason) refusal names stands = zones_same view sensors now past names stands
+zones_refused view sensors now past (Unplug place) refusal names stands = zones_same view sensors now past names stands
+zones_refused view sensors now past (Read name raw) refusal names stands = zones_same view sensors now past names stands
+zones_refused view sensors now past (Lose name) refusal names stands = zones_same view sensors now past names stands
+zones_refused view sensors now past Tick refusal names stands = zones_same view sensors now past names stands
+
+-- ---- an act that leaves the zones
+
+-- the names of the sensors keep their slots where a step is not done
+names_left : (old new : SensesView) (step : Step) (fault : CoreFault) → Notes old step (Err fault) new → new.sensors.names ≡ old.sensors.names
+names_left old new step (Refused refusal) notes = ap (λ (senses : SensesView). senses.sensors.names) notes.left
+names_left old new step OutOfMemory notes = notes.left.1.sensors.names
+
+-- an act that is not done leaves the zones
+pub not_done : (old new : StateView) (step : Step) (fault : CoreFault) → Notes old.senses step (Err fault) new.senses → new.zones ≡ old.zones
+    → new.strict ≡ old.strict → StateApplies old step (Err fault) new
+not_done old new step (Refused refusal) notes zones strict = record {
+  stands = λ past stood.
+      let noted = notes.stand past stood.senses in (
+        noted.0,
+        record {
+          senses = noted.1;
+          zones = subst (λ (view : ZonesView). ZonesStand view new.senses.sensors (past_refused past step refusal)) (sym zones)
+              (zones_refused old.zones old.senses.sensors new.senses.sensors past step refusal
+              (names_left old.senses new.senses step (Refused refusal) notes) stood.zones);
+          strict = strict ∙ stood.strict ∙ sym (strict_refused past step refusal);
+        },
+      );
+  left = λ i. record { senses = notes.left i; zones = zones i; strict = strict i };
+}
+not_done old new step OutOfMemory notes zones strict = record {
+  stands = λ past stood. record {
+    senses = notes.stand past stood.senses;
+    zones = subst (λ (view : ZonesView). ZonesStand view new.senses.sensors past) (sym zones)
+        (zones_same old.zones old.senses.sensors new.senses.sensors past (names_left old.senses new.senses step OutOfMemory notes) stood.zones);
+    strict = strict ∙ stood.strict;
+  };
+  left = (notes.left.0, record { senses = notes.left.1; zones = zones; strict = strict });
+}
+
+-- a reading and a loss leave the zones, done or not
+pub sensed : (old new : StateView) (step : Step) (result : Result ⊤ CoreFault) → is_idle_step step ≡ true → is_tick step ≡ false → asks_strict step ≡ false
+    → Notes old.senses step result new.senses → new.senses.sensors.names ≡ old.senses.sensors.names → new.zones ≡ old.zones → new.strict ≡ old.strict
+    → StateApplies old step result new
+sensed old new step (Err fault) idle still plain notes names zones strict = not_done old new step fault notes zones strict
+sensed old new step (Ok done) idle still plain notes names zones strict = record {
+  stands = λ past stood.
+      let noted = notes.stand past stood.senses in (
+        noted.0,
+        record {
+          senses = noted.1;
+          zones = subst (λ (view : ZonesView). ZonesStand view new.senses.sensors (step ∷ past)) (sym zones)
+              (zones_wait old.zones old.senses.sensors new.senses.sensors step past idle still names stood.zones);
+          strict = strict ∙ stood.strict ∙ sym (strict_next past step plain);
+        },
+        noted.2,
+      );
+  left = tt;
+}
+
+-- ---- an event, after which the zones are set to the live items
+
+module _ (old : StateView) (step : Step) (new : SensesView) (still : is_tick step ≡ false) (plain : asks_strict step ≡ false)
+    (notes : Notes old.senses step (Ok tt) new) where
+  abbrev pub those : List Item
+  those = acting (live (view_items new.watch))
+
+  module _ (past : List Step) (stood : StateStands old past) where
+    stands_then : SensesStand new (step ∷ past)
+    stands_then = (notes.stand past stood.senses).1
+
+    are_live : live (view_items new.watch) ≡ live_now (step ∷ past)
+    are_live = live_is new.watch (step ∷ past) stands_then.watch
+
+    same_controls : controls those ≡ controls (live_now (step ∷ past))
+    same_controls = controls_acting (live (view_items new.watch)) ∙ ap controls are_live
+
+    same_zones : zones those ≡ zones (live_now (step ∷ past))
+    same_zones = zones_acting (live (view_items new.watch)) ∙ ap zones are_live
+
+    same_fans : fans those ≡ fans (live_now (step ∷ past))
+    same_fans = fans_acting (live (view_items new.watch)) ∙ ap fans are_live
+
+    fits : All IsValidConfig new.watch.configs → AreFit those
+    fits valid =
+        fit_alike (live_now (step ∷ past)) those same_controls same_zones same_fans
+        (fit (step ∷ past) stands_then.watch.legal (subst (All IsValidConfig) stands_then.watch.configs valid))
+
+    few : length those ≤ most_acting
+    few =
+        let legal = stands_then.watch.legal in
+        let all = length_acting (live (view_items new.watch)) in
+        let zones_few = few_zones (step ∷ past) legal in
+        let fans_few = few_fans (step ∷ past) legal in
+        let controls_few = few_controls (step ∷ past) legal in
+        let zones_are : length (zones (live (view_items new.watch))) ≡ length (zones (live_now (step ∷ past))) =
+        ap (λ (items : List Item). length (zones items)) are_live in
+        let fans_are : length (fans (live (view_items new.watch))) ≡ length (fans (live_now (step ∷ past))) =
+        ap (λ (items : List Item). length (fans items)) are_live in
+        let controls_are : length (controls (live (view_items new.watch))) ≡ length (controls (live_now (step ∷ past))) =
+        ap (λ (items : List Item). length (controls items)) are_live in
+        omega (arith, all, zones_few, fans_few, controls_few, zones_are, fans_are, controls_are)
+
+  -- there is room to gather them
+  pub few_acting : IsState old → length those ≤ most_acting
+  few_acting state = few state.past state.stands
+
+  -- and the zones can take them
+  pub can_take : IsState old → All IsValidConfig new.watch.configs → CanSet old.zones those
+  can_take state valid =
+      can_set old.zones old.senses.sensors step state.past those (stands_then state.past state.stands).watch.legal (same_controls state.past state.stands)
+      state.stands.zones state.enough (fits state.past state.stands valid)
+
+  -- then the state stands for the longer history
+  pub happened : (view : ZonesView) → IsSet old.zones those new.sensors view
+      → StateApplies old step (Ok tt) (record { senses = new; zones = view; strict = old.strict })
+  happened view set = record {
+    stands = λ past stood.
+        let noted = notes.stand past stood.senses in (
+          noted.0,
+          record {
+            senses = noted.1;
+            zones = zones_set old.zones view old.senses.sensors new.sensors step past those noted.1.watch.legal still (same_controls past stood)
+                (same_zones past stood) (same_fans past stood) stood.zones set;
+            strict = stood.strict ∙ sym (strict_next past step plain);
+          },
+          noted.2,
+        );
+    left = tt;
+  }
+
+-- ---- each state stands for a history
+
+-- an act leaves a state, whether it is done or not
+pub state_next : (old new : StateView) (step : Step) (result : Result ⊤ CoreFault) → IsState old → StateApplies old step result new → HasBank new.zones.bank → IsState new
+state_next old new step (Ok done) state applies bank =
+    let then = applies.stands state.past state.stands in
+    record { past = step ∷ state.past; stands = then.1; enough = bank }
+state_next old new step (Err (Refused refusal)) state applies bank =
+    let then = applies.stands state.past state.stands in
+    record { past = past_refused state.past step refusal; stands = then.1; enough = bank }
+state_next old new step (Err OutOfMemory) state applies bank =
+    record { past = state.past; stands = applies.stands state.past state.stands; enough = bank }
+
+-- memory is wanting before an event
+pub not_begun : (old : StateView) (step : Step) → TakesMemory step → StateApplies old step (Err OutOfMemory) old
+not_begun old step takes = record {
+  stands = λ past stood. stood;
+  left = (
+    takes,
+    record {
+      senses = record {
+        watch = record { configs = refl; entries = refl; plugged = refl; kept = λ number. refl; changes = refl };
+        sensors = record { names = refl; slots = refl };
+        ticks = refl;
+      };
+      zones = refl;
+      strict = refl;
+    },
+  );
+}
