@@ -1,7 +1,4 @@
-pub mod SoFar
-pub mod RunsLemmas
-pub mod GatheringLemmas
-pub mod Along
-pub mod ReasonsLemmas
-pub mod TicksLemmas
 pub mod BanksLemmas
+pub mod FilesLemmas
+pub mod SampleLemmas
+pub mod CommandsLemmas

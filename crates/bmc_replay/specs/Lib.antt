@@ -1,7 +1,3 @@
-pub mod Ticks
-pub mod Runs
-pub mod Gathering
-pub mod Outside
+pub mod Files
+pub mod Commands
 pub mod Statuses
-pub mod Stops
-pub mod Progress

@@ -1,12 +1,10 @@
-//! Replays a script: `replay` takes its items in turn, and writes what the machine prints of them.
+//! The whole command: its words, its configuration files, its script, and the samples.
 #![tactic(auto)]
 
-mod output;
-mod refusing;
+mod files;
 mod replaying;
-mod run;
+mod sample;
 mod status;
-mod stop;
 
 pub use replaying::replay;
 pub use status::Status;

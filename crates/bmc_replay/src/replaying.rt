@@ -1,250 +1,133 @@
-ghost use Rattle.std.specs.Prelude.{◌≡◌, ◌<◌, ◌≤◌, ◌+◌, ◌^◌, ◌++◌, [], true, false, Ok, Err, OnOk, OnErr, IfOk, IfErr, MatchResult, length, map, string_bytes};
-ghost use Rattle.std.specs.Io.KnownBytes.{IsAtEnd};
-ghost use Rattle.bmc_io.specs.Told.{added};
-ghost use Rattle.bmc_io.specs.Sinks.{AppendsFront};
-ghost use Rattle.bmc_text.specs.Feeds.{IsWithin, longest_script};
-ghost use Rattle.bmc_text.specs.NextItems.{TakesNextItem};
-ghost use Rattle.bmc_replay.specs.Gathering.{Gathers, most_gathered};
-ghost use Rattle.bmc_replay.specs.Runs.{asked, gathered, settled, IsNew};
-ghost use Rattle.bmc_replay.specs.declared.run.Pending.TheVariants.{Nothing};
+ghost use Rattle.std.specs.Prelude.{◌≡◌, ◌<◌, ◌≤◌, ◌^◌, IfSome, map, string_bytes};
 ghost use Rattle.bmc_core.specs.Cores.{IsStated};
-ghost use Rattle.bmc_core.specs.Lists.{entry_rows};
-ghost use Rattle.bmc_replay.specs.Outside.{outside};
-ghost use Rattle.bmc_replay.specs.Stops.{StopsAt};
-ghost use Rattle.bmc_replay.specs.Statuses.{Replays, HasReason, WriteCause, status_of};
-ghost use Rattle.bmc_replay.specs.Progress.{ComesOn, StopsAlong, CountsNext, unread};
+ghost use Rattle.bmc_machine.specs.Histories.{Options};
+ghost use Rattle.bmc_run.specs.Outside.{outside};
+ghost use Rattle.bmc_run.specs.Runs.{IsReady};
+ghost use Rattle.bmc_words.specs.Settings.{view_of};
+ghost use Rattle.bmc_replay.specs.Commands.{IsNew, RunsFiles, RunsSettings, EndsRefused, EndsUnsettled, ReplaysWords};
+ghost use Rattle.bmc_replay.specs.Statuses.{status_of};
 
-use crate::output::{flush, flush_large, push_list, push_ticks, push_topic};
-use crate::run::{Pending, Run};
+use crate::files::take_files;
+use crate::sample::run_sample;
 use crate::status::Status;
-use crate::stop::Stop;
 use bmc_base::{Ledger, Steps};
-use bmc_io::{Sink, Source};
-use bmc_text::{Items, NextItem};
+use bmc_io::{Files, Sink, Source, put_all};
+use bmc_run::{Run, Stop, run_script};
+use bmc_words::{Settings, USAGE, WordsFault};
 use ctl_face::Controller;
 use pat_gate::PatternMaker;
 use std::alloc::Global;
 
-// What comes next of the script. What is gathered is written before the source is asked again.
-#[tactic(auto, using(crate::proofs::Along::stops_unread))]
-fn advance<S: Source, K: Sink, L: Ledger, C: Controller>(
-    alloc: Global,
-    items: &mut Items,
-    run: &mut Run<L, C>,
-    input: &mut S,
-    output: &mut K,
-) -> Result<NextItem, Stop>
-    requires { items.old.ended ≡ false }
-    ensures next { IfOk result (λ next. TakesNextItem next items.old items.new (S.seen input.old) (S.seen input.new)) }
-    ensures gathered { OnOk result (Gathers (K.seen output.old).taken (K.seen output.new).taken (string_bytes run.old.text) (string_bytes run.new.text) []) }
-    ensures kept { run.new ≡ record run.old { text = run.new.text } }
-    ensures at_end { OnOk result (items.new.ended ≡ true → IsAtEnd (S.seen input.new).left) }
-    ensures stops { IfErr result (λ stop. StopsAt stop items.old items.new (outside (S.seen input.old) (K.seen output.old))
-        (outside (S.seen input.new) (K.seen output.new)) (string_bytes run.old.text)) }
-    ensures limit { IsWithin items.new.read items.new.ended }
-    ensures reason { MatchResult result (λ _. HasReason Status.Done (outside (S.seen input.old) (K.seen output.old))
-        (outside (S.seen input.new) (K.seen output.new))) (λ stop. HasReason (status_of (Err stop)) (outside (S.seen input.old) (K.seen output.old))
-        (outside (S.seen input.new) (K.seen output.new))) }
-{
-    if let Some(next) = items.next_buffered(alloc)? {
-        return Ok(next);
-    }
-    flush(&mut run.text, output)?;
-    let next = items.next(alloc, input)?;
-    Ok(next)
-}
-
-// Does what is still to be done of the last item, and writes what grows large on the way.
-fn do_pending<K: Sink, L: Ledger, C: Controller>(
+// Takes the configuration files with these names, and then the script. Returns how many of them and of its items are refused.
+fn run_files<Fs: Files, S: Source, K: Sink, M: PatternMaker, L: Ledger, C: Controller>(
     alloc: Global,
     run: &mut Run<L, C>,
-    output: &mut K,
-) -> Result<(), Stop>
-    ensures all { OnOk result (Gathers (K.seen output.old).taken (K.seen output.new).taken (string_bytes run.old.text) (string_bytes run.new.text)
-        (asked run.old.pending run.old.core)) }
-    ensures left { OnOk result (run.new ≡ record run.old { core = settled run.old.pending run.old.core; text = run.new.text; pending = Nothing }) }
-    ensures front { OnErr result (AppendsFront (K.seen output.old).taken (K.seen output.new).taken (gathered run.old)) }
-    ensures cause { MatchResult result (λ _. (K.seen output.new).calls.faults ≡ (K.seen output.old).calls.faults)
-        (λ stop. WriteCause stop (K.seen output.old).calls (K.seen output.new).calls) }
-{
-    match run.pending {
-        Pending::Nothing => {}
-        Pending::List(topic) => push_topic(alloc, &run.core, topic, &mut run.text, output)?,
-        Pending::Ticks(count) => push_ticks(&mut run.core, count, &mut run.text, output)?,
-    }
-    run.pending = Pending::Nothing;
-    Ok(())
-}
-
-// Does what is still to be done of the last item, and writes what has grown large, on the way too.
-fn write_large<K: Sink, L: Ledger, C: Controller>(
-    alloc: Global,
-    run: &mut Run<L, C>,
-    output: &mut K,
-) -> Result<(), Stop>
-    ensures all { OnOk result (Gathers (K.seen output.old).taken (K.seen output.new).taken (gathered run.old) (string_bytes run.new.text) []) }
-    ensures left { OnOk result (run.new ≡ record run.old { core = settled run.old.pending run.old.core; text = run.new.text; pending = Nothing }) }
-    ensures small { OnOk result (length (string_bytes run.new.text) < most_gathered) }
-    ensures front { OnErr result (AppendsFront (K.seen output.old).taken (K.seen output.new).taken (gathered run.old)) }
-    ensures cause { MatchResult result (λ _. (K.seen output.new).calls.faults ≡ (K.seen output.old).calls.faults)
-        (λ stop. WriteCause stop (K.seen output.old).calls (K.seen output.new).calls) }
-{
-    do_pending(alloc, run, output)?;
-    flush_large(&mut run.text, output)?;
-    Ok(())
-}
-
-// Writes what is gathered, and then the final list.
-fn finish<K: Sink, L: Ledger, C: Controller>(
-    run: &mut Run<L, C>,
-    output: &mut K,
-) -> Result<(), Stop>
-    ensures all { OnOk result ((K.seen output.new).taken ≡ added (K.seen output.old).taken
-        (string_bytes run.old.text ++ entry_rows run.old.core.senses.watch.entries)) }
-    ensures front { OnErr result (AppendsFront (K.seen output.old).taken (K.seen output.new).taken
-        (string_bytes run.old.text ++ entry_rows run.old.core.senses.watch.entries)) }
-    ensures cause { MatchResult result (λ _. (K.seen output.new).calls.faults ≡ (K.seen output.old).calls.faults)
-        (λ stop. WriteCause stop (K.seen output.old).calls (K.seen output.new).calls) }
-{
-    push_list(run.core.entries(), &mut run.text, output)?;
-    flush(&mut run.text, output)?;
-    Ok(())
-}
-
-// Takes the next item of a script, or its end. Wherever the machine stood in the script, it has come on, or the run stops there.
-fn take_next<S: Source, K: Sink, M: PatternMaker, L: Ledger, C: Controller>(
-    alloc: Global,
-    items: &mut Items,
-    run: &mut Run<L, C>,
+    names: &[&str],
+    files: &mut Fs,
     input: &mut S,
     output: &mut K,
     maker: &mut M,
     steps: &mut Steps<L>,
-) -> Result<(), Stop>
-    requires going { items.old.ended ≡ false }
-    requires none { run.old.pending ≡ Nothing }
-    requires few { run.old.number < 2 ^ 63 }
-    ensures comes { OnOk result (ComesOn (outside (S.seen input.old) (K.seen output.old)) (outside (S.seen input.new) (K.seen output.new))
-        (M.seen maker.old) (M.seen maker.new) items.old items.new run.old run.new) }
-    ensures stops { IfErr result (λ stop. StopsAlong stop (outside (S.seen input.old) (K.seen output.old))
-        (outside (S.seen input.new) (K.seen output.new)) (M.seen maker.old) (M.seen maker.new) items.old run.old) }
-    ensures none { OnOk result (run.new.pending ≡ Nothing) }
-    ensures counts { OnOk result (items.new.ended ≡ false → CountsNext items.old items.new run.old run.new) }
-    ensures at_end { OnOk result (items.new.ended ≡ true → IsAtEnd (S.seen input.new).left) }
-    ensures limit { IsWithin items.new.read items.new.ended }
-    ensures reason { MatchResult result (λ _. HasReason Status.Done (outside (S.seen input.old) (K.seen output.old))
-        (outside (S.seen input.new) (K.seen output.new))) (λ stop. HasReason (status_of (Err stop)) (outside (S.seen input.old) (K.seen output.old))
-        (outside (S.seen input.new) (K.seen output.new))) }
+) -> Result<u64, Stop>
+    requires ready { IsReady run.old }
+    ensures { (options : Options) → IsNew options run.old → RunsFiles options (map (λ name. name.now) names.now) result
+        (Fs.seen files.old) (Fs.seen files.new) (outside (S.seen input.old) (K.seen output.old)) (outside (S.seen input.new) (K.seen output.new))
+        (M.seen maker.old) (M.seen maker.new) }
 {
-    let next = advance(alloc, items, run, input, output)?;
-    run.take(alloc, next, items, maker, steps)?;
-    write_large(alloc, run, output)?;
-    Ok(())
+    take_files(alloc, run, names, files, output, maker, steps)?;
+    run.begin_script();
+    run_script(alloc, run, input, output, maker, steps)
 }
 
-// Takes what is left of a script.
-fn take_all<S: Source, K: Sink, M: PatternMaker, L: Ledger, C: Controller>(
+// Runs what the settings ask for. Returns how much is refused.
+fn run_settings<Fs: Files, S: Source, K: Sink, M: PatternMaker, L: Ledger, C: Controller>(
     alloc: Global,
-    items: &mut Items,
-    run: &mut Run<L, C>,
+    settings: &Settings<'_>,
+    files: &mut Fs,
     input: &mut S,
     output: &mut K,
     maker: &mut M,
+    bank: Vec<C>,
     steps: &mut Steps<L>,
-) -> Result<(), Stop>
-    requires going { items.old.ended ≡ false }
-    requires none { run.old.pending ≡ Nothing }
-    requires few { run.old.number + length items.old.waiting ≤ items.old.read + 1 }
-    requires limit { items.old.read ≤ longest_script }
-    ensures comes { OnOk result (ComesOn (outside (S.seen input.old) (K.seen output.old)) (outside (S.seen input.new) (K.seen output.new))
-        (M.seen maker.old) (M.seen maker.new) items.old items.new run.old run.new) }
-    ensures stops { IfErr result (λ stop. StopsAlong stop (outside (S.seen input.old) (K.seen output.old))
-        (outside (S.seen input.new) (K.seen output.new)) (M.seen maker.old) (M.seen maker.new) items.old run.old) }
-    ensures none { OnOk result (run.new.pending ≡ Nothing) }
-    ensures ended { OnOk result (items.new.ended ≡ true) }
-    ensures at_end { OnOk result (IsAtEnd (S.seen input.new).left) }
-    ensures limit { IsWithin items.new.read items.new.ended }
-    ensures reason { MatchResult result (λ _. HasReason Status.Done (outside (S.seen input.old) (K.seen output.old))
-        (outside (S.seen input.new) (K.seen output.new))) (λ stop. HasReason (status_of (Err stop)) (outside (S.seen input.old) (K.seen output.old))
-        (outside (S.seen input.new) (K.seen output.new))) }
+) -> Result<u64, Stop>
+    requires bank { IsStated (map C.seen bank.items) }
+    requires log_cap { (1 ≤ settings.now.log_cap) × (settings.now.log_cap ≤ 1000) }
+    requires sample { IfSome settings.now.sample (λ seed. seed < 2 ^ 31) }
+    ensures { RunsSettings (view_of settings.now) result (Fs.seen files.old) (Fs.seen files.new) (outside (S.seen input.old) (K.seen output.old))
+        (outside (S.seen input.new) (K.seen output.new)) (M.seen maker.old) (M.seen maker.new) }
 {
-    'items: loop {
-        take_next(alloc, items, run, input, output, maker, steps)?;
-        if items.is_ended() {
-            break;
+    let mut run = Run::new(alloc, bank, settings.strict, settings.log_cap)?;
+    match settings.sample {
+        Some(seed) => run_sample(alloc, &mut run, seed, output, maker, steps),
+        None => {
+            let names = settings.configs.as_slice();
+            run_files(alloc, &mut run, names, files, input, output, maker, steps)
         }
     }
-    Ok(())
 }
 
-// Takes a whole script, and writes the final list. Says whether an item was refused.
-fn take_script<S: Source, K: Sink, M: PatternMaker, L: Ledger, C: Controller>(
-    alloc: Global,
-    items: &mut Items,
-    run: &mut Run<L, C>,
-    input: &mut S,
-    output: &mut K,
-    maker: &mut M,
-    steps: &mut Steps<L>,
-) -> Result<bool, Stop>
-    requires items { items.old ≡ unread }
-    requires new { IsNew run.old }
-    ensures run { Replays (status_of result) (outside (S.seen input.old) (K.seen output.old)) (outside (S.seen input.new) (K.seen output.new))
-        (M.seen maker.old) (M.seen maker.new) }
-    ensures reason { HasReason (status_of result) (outside (S.seen input.old) (K.seen output.old)) (outside (S.seen input.new) (K.seen output.new)) }
+// The status of a run that ended.
+fn status_of(ended: Result<u64, Stop>) -> Status
+    ensures { result ≡ status_of ended }
 {
-    take_all(alloc, items, run, input, output, maker, steps)?;
-    let refused = run.refused;
-    finish(run, output)?;
-    Ok(refused)
-}
-
-// Replays a script, and says whether an item was refused.
-fn replay_items<S: Source, K: Sink, M: PatternMaker, L: Ledger, C: Controller>(
-    alloc: Global,
-    input: &mut S,
-    output: &mut K,
-    maker: &mut M,
-    steps: &mut Steps<L>,
-    bank: Vec<C>,
-) -> Result<bool, Stop>
-    requires { IsStated (map C.seen bank.items) }
-    ensures run { Replays (status_of result) (outside (S.seen input.old) (K.seen output.old)) (outside (S.seen input.new) (K.seen output.new))
-        (M.seen maker.old) (M.seen maker.new) }
-    ensures reason { HasReason (status_of result) (outside (S.seen input.old) (K.seen output.old)) (outside (S.seen input.new) (K.seen output.new)) }
-{
-    let mut items = Items::new(alloc)?;
-    let mut run = Run::new(alloc, bank)?;
-    take_script(alloc, &mut items, &mut run, input, output, maker, steps)
-}
-
-/// Replays a script: takes the items of `input` in turn, writes to `output` what the machine prints of
-/// each, and at the end the list of the FRUs that are present. `maker` compiles the patterns of probes, and
-/// `steps` counts how many patterns are matched and how many probes are evaluated. `bank` has at least 128 boxes
-/// for PID controllers and 64 for stepwise ones, none of which is loaded.
-pub fn replay<S: Source, K: Sink, M: PatternMaker, L: Ledger, C: Controller>(
-    alloc: Global,
-    input: &mut S,
-    output: &mut K,
-    maker: &mut M,
-    steps: &mut Steps<L>,
-    bank: Vec<C>,
-) -> Status
-    requires { IsStated (map C.seen bank.items) }
-    // What is written is what the machine prints for the bytes that the source has left, or a front of it; how
-    // much of the source was taken; and what is written where it failed or was too long. The patterns of each
-    // configuration are accepted as the maker says.
-    ensures run { Replays result (outside (S.seen input.old) (K.seen output.old)) (outside (S.seen input.new) (K.seen output.new))
-        (M.seen maker.old) (M.seen maker.new) }
-    // The first call of the outside that fails ends the run, and each fault is answered where one failed.
-    ensures reason { HasReason result (outside (S.seen input.old) (K.seen output.old)) (outside (S.seen input.new) (K.seen output.new)) }
-{
-    match replay_items(alloc, input, output, maker, steps, bank) {
-        Ok(false) => Status::Done,
-        Ok(true) => Status::Refused,
+    match ended {
+        Ok(0) => Status::Done,
+        Ok(_) => Status::Refused,
         Err(Stop::OutOfMemory) => Status::OutOfMemory,
         Err(Stop::ReadFault) => Status::ReadFault,
         Err(Stop::WriteFault) => Status::WriteFault,
         Err(Stop::TooLong) => Status::TooLong,
+    }
+}
+
+// Writes the usage line.
+fn write_usage<K: Sink>(output: &mut K) -> Status
+    ensures { EndsRefused result (K.seen output.old) (K.seen output.new) }
+{
+    match put_all(output, USAGE.as_bytes()) {
+        Ok(()) => Status::Usage,
+        Err(_) => Status::WriteFault,
+    }
+}
+
+// Ends where words give no settings, for this reason.
+fn end_unsettled<K: Sink>(fault: WordsFault, output: &mut K) -> Status
+    ensures { EndsUnsettled fault result (K.seen output.old) (K.seen output.new) }
+{
+    match fault {
+        WordsFault::Usage => write_usage(output),
+        WordsFault::OutOfMemory => Status::OutOfMemory,
+    }
+}
+
+/// Does what the words of the command line ask for, which stand behind the program's name: takes the configuration files that they
+/// name, and then the items of `input` in turn, writes to `output` what the machine prints of each, and at the end the list of the
+/// FRUs that are present; or runs a sample and writes what is said of it; or writes the usage line. `maker` compiles the patterns
+/// of probes, and `steps` counts how many patterns are matched and how many probes are evaluated. `bank` has at least 128 boxes for
+/// PID controllers and 64 for stepwise ones, none of which is loaded.
+pub fn replay<Fs: Files, S: Source, K: Sink, M: PatternMaker, L: Ledger, C: Controller>(
+    alloc: Global,
+    words: &Vec<String>,
+    files: &mut Fs,
+    input: &mut S,
+    output: &mut K,
+    maker: &mut M,
+    bank: Vec<C>,
+    steps: &mut Steps<L>,
+) -> Status
+    requires { IsStated (map C.seen bank.items) }
+    // By the words: what is written is the usage line, or what the machine prints for the files and for the bytes that the source has
+    // left, or what is said of a sample, or a front of it; how much of the source was taken; and what is written where a file or the
+    // source failed, or the source was too long. The patterns of each configuration are accepted as the maker says. The first call of
+    // the outside that fails ends the run, and each fault is answered where one failed.
+    ensures { ReplaysWords (map string_bytes words.now.items) result (Fs.seen files.old) (Fs.seen files.new)
+        (outside (S.seen input.old) (K.seen output.old)) (outside (S.seen input.new) (K.seen output.new)) (M.seen maker.old) (M.seen maker.new) }
+{
+    match Settings::read(alloc, words) {
+        Ok(settings) => {
+            let ended = run_settings(alloc, &settings, files, input, output, maker, bank, steps);
+            status_of(ended)
+        }
+        Err(fault) => end_unsettled(fault, output),
     }
 }

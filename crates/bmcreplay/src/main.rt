@@ -1,4 +1,5 @@
-//! Replays a script from standard input to standard output, and ends with the number of its status.
+//! Replays configuration files and a script from standard input to standard output, as the words of the command line ask for it, and
+//! ends with the number of its status.
 #![tactic(auto)]
 
 ghost use Rattle.std.specs.Prelude.{◌≡◌};
@@ -8,12 +9,13 @@ mod program;
 mod statuses;
 
 use bmc_base::{OutOfMemory, Silent, Steps};
-use bmc_io::{StdSink, StdSource};
+use bmc_io::{StdFiles, StdSink, StdSource};
 use bmc_replay::Status;
 use ctl_face::{Controller, Kind};
 use ctl_kinds::{PidBox, StepBox};
 use pat_gate::RegexMaker;
-use std::io;
+use std::env;
+use std::io::{self, ErrorKind};
 use std::process::ExitCode;
 
 // As many controllers of a kind are live at the most.
@@ -27,7 +29,28 @@ fn is_unloaded(one: &Box<dyn Controller>, kind: Kind)
     ensures { seen one.now ≡ unloaded kind }
 {}
 
-// Makes a bank of boxes, and replays the script over it.
+// Stands for words that are not all UTF-8. It is no word of the command.
+const NOT_UTF8: &str = "--\u{FFFD}";
+
+// The words of the command line behind the program's name.
+fn words(rt: &HostRuntime) -> Result<Vec<String>, OutOfMemory> {
+    let alloc = rt.alloc();
+    let mut words = Vec::new(alloc);
+    match env::args(rt) {
+        Ok(args) => {
+            for word in args.skip(1) {
+                words.push(word)?;
+            }
+        }
+        Err(error) => match error.kind() {
+            ErrorKind::OutOfMemory => return Err(OutOfMemory),
+            _ => words.push(String::from_str(alloc, NOT_UTF8)?)?,
+        },
+    }
+    Ok(words)
+}
+
+// Makes a bank of boxes, and does what the words ask for over it.
 fn play(rt: &HostRuntime) -> Result<ExitCode, OutOfMemory> {
     let alloc = rt.alloc();
     let mut bank: Vec<Box<dyn Controller>> = Vec::new(alloc);
@@ -41,17 +64,21 @@ fn play(rt: &HostRuntime) -> Result<ExitCode, OutOfMemory> {
         is_unloaded(&one, Kind::Stepwise);
         bank.push(one)?;
     }
+    let words = words(rt)?;
+    let mut files = StdFiles::new(rt, alloc);
     let mut input = StdSource::new(rt.reader());
     let mut output = StdSink::new(io::writer(rt));
     let mut maker = RegexMaker::new(alloc);
     let mut steps = Steps::new(Silent);
     let code = program::run(
         alloc,
+        &words,
+        &mut files,
         &mut input,
         &mut output,
         &mut maker,
-        &mut steps,
         bank,
+        &mut steps,
         &mut rt.stderr(),
     );
     Ok(code)
