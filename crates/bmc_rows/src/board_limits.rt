@@ -1,9 +1,9 @@
+use crate::cases::{Shape, play_cases};
 use crate::play::Part::{self, Config, Many, Repeats, Text};
 use crate::play::{ALWAYS, Row, play, play_rows, script_of};
 use bmc_base::OutOfMemory;
 use bmc_replay::Status::{Done, Refused};
 use std::alloc::Global;
-use std::fmt::Write;
 use std::test::Fail;
 
 // What a document begins with that is always found, and others that find each FRU; a sensor, a zone and a fan with a
@@ -35,74 +35,76 @@ const ONE_FAN: &str = r#"{"Name":"G","Probe":"TRUE","Exposes":[{"Name":"G","Type
 const ONE_ZONE: &str = r#"{"Name":"Y","Probe":"TRUE","Exposes":[
     {"Name":"Y","Type":"Pid.Zone","MinThermalOutput":0,"FailSafePercent":100}]}"#;
 
-const CONFIGURATIONS: &[Row] = &[
-    // zones: as many as may be, and one more in the same configuration and in another one
-    (
-        &[Repeats(ALWAYS_HEAD, ZONE, 32, LAST), Config(ONE_ZONE)],
-        Refused,
-        "0 new board \"T\" 1\n0 new zone \"Z\"\nline 2 refused ZoneLimit\n",
-    ),
-    (
-        &[
-            Repeats(ALWAYS_HEAD, ZONE, 33, LAST),
-            Repeats(ALWAYS_HEAD, ZONE, 31, LAST),
-            Config(ONE_ZONE),
-        ],
-        Refused,
-        r#"line 1 refused ZoneLimit
+const CONFIGURATIONS: &str = r#"
+== zones: as many as may be, and one more in the same configuration and in another one
+repeat 32 ALWAYS_HEAD ZONE
+block ONE_ZONE
+-> Refused
+0 new board "T" 1
+0 new zone "Z"
+line 2 refused ZoneLimit
+== more
+repeat 33 ALWAYS_HEAD ZONE
+repeat 31 ALWAYS_HEAD ZONE
+block ONE_ZONE
+-> Refused
+line 1 refused ZoneLimit
 0 new board "T" 1
 0 new zone "Z"
 0 new board "Y" 1
 0 new zone "Y"
-"#,
-    ),
-    // fans
-    (
-        &[Repeats(ALWAYS_HEAD, FAN, 128, LAST), Config(ONE_FAN)],
-        Refused,
-        "0 new board \"T\" 1\n0 new fan \"F1\"\nline 2 refused FanLimit\n",
-    ),
-    (
-        &[
-            Repeats(ALWAYS_HEAD, FAN, 129, LAST),
-            Repeats(ALWAYS_HEAD, FAN, 127, LAST),
-            Config(ONE_FAN),
-        ],
-        Refused,
-        r#"line 1 refused FanLimit
+== fans
+repeat 128 ALWAYS_HEAD FAN
+block ONE_FAN
+-> Refused
+0 new board "T" 1
+0 new fan "F1"
+line 2 refused FanLimit
+== more
+repeat 129 ALWAYS_HEAD FAN
+repeat 127 ALWAYS_HEAD FAN
+block ONE_FAN
+-> Refused
+line 1 refused FanLimit
 0 new board "T" 1
 0 new fan "F1"
 0 new board "G" 1
 0 new fan "G"
-"#,
-    ),
-    // exposes without a name count
-    (
-        &[
-            Repeats(ALWAYS_HEAD, NAMELESS, 128, LAST),
-            Config(ONE_FAN),
-            Config(ONE_ZONE),
-        ],
-        Refused,
-        "0 new board \"T\" 1\nline 2 refused FanLimit\n0 new board \"Y\" 1\n0 new zone \"Y\"\n",
-    ),
-    // both at their limits, and zones before fans
-    (
-        &[
-            Repeats(ALWAYS_HEAD, ZONE_AND_FANS, 33, LAST),
-            Repeats(ALWAYS_HEAD, ZONE_AND_FANS, 32, LAST),
-            Config(ONE_FAN),
-            Config(ONE_ZONE),
-        ],
-        Refused,
-        r#"line 1 refused ZoneLimit
+== exposes without a name count
+repeat 128 ALWAYS_HEAD NAMELESS
+block ONE_FAN
+block ONE_ZONE
+-> Refused
+0 new board "T" 1
+line 2 refused FanLimit
+0 new board "Y" 1
+0 new zone "Y"
+== both at their limits, and zones before fans
+repeat 33 ALWAYS_HEAD ZONE_AND_FANS
+repeat 32 ALWAYS_HEAD ZONE_AND_FANS
+block ONE_FAN
+block ONE_ZONE
+-> Refused
+line 1 refused ZoneLimit
 0 new board "T" 1
 0 new zone "Z"
 0 new fan "F"
 line 3 refused FanLimit
 line 4 refused ZoneLimit
-"#,
-    ),
+== a name that was given, a number of configurations and a plug before come first
+block {"Name":"T","Probe":"TRUE"}
+repeat 33 ALWAYS_HEAD ZONE
+plug 1 80 $
+repeat 33 EACH_HEAD ZONE
+-> Refused
+0 new board "T" 1
+line 2 refused DuplicateName
+line 4 refused ConfigAfterPlug
+fru 1 80$
+"#;
+
+// More of them, which are made of parts.
+const CONFIGURATIONS_BY_PARTS: &[Row] = &[
     // a configuration without a board counts for nothing
     (
         &[
@@ -117,21 +119,6 @@ line 4 refused ZoneLimit
         Done,
         "0 new board \"Y\" 1\n0 new zone \"Y\"\n",
     ),
-    // a name that was given, a number of configurations and a plug before come first
-    (
-        &[
-            Config(r#"{"Name":"T","Probe":"TRUE"}"#),
-            Repeats(ALWAYS_HEAD, ZONE, 33, LAST),
-            Text("plug 1 80 $\n"),
-            Repeats(EACH_HEAD, ZONE, 33, LAST),
-        ],
-        Refused,
-        r#"0 new board "T" 1
-line 2 refused DuplicateName
-line 4 refused ConfigAfterPlug
-fru 1 80$
-"#,
-    ),
     (
         &[Many(256), Repeats(ALWAYS_HEAD, ZONE, 33, LAST)],
         Refused,
@@ -139,16 +126,20 @@ fru 1 80$
     ),
 ];
 
-const PLUGS: &[Row] = &[
-    // a third board is refused with its zones, and has no index then; there is room for it where another is gone
-    (
-        &[
-            Repeats(EACH_HEAD, ZONE, 16, LAST),
-            Text("plug 1 80 $\nplug 1 81 $\nplug 1 82 $\nplug 1 79 $\nunplug 1 80\n"),
-            Text("plug 1 79 $\nplug 1 82 $\nunplug 1 79\nplug 1 82 $\n"),
-        ],
-        Refused,
-        r#"0 new board "E" 1 at 1 80
+const PLUGS: &str = r#"
+== a third board is refused with its zones, and has no index then; there is room for it where another is gone
+repeat 16 EACH_HEAD ZONE
+plug 1 80 $
+plug 1 81 $
+plug 1 82 $
+plug 1 79 $
+unplug 1 80
+plug 1 79 $
+plug 1 82 $
+unplug 1 79
+plug 1 82 $
+-> Refused
+0 new board "E" 1 at 1 80
 0 new zone "Z"
 0 new board "E" 2 at 1 81
 line 4 refused ZoneLimit
@@ -166,16 +157,15 @@ line 8 refused ZoneLimit
 0 new board "E" 4 at 1 82
 fru 1 81$
 fru 1 82$
-"#,
-    ),
-    // so is one with fans; a place that is taken and a broken record come first
-    (
-        &[
-            Repeats(EACH_HEAD, FAN, 64, LAST),
-            Text("plug 1 80 $\nplug 1 81 $\nplug 1 82 $\nplug 1 81 $\nplug 1 82 00\n"),
-        ],
-        Refused,
-        r#"0 new board "E" 1 at 1 80
+== so is one with fans; a place that is taken and a broken record come first
+repeat 64 EACH_HEAD FAN
+plug 1 80 $
+plug 1 81 $
+plug 1 82 $
+plug 1 81 $
+plug 1 82 00
+-> Refused
+0 new board "E" 1 at 1 80
 0 new fan "F1"
 0 new board "E" 2 at 1 81
 0 new fan "F2"
@@ -184,18 +174,17 @@ line 5 refused Occupied
 line 6 refused FruShort
 fru 1 80$
 fru 1 81$
-"#,
-    ),
-    // zones before fans; a plug that is refused is none, so a configuration may come behind it
-    (
-        &[
-            Repeats(EACH_HEAD, ZONE_AND_FANS, 33, LAST),
-            Text("plug 1 80 $\n"),
-            Config(ALWAYS),
-        ],
-        Refused,
-        "line 2 refused ZoneLimit\n0 new board \"A\" 1\n",
-    ),
+== zones before fans; a plug that is refused is none, so a configuration may come behind it
+repeat 33 EACH_HEAD ZONE_AND_FANS
+plug 1 80 $
+block ALWAYS
+-> Refused
+line 2 refused ZoneLimit
+0 new board "A" 1
+"#;
+
+// More of them, which are made of parts.
+const PLUGS_BY_PARTS: &[Row] = &[
     // a FRU without a board passes no limit, and MATCH_ONE has one board
     (
         &[
@@ -263,10 +252,25 @@ fru 30 80$
     ),
 ];
 
+// Documents by their names.
+const SHAPES: &[Shape] = &[
+    ("ALWAYS_HEAD", ALWAYS_HEAD, LAST),
+    ("ZONE", ZONE, ""),
+    ("ONE_ZONE", ONE_ZONE, ""),
+    ("FAN", FAN, ""),
+    ("ONE_FAN", ONE_FAN, ""),
+    ("NAMELESS", NAMELESS, ""),
+    ("ZONE_AND_FANS", ZONE_AND_FANS, ""),
+    ("EACH_HEAD", EACH_HEAD, LAST),
+    ("ALWAYS", ALWAYS, ""),
+];
+
 #[test]
 fn zones_and_fans_are_few(rt: HostRuntime) -> Result<(), Fail> {
-    play_rows(&rt, rt.alloc(), CONFIGURATIONS)?;
-    play_rows(&rt, rt.alloc(), PLUGS)
+    play_cases(&rt, rt.alloc(), CONFIGURATIONS, SHAPES)?;
+    play_rows(&rt, rt.alloc(), CONFIGURATIONS_BY_PARTS)?;
+    play_cases(&rt, rt.alloc(), PLUGS, SHAPES)?;
+    play_rows(&rt, rt.alloc(), PLUGS_BY_PARTS)
 }
 
 // Appends a configuration that is always found, with so many sensors.

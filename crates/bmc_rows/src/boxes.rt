@@ -70,7 +70,7 @@ fn ticks_told<C: Controller>(alloc: Global, core: &mut Core<Silent, C>) -> Resul
 }
 
 fn told(alloc: Global, strict: bool) -> Result<String, Fail> {
-    let mut core = Core::new(alloc, bank(alloc)?, strict)?;
+    let mut core = Core::new(alloc, bank(alloc)?, strict, 200)?;
     take_machine(alloc, &mut core)?;
     ticks_told(alloc, &mut core)
 }

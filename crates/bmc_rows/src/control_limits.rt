@@ -1,6 +1,7 @@
-use crate::play::Part::{Config, Repeats, Text};
+use crate::cases::{Shape, play_cases};
+use crate::play::Part::{Config, Repeats};
 use crate::play::{Row, play_rows};
-use bmc_replay::Status::{Done, Refused};
+use bmc_replay::Status::Refused;
 use std::test::Fail;
 
 // What documents begin with: one that is always found, one of each FRU, and one that is never found; and what stands behind the
@@ -52,74 +53,62 @@ const BOTH: &str = r#"{"Name":"B","Probe":"TRUE","Exposes":[
     {"Name":"S","Type":"Stepwise","Zones":["Z"],"Inputs":["T"],"Reading":[0],"Output":[0]},
     {"Name":"P","Type":"Pid","Class":"margin","Zones":["Z"],"Inputs":["T"],"SetPoint":0,"OutLimitMin":0,"OutLimitMax":0}]}"#;
 
-const CONFIGURATIONS: &[Row] = &[
-    // PID controllers: as many as may be, and one more in another configuration and in the same one
-    (
-        &[
-            Repeats(ALWAYS_HEAD, PID, 128, LAST),
-            Config(ONE_PID),
-            Config(ONE_STEPWISE),
-        ],
-        Refused,
-        r#"0 new board "T" 1
+const CONFIGURATIONS: &str = r#"
+== PID controllers: as many as may be, and one more in another configuration and in the same one
+repeat 128 ALWAYS_HEAD PID
+block ONE_PID
+block ONE_STEPWISE
+-> Refused
+0 new board "T" 1
 line 2 refused PidLimit
 0 new board "S" 1
-"#,
-    ),
-    (
-        &[
-            Repeats(ALWAYS_HEAD, PID, 129, LAST),
-            Repeats(ALWAYS_HEAD, PID, 127, LAST),
-            Config(ONE_PID),
-        ],
-        Refused,
-        r#"line 1 refused PidLimit
+== more
+repeat 129 ALWAYS_HEAD PID
+repeat 127 ALWAYS_HEAD PID
+block ONE_PID
+-> Refused
+line 1 refused PidLimit
 0 new board "T" 1
 0 new board "P" 1
-"#,
-    ),
-    // stepwise controllers
-    (
-        &[
-            Repeats(ALWAYS_HEAD, STEPWISE, 64, LAST),
-            Config(ONE_STEPWISE),
-            Config(ONE_PID),
-        ],
-        Refused,
-        r#"0 new board "T" 1
+== stepwise controllers
+repeat 64 ALWAYS_HEAD STEPWISE
+block ONE_STEPWISE
+block ONE_PID
+-> Refused
+0 new board "T" 1
 line 2 refused StepLimit
 0 new board "P" 1
-"#,
-    ),
-    (
-        &[
-            Repeats(ALWAYS_HEAD, STEPWISE, 65, LAST),
-            Repeats(ALWAYS_HEAD, STEPWISE, 63, LAST),
-            Config(ONE_STEPWISE),
-        ],
-        Refused,
-        r#"line 1 refused StepLimit
+== more
+repeat 65 ALWAYS_HEAD STEPWISE
+repeat 63 ALWAYS_HEAD STEPWISE
+block ONE_STEPWISE
+-> Refused
+line 1 refused StepLimit
 0 new board "T" 1
 0 new board "S" 1
-"#,
-    ),
-    // controllers that have no rendering count
-    (
-        &[
-            Repeats(ALWAYS_HEAD, NAMELESS_PID, 128, LAST),
-            Config(ONE_PID),
-        ],
-        Refused,
-        "0 new board \"T\" 1\nline 2 refused PidLimit\n",
-    ),
-    (
-        &[
-            Repeats(ALWAYS_HEAD, NAMELESS_STEPWISE, 64, LAST),
-            Config(ONE_STEPWISE),
-        ],
-        Refused,
-        "0 new board \"T\" 1\nline 2 refused StepLimit\n",
-    ),
+== controllers that have no rendering count
+repeat 128 ALWAYS_HEAD NAMELESS_PID
+block ONE_PID
+-> Refused
+0 new board "T" 1
+line 2 refused PidLimit
+== more
+repeat 64 ALWAYS_HEAD NAMELESS_STEPWISE
+block ONE_STEPWISE
+-> Refused
+0 new board "T" 1
+line 2 refused StepLimit
+== a configuration without a board counts for nothing
+repeat 200 NEVER_HEAD PID
+block ONE_PID
+block ONE_STEPWISE
+-> Done
+0 new board "P" 1
+0 new board "S" 1
+"#;
+
+// More of them, which are made of parts.
+const CONFIGURATIONS_BY_PARTS: &[Row] = &[
     // at all limits: fans come first, then PID controllers, and stepwise ones last
     (
         &[
@@ -144,29 +133,20 @@ line 4 refused PidLimit
 line 5 refused StepLimit
 "#,
     ),
-    // a configuration without a board counts for nothing
-    (
-        &[
-            Repeats(NEVER_HEAD, PID, 200, LAST),
-            Config(ONE_PID),
-            Config(ONE_STEPWISE),
-        ],
-        Done,
-        "0 new board \"P\" 1\n0 new board \"S\" 1\n",
-    ),
 ];
 
-const PLUGS: &[Row] = &[
-    // a third board is refused with its controllers, and has no index then; there is room where another is gone
-    (
-        &[
-            Repeats(EACH_HEAD, PID, 64, LAST),
-            Text(
-                "plug 1 80 $\nplug 1 81 $\nplug 1 82 $\nplug 1 81 $\nplug 1 82 00\nunplug 1 80\nplug 1 82 $\n",
-            ),
-        ],
-        Refused,
-        r#"0 new board "E" 1 at 1 80
+const PLUGS: &str = r#"
+== a third board is refused with its controllers, and has no index then; there is room where another is gone
+repeat 64 EACH_HEAD PID
+plug 1 80 $
+plug 1 81 $
+plug 1 82 $
+plug 1 81 $
+plug 1 82 00
+unplug 1 80
+plug 1 82 $
+-> Refused
+0 new board "E" 1 at 1 80
 0 new board "E" 2 at 1 81
 line 4 refused PidLimit
 line 5 refused Occupied
@@ -175,41 +155,50 @@ line 6 refused FruShort
 0 new board "E" 3 at 1 82
 fru 1 81$
 fru 1 82$
-"#,
-    ),
-    (
-        &[
-            Repeats(EACH_HEAD, STEPWISE, 32, LAST),
-            Text("plug 1 80 $\nplug 1 81 $\nplug 1 82 $\nunplug 1 80\nplug 1 82 $\n"),
-        ],
-        Refused,
-        r#"0 new board "E" 1 at 1 80
+== more
+repeat 32 EACH_HEAD STEPWISE
+plug 1 80 $
+plug 1 81 $
+plug 1 82 $
+unplug 1 80
+plug 1 82 $
+-> Refused
+0 new board "E" 1 at 1 80
 0 new board "E" 2 at 1 81
 line 4 refused StepLimit
 0 gone board "E" 1 at 1 80
 0 new board "E" 3 at 1 82
 fru 1 81$
 fru 1 82$
-"#,
-    ),
-    // both at one time, with the controllers of a configuration besides
-    (
-        &[
-            Config(BOTH),
-            Repeats(EACH_HEAD, CONTROLLERS, 64, LAST),
-            Text("plug 1 80 $\n"),
-            Config(ONE_STEPWISE),
-        ],
-        Refused,
-        r#"0 new board "B" 1
+== both at one time, with the controllers of a configuration besides
+block BOTH
+repeat 64 EACH_HEAD CONTROLLERS
+plug 1 80 $
+block ONE_STEPWISE
+-> Refused
+0 new board "B" 1
 line 3 refused PidLimit
 0 new board "S" 1
-"#,
-    ),
+"#;
+
+// Documents by their names.
+const SHAPES: &[Shape] = &[
+    ("ALWAYS_HEAD", ALWAYS_HEAD, LAST),
+    ("PID", PID, ""),
+    ("ONE_PID", ONE_PID, ""),
+    ("ONE_STEPWISE", ONE_STEPWISE, ""),
+    ("STEPWISE", STEPWISE, ""),
+    ("NAMELESS_PID", NAMELESS_PID, ""),
+    ("NAMELESS_STEPWISE", NAMELESS_STEPWISE, ""),
+    ("NEVER_HEAD", NEVER_HEAD, LAST),
+    ("EACH_HEAD", EACH_HEAD, LAST),
+    ("BOTH", BOTH, ""),
+    ("CONTROLLERS", CONTROLLERS, ""),
 ];
 
 #[test]
 fn controllers_are_few(rt: HostRuntime) -> Result<(), Fail> {
-    play_rows(&rt, rt.alloc(), CONFIGURATIONS)?;
-    play_rows(&rt, rt.alloc(), PLUGS)
+    play_cases(&rt, rt.alloc(), CONFIGURATIONS, SHAPES)?;
+    play_rows(&rt, rt.alloc(), CONFIGURATIONS_BY_PARTS)?;
+    play_cases(&rt, rt.alloc(), PLUGS, SHAPES)
 }

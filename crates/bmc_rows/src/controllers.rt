@@ -1,6 +1,4 @@
-use crate::play::Part::{Config, Text};
-use crate::play::{Row, play_rows};
-use bmc_replay::Status::{Done, Refused};
+use crate::cases::{Shape, play_cases};
 use std::test::Fail;
 
 /// A machine with a temperature, a fan and its speed, a zone, and a controller of each kind.
@@ -38,29 +36,27 @@ const FIRST_BOTH: &str =
 const EACH: &str = r#"{"Name":"E","Probe":"xyz.openbmc_project.FruDevice({})","Exposes":[
     {"Name":"C $index","Type":"Pid","Class":"margin","Zones":["Z"],"Inputs":["T"],"SetPoint":0,"OutLimitMin":0,"OutLimitMax":0}]}"#;
 
-const ZONES_COME_AND_GO: &[Row] = &[
-    // all that a machine has comes in the order of its exposes
-    (
-        &[Config(BOX)],
-        Done,
-        r#"0 new board "Box" 1
+const ZONES_COME_AND_GO: &str = r#"
+== all that a machine has comes in the order of its exposes
+block BOX
+-> Done
+0 new board "Box" 1
 0 new sensor "T"
 0 new sensor "Tach"
 0 new fan "Fan 1"
 0 new zone "Z"
 0 new controller "TP"
 0 new controller "FP"
-"#,
-    ),
-    // controllers wait for their zone, come with it, and go with it, before it and behind it in the order of items
-    (
-        &[
-            Config(WAITING),
-            Config(ZONES),
-            Text("show inventory\nplug 1 80 $\nshow inventory\nunplug 1 80\nplug 1 80 $\n"),
-        ],
-        Done,
-        r#"0 new board "W" 1
+== controllers wait for their zone, come with it, and go with it, before it and behind it in the order of items
+block WAITING
+block ZONES
+show inventory
+plug 1 80 $
+show inventory
+unplug 1 80
+plug 1 80 $
+-> Done
+0 new board "W" 1
 board "W" 1
   "Stepwise" "S"
   "Pid" "P"
@@ -82,16 +78,13 @@ board "Z" 1 at 1 80
 0 new controller "P"
 0 new zone "Z"
 fru 1 80$
-"#,
-    ),
-    (
-        &[
-            Config(ZONES),
-            Config(WAITING),
-            Text("plug 1 80 $\nunplug 1 80\n"),
-        ],
-        Done,
-        r#"0 new board "W" 1
+== more
+block ZONES
+block WAITING
+plug 1 80 $
+unplug 1 80
+-> Done
+0 new board "W" 1
 0 new board "Z" 1 at 1 80
 0 new zone "Z"
 0 new controller "S"
@@ -100,17 +93,16 @@ fru 1 80$
 0 gone zone "Z"
 0 gone controller "S"
 0 gone controller "P"
-"#,
-    ),
-    // one board after another takes the name of the zone over, and gives it back: the controllers stay
-    (
-        &[
-            Config(WAITING),
-            Config(ZONES),
-            Text("plug 1 81 $\nplug 1 80 $\nplug 1 82 $\nunplug 1 80\nunplug 1 81\n"),
-        ],
-        Done,
-        r#"0 new board "W" 1
+== one board after another takes the name of the zone over, and gives it back: the controllers stay
+block WAITING
+block ZONES
+plug 1 81 $
+plug 1 80 $
+plug 1 82 $
+unplug 1 80
+unplug 1 81
+-> Done
+0 new board "W" 1
 0 new board "Z" 1 at 1 81
 0 new controller "S"
 0 new controller "P"
@@ -126,17 +118,15 @@ fru 1 80$
 0 gone zone "Z"
 0 new zone "Z"
 fru 1 82$
-"#,
-    ),
-    // the board of the zone itself moves in one event
-    (
-        &[
-            Config(FIRST_ZONE),
-            Config(WAITING),
-            Text("plug 1 81 $\nplug 1 80 $\nunplug 1 80\nunplug 1 81\n"),
-        ],
-        Done,
-        r#"0 new board "W" 1
+== the board of the zone itself moves in one event
+block FIRST_ZONE
+block WAITING
+plug 1 81 $
+plug 1 80 $
+unplug 1 80
+unplug 1 81
+-> Done
+0 new board "W" 1
 0 new board "M" 1 at 1 81
 0 new zone "Z"
 0 new controller "S"
@@ -153,18 +143,15 @@ fru 1 82$
 0 gone zone "Z"
 0 gone controller "S"
 0 gone controller "P"
-"#,
-    ),
-    // another zone of the name waits, or comes with a configuration
-    (
-        &[
-            Config(WAITING),
-            Config(ONE_ZONE),
-            Config(ZONES),
-            Text("plug 1 80 $\nshow inventory\nunplug 1 80\n"),
-        ],
-        Done,
-        r#"0 new board "W" 1
+== another zone of the name waits, or comes with a configuration
+block WAITING
+block ONE_ZONE
+block ZONES
+plug 1 80 $
+show inventory
+unplug 1 80
+-> Done
+0 new board "W" 1
 0 new board "Y" 1
 0 new controller "S"
 0 new controller "P"
@@ -178,17 +165,14 @@ board "Y" 1
 board "Z" 1 at 1 80
   "Pid.Zone" "Z"
 0 gone board "Z" 1 at 1 80
-"#,
-    ),
-    // where the board of a controller moves, its controller is another one, also where the zone stays
-    (
-        &[
-            Config(ONE_ZONE),
-            Config(FIRST_BOTH),
-            Text("plug 1 81 $\nplug 1 80 $\nshow inventory\n"),
-        ],
-        Done,
-        r#"0 new board "Y" 1
+== where the board of a controller moves, its controller is another one, also where the zone stays
+block ONE_ZONE
+block FIRST_BOTH
+plug 1 81 $
+plug 1 80 $
+show inventory
+-> Done
+0 new board "Y" 1
 0 new zone "Z"
 0 new board "B" 1 at 1 81
 0 new controller "S"
@@ -203,17 +187,15 @@ board "B" 2 at 1 80
   "Pid.Zone" "Z"
 fru 1 80$
 fru 1 81$
-"#,
-    ),
-    // controllers come and go with their boards, while the zone is there
-    (
-        &[
-            Config(EACH),
-            Config(ONE_ZONE),
-            Text("plug 1 81 $\nplug 1 80 $\nunplug 1 81\nplug 1 81 $\n"),
-        ],
-        Done,
-        r#"0 new board "Y" 1
+== controllers come and go with their boards, while the zone is there
+block EACH
+block ONE_ZONE
+plug 1 81 $
+plug 1 80 $
+unplug 1 81
+plug 1 81 $
+-> Done
+0 new board "Y" 1
 0 new zone "Z"
 0 new board "E" 1 at 1 81
 0 new controller "C 1"
@@ -225,20 +207,17 @@ fru 1 81$
 0 new controller "C 1"
 fru 1 80$
 fru 1 81$
-"#,
-    ),
-    // with the last zone those of all boards go, and they come back with the next one
-    (
-        &[
-            Config(EACH),
-            Config(
-                r#"{"Name":"A","Probe":"xyz.openbmc_project.FruDevice({'ADDRESS': 9})","Exposes":[
-                    {"Name":"Z","Type":"Pid.Zone","MinThermalOutput":0,"FailSafePercent":100}]}"#,
-            ),
-            Text("plug 1 81 $\nplug 1 9 $\nplug 1 80 $\nunplug 1 9\nplug 2 9 $\n"),
-        ],
-        Done,
-        r#"0 new board "E" 1 at 1 81
+== with the last zone those of all boards go, and they come back with the next one
+block EACH
+block {"Name":"A","Probe":"xyz.openbmc_project.FruDevice({'ADDRESS': 9})","Exposes":[
+    {"Name":"Z","Type":"Pid.Zone","MinThermalOutput":0,"FailSafePercent":100}]}
+plug 1 81 $
+plug 1 9 $
+plug 1 80 $
+unplug 1 9
+plug 2 9 $
+-> Done
+0 new board "E" 1 at 1 81
 0 new board "E" 2 at 1 9
 0 new board "A" 1 at 1 9
 0 new controller "C 2"
@@ -261,9 +240,7 @@ fru 1 81$
 fru 1 80$
 fru 1 81$
 fru 2 9$
-"#,
-    ),
-];
+"#;
 
 // A zone, a controller of it whose input has no rendering without a record, and one in the zone of the board before.
 const NAMED: &str =
@@ -302,17 +279,16 @@ const ALIKE: &str = r#"{"Name":"S","Probe":"TRUE","Exposes":[
     {"Name":"T","Type":"Pid","Class":"temp","Zones":["T"],"Inputs":["T"],"SetPoint":0,"OutLimitMin":0,"OutLimitMax":0},
     {"Name":"T","Type":"Sensor"},{"Name":"z","Type":"pid.zone"}]}"#;
 
-const NAMES: &[Row] = &[
-    // names with an index and fields: without a record there is no such item
-    (
-        &[
-            Config(NAMED),
-            Text(
-                "show inventory\nplug 1 80 $\nplug 1 81 01000000000000FF\nshow inventory\nunplug 1 80\n",
-            ),
-        ],
-        Done,
-        r#"0 new board "N" 1
+const NAMES: &str = r#"
+== names with an index and fields: without a record there is no such item
+block NAMED
+show inventory
+plug 1 80 $
+plug 1 81 01000000000000FF
+show inventory
+unplug 1 80
+-> Done
+0 new board "N" 1
 0 new zone "Z 1"
 board "N" 1
   "Pid.Zone" "Z 1" live
@@ -337,24 +313,22 @@ board "N" 3 at 1 81
 0 gone controller "Fan"
 0 gone controller "Curve 3"
 fru 1 81
-"#,
-    ),
-    // one name that is skipped is enough
-    (
-        &[Config(NAMELESS), Text("show inventory\n")],
-        Done,
-        r#"0 new board "N" 1
+== one name that is skipped is enough
+block NAMELESS
+show inventory
+-> Done
+0 new board "N" 1
 0 new zone "Z"
 0 new controller "E"
 board "N" 1
   "Pid.Zone" "Z" live
   "Pid" "E" live
-"#,
-    ),
-    (
-        &[Config(ONE_ZONE), Config(LONG), Text("show inventory\n")],
-        Done,
-        r#"0 new board "Y" 1
+== more
+block ONE_ZONE
+block LONG
+show inventory
+-> Done
+0 new board "Y" 1
 0 new zone "Z"
 0 new board "L" 1
 0 new controller "A"
@@ -362,13 +336,11 @@ board "Y" 1
   "Pid.Zone" "Z" live
 board "L" 1
   "Stepwise" "A" live
-"#,
-    ),
-    // controllers are no family, and a fan or a sensor is no zone
-    (
-        &[Config(ALIKE), Text("show inventory\n")],
-        Done,
-        r#"0 new board "S" 1
+== controllers are no family, and a fan or a sensor is no zone
+block ALIKE
+show inventory
+-> Done
+0 new board "S" 1
 0 new controller "C"
 0 new controller "C"
 0 new controller "Z"
@@ -386,16 +358,16 @@ board "S" 1
   "Pid" "T"
   "Sensor" "T" live
   "pid.zone" "z"
-"#,
-    ),
-    // a controller is no sensor, so it is not read
-    (
-        &[
-            Config(BOX),
-            Text("read TP 5\nlose FP\nread T 41000\nlose Tach\nshow sensors\nshow inventory\n"),
-        ],
-        Refused,
-        r#"0 new board "Box" 1
+== a controller is no sensor, so it is not read
+block BOX
+read TP 5
+lose FP
+read T 41000
+lose Tach
+show sensors
+show inventory
+-> Refused
+0 new board "Box" 1
 0 new sensor "T"
 0 new sensor "Tach"
 0 new fan "Fan 1"
@@ -413,20 +385,13 @@ board "Box" 1
   "Pid.Zone" "Z" live
   "Stepwise" "TP" live
   "Pid" "FP" live
-"#,
-    ),
-    // names are quoted
-    (
-        &[
-            Config(ONE_ZONE),
-            Config(
-                r#"{"Name":"Q","Probe":"TRUE","Exposes":[
-                    {"Name":"a\"\\\u0007é","Type":"Stepwise","Zones":["Z"],"Inputs":["T"],"Reading":[0],"Output":[0]}]}"#,
-            ),
-            Text("show inventory\n"),
-        ],
-        Done,
-        r#"0 new board "Y" 1
+== names are quoted
+block ONE_ZONE
+block {"Name":"Q","Probe":"TRUE","Exposes":[
+    {"Name":"a\"\\\u0007é","Type":"Stepwise","Zones":["Z"],"Inputs":["T"],"Reading":[0],"Output":[0]}]}
+show inventory
+-> Done
+0 new board "Y" 1
 0 new zone "Z"
 0 new board "Q" 1
 0 new controller "a\"\\\x07é"
@@ -434,12 +399,25 @@ board "Y" 1
   "Pid.Zone" "Z" live
 board "Q" 1
   "Stepwise" "a\"\\\x07é" live
-"#,
-    ),
+"#;
+
+// Documents by their names.
+const SHAPES: &[Shape] = &[
+    ("BOX", BOX, ""),
+    ("WAITING", WAITING, ""),
+    ("ZONES", ZONES, ""),
+    ("FIRST_ZONE", FIRST_ZONE, ""),
+    ("ONE_ZONE", ONE_ZONE, ""),
+    ("FIRST_BOTH", FIRST_BOTH, ""),
+    ("EACH", EACH, ""),
+    ("NAMED", NAMED, ""),
+    ("NAMELESS", NAMELESS, ""),
+    ("LONG", LONG, ""),
+    ("ALIKE", ALIKE, ""),
 ];
 
 #[test]
 fn controllers(rt: HostRuntime) -> Result<(), Fail> {
-    play_rows(&rt, rt.alloc(), ZONES_COME_AND_GO)?;
-    play_rows(&rt, rt.alloc(), NAMES)
+    play_cases(&rt, rt.alloc(), ZONES_COME_AND_GO, SHAPES)?;
+    play_cases(&rt, rt.alloc(), NAMES, SHAPES)
 }

@@ -1,10 +1,15 @@
 use crate::play::Part::{self, Config, Text};
 use crate::play::{
-    ALWAYS, ALWAYS_BOARD, BOARD_FIELDS, NEVER, Outside, SOUND, filled, play_once, played, script_of,
+    ALWAYS, ALWAYS_BOARD, BOARD_FIELDS, NEVER, Outcome, Outside, SOUND, filled, play_once, played,
+    played_words, script_of,
 };
 use bmc_base::OutOfMemory;
+use bmc_io::MemFiles;
 use bmc_replay::Status;
+use pat_gate::RegexMaker;
 use std::alloc::Global;
+use std::process::Abort;
+use std::str;
 use std::test::Fail;
 
 // What makes the items of a script whole in turn, and what is printed of them. A block is whole with the byte behind it.
@@ -192,6 +197,122 @@ fn the_first_fault_ends_the_run(rt: HostRuntime) -> Result<(), Fail> {
             status,
             text.as_bytes(),
         )?;
+    }
+    Ok(())
+}
+
+// Three files, and what is printed of them.
+const FILES: &[(&str, &str)] = &[
+    ("a.json", ALWAYS),
+    ("b.json", "{}"),
+    ("c.json", r#"{"Name":"B","Probe":"TRUE"}"#),
+];
+
+const FILES_TEXT: &str = "0 new board \"A\" 1\nfile 2 refused MissingKey\n0 new board \"B\" 1\n";
+
+// The names of the files.
+fn names(alloc: Global) -> Result<Vec<String>, OutOfMemory> {
+    let mut names = Vec::new(alloc);
+    for (name, _) in FILES {
+        names.push(String::from_str(alloc, name)?)?;
+    }
+    Ok(names)
+}
+
+// Plays a script behind the files, of which this call fails. Returns also how many calls of them failed.
+fn played_files<R: Abort>(
+    rt: &R,
+    alloc: Global,
+    file_fail: u64,
+    outside: Outside,
+) -> Result<(Outcome, u64), OutOfMemory> {
+    let mut files = MemFiles::new(alloc, &[file_fail])?;
+    for (name, text) in FILES {
+        files.add(alloc, name, text.as_bytes())?;
+    }
+    let words = names(alloc)?;
+    let mut maker = RegexMaker::new(alloc);
+    let outcome = played_words(rt, alloc, &words, &mut files, b"", outside, &mut maker)?;
+    Ok((outcome, files.faults()))
+}
+
+// Who failed, which ended the run.
+#[derive(Clone, Copy, Debug, PartialEq, Eq)]
+enum Culprit {
+    File,
+    Source,
+    Sink,
+    None,
+}
+
+// The calls of the files, the source and the sink that fail, who fails first, how the run ends, and how many lines are
+// printed. What is printed of a file is written before the next one or the source is read.
+const FILE_FAULTS: &[(u64, u64, u64, Culprit, Status, usize)] = &[
+    (0, 0, 0, Culprit::File, Status::ReadFault, 0),
+    (1, 0, 0, Culprit::Sink, Status::WriteFault, 0),
+    (1, 0, 1, Culprit::File, Status::ReadFault, 1),
+    (2, 0, 1, Culprit::Sink, Status::WriteFault, 1),
+    (2, 0, 2, Culprit::File, Status::ReadFault, 2),
+    (3, 0, 2, Culprit::Sink, Status::WriteFault, 2),
+    (3, 0, 3, Culprit::Source, Status::ReadFault, 3),
+    (3, 1, 3, Culprit::None, Status::Refused, 3),
+];
+
+// Plays a row of them.
+fn play_file_fault<R: Abort>(
+    rt: &R,
+    alloc: Global,
+    (file_fail, read_fail, write_fail, culprit, status, lines): (
+        u64,
+        u64,
+        u64,
+        Culprit,
+        Status,
+        usize,
+    ),
+) -> Result<(), Fail> {
+    let outside = Outside {
+        read_fail,
+        write_fail,
+        ..SOUND
+    };
+    let (outcome, file_faults) = played_files(rt, alloc, file_fail, outside)?;
+    assert_eq!(rt; outcome.status, status, "call {file_fail} over {outside:?}");
+    assert_eq!(rt; file_faults, u64::from(culprit == Culprit::File));
+    assert_eq!(rt;
+        outcome.source_faults,
+        u64::from(culprit == Culprit::Source)
+    );
+    let text = str::from_utf8(outcome.text.as_slice()).unwrap_or("");
+    assert_eq!(rt; text.lines().count(), lines);
+    assert!(rt; FILES_TEXT.starts_with(text));
+    assert!(rt; text.is_empty() || text.ends_with('\n'));
+    Ok(())
+}
+
+#[test]
+fn failing_files(rt: HostRuntime) -> Result<(), Fail> {
+    for row in FILE_FAULTS {
+        play_file_fault(&rt, rt.alloc(), *row)?;
+    }
+    Ok(())
+}
+
+// A sink with room for a front of what is printed of the files, whether it takes a byte a call or all.
+#[test]
+fn failing_writes_of_files(rt: HostRuntime) -> Result<(), Fail> {
+    for room in 0..FILES_TEXT.len() {
+        for takes in [1, 7] {
+            let outside = Outside {
+                takes,
+                room,
+                ..SOUND
+            };
+            let (outcome, file_faults) = played_files(&rt, rt.alloc(), NEVER, outside)?;
+            assert_eq!(rt; outcome.status, Status::WriteFault, "{outside:?}");
+            assert_eq!(rt; file_faults, 0);
+            assert!(rt; outcome.text.as_slice() == &FILES_TEXT.as_bytes()[..room]);
+        }
     }
     Ok(())
 }

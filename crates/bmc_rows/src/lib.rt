@@ -12,7 +12,13 @@ mod boards;
 #[cfg(test)]
 mod boxes;
 #[cfg(test)]
+mod cases;
+#[cfg(test)]
 mod channels;
+#[cfg(test)]
+mod commands;
+#[cfg(test)]
+mod config_files;
 #[cfg(test)]
 mod control_limits;
 #[cfg(test)]
@@ -31,6 +37,8 @@ mod limits;
 mod line_orders;
 #[cfg(test)]
 mod lines;
+#[cfg(test)]
+mod logs;
 #[cfg(test)]
 mod muxes;
 #[cfg(test)]

@@ -3,7 +3,7 @@ ghost use Rattle.bmc_core.specs.Cores.{IsStated};
 
 use crate::bank::bank;
 use bmc_base::{OutOfMemory, Silent, Steps};
-use bmc_io::{MemSink, MemSource};
+use bmc_io::{MemFiles, MemSink, MemSource};
 use bmc_replay::{Status, replay};
 use ctl_face::Controller;
 use pat_gate::{ListMaker, PatternMaker, RegexMaker};
@@ -81,8 +81,8 @@ pub const SOUND: Outside = Outside {
     write_fail: NEVER,
 };
 
-// Outsides that do not fail.
-const SOUND_ONES: &[Outside] = &[
+/// Outsides that do not fail.
+pub const SOUND_ONES: &[Outside] = &[
     SOUND,
     Outside {
         gives: 1,
@@ -104,6 +104,36 @@ pub fn filled(alloc: Global, text: &str, filling: &str) -> Result<String, OutOfM
             whole.push_str(filling)?;
         } else {
             whole.push(char)?;
+        }
+    }
+    Ok(whole)
+}
+
+// Appends what an escape stands for, and the text behind it.
+fn push_escaped(whole: &mut String, text: &str) -> Result<(), OutOfMemory> {
+    for (at, char) in text.chars().enumerate() {
+        let char = match char {
+            'n' if at == 0 => '\n',
+            'r' if at == 0 => '\r',
+            't' if at == 0 => '\t',
+            '0' if at == 0 => '\0',
+            's' if at == 0 => ' ',
+            other => other,
+        };
+        whole.push(char)?;
+    }
+    Ok(())
+}
+
+/// Returns a text with a newline for `\n`, a carriage return for `\r`, a tab for `\t`, a byte 0 for `\0` and a space for
+/// `\s`.
+pub fn unescaped(alloc: Global, text: &str) -> Result<String, OutOfMemory> {
+    let mut whole = String::new(alloc);
+    for (at, piece) in text.split('\\').enumerate() {
+        if at == 0 {
+            whole.push_str(piece)?;
+        } else {
+            push_escaped(&mut whole, piece)?;
         }
     }
     Ok(whole)
@@ -208,22 +238,43 @@ pub fn played_over<C: Controller>(
 ) -> Result<Status, OutOfMemory>
     requires { IsStated (map C.seen boxes.items) }
 {
+    let words = Vec::new(alloc);
+    let mut files = MemFiles::new(alloc, &[])?;
     let mut source = MemSource::new(alloc, script, &[], &[])?;
     let mut sink = MemSink::new(alloc, AMPLE, AMPLE, &[])?;
     let mut maker = RegexMaker::new(alloc);
     let mut steps = Steps::new(Silent);
-    let status = replay(alloc, &mut source, &mut sink, &mut maker, &mut steps, boxes);
+    let status = replay(
+        alloc,
+        &words,
+        &mut files,
+        &mut source,
+        &mut sink,
+        &mut maker,
+        boxes,
+        &mut steps,
+    );
     Ok(status)
 }
 
-// Plays a script with the patterns that a maker compiles, and returns the status and what the sink took.
-fn played_with<R: Abort, M: PatternMaker>(
+/// What came of a run: how it ended, what the sink took, and how many calls of the source failed.
+#[derive(Drop)]
+pub struct Outcome {
+    pub status: Status,
+    pub text: Vec<u8>,
+    pub source_faults: u64,
+}
+
+/// Plays a script behind files, as these words ask for it, with the patterns that a maker compiles.
+pub fn played_words<R: Abort, M: PatternMaker>(
     rt: &R,
     alloc: Global,
+    words: &Vec<String>,
+    files: &mut MemFiles,
     script: &[u8],
     outside: Outside,
     maker: &mut M,
-) -> Result<(Status, Vec<u8>), OutOfMemory> {
+) -> Result<Outcome, OutOfMemory> {
     assert!(rt; outside.takes > 0);
     let pieces = [outside.gives];
     assert!(rt; pieces.iter().all(|size| *size > 0));
@@ -231,8 +282,37 @@ fn played_with<R: Abort, M: PatternMaker>(
     let mut sink = MemSink::new(alloc, outside.takes, outside.room, &[outside.write_fail])?;
     let mut steps = Steps::new(Silent);
     let boxes = bank(alloc)?;
-    let status = replay(alloc, &mut source, &mut sink, maker, &mut steps, boxes);
-    let text = Vec::from_slice(alloc, sink.bytes())?;
+    let status = replay(
+        alloc,
+        words,
+        files,
+        &mut source,
+        &mut sink,
+        maker,
+        boxes,
+        &mut steps,
+    );
+    Ok(Outcome {
+        status,
+        text: Vec::from_slice(alloc, sink.bytes())?,
+        source_faults: source.faults(),
+    })
+}
+
+// Plays a script without words and files, with the patterns that a maker compiles, and returns the status and what the
+// sink took.
+fn played_with<R: Abort, M: PatternMaker>(
+    rt: &R,
+    alloc: Global,
+    script: &[u8],
+    outside: Outside,
+    maker: &mut M,
+) -> Result<(Status, Vec<u8>), OutOfMemory> {
+    let words = Vec::new(alloc);
+    let mut files = MemFiles::new(alloc, &[])?;
+    let Outcome { status, text, .. } = played_words(
+        rt, alloc, &words, &mut files, script, outside, maker,
+    )?;
     Ok((status, text))
 }
 

@@ -1,3 +1,4 @@
+use crate::cases::{Shape, play_cases};
 use crate::controllers::BOX;
 use crate::play::Part::{self, Config, Text, Times};
 use crate::play::{Row, SOUND, play_once, play_rows, played, script_of};
@@ -17,19 +18,19 @@ pub const BOX_15: &str =
 const FREE_FAN: &str = r#"{"Name":"Fans","Probe":"TRUE","Exposes":[{"Name":"F","Type":"Fan"}]}"#;
 
 // Ticks, and what zones and fans come to.
-const TICKS: &[Row] = &[
-    // five losses one after another are a failure, and a reading between them begins anew
-    (
-        &[
-            Config(BOX),
-            Text("read T 30000\nread Tach 2000\ntick 1\n"),
-            Times(4, "lose T\n"),
-            Text("read T 30000\n"),
-            Times(5, "lose T\n"),
-            Text("tick 1\nshow zones\n"),
-        ],
-        Done,
-        r#"0 new board "Box" 1
+const TICKS: &str = r#"
+== five losses one after another are a failure, and a reading between them begins anew
+block BOX
+read T 30000
+read Tach 2000
+tick 1
+times 4 lose T
+read T 30000
+times 5 lose T
+tick 1
+show zones
+-> Done
+0 new board "Box" 1
 0 new sensor "T"
 0 new sensor "Tach"
 0 new fan "Fan 1"
@@ -42,18 +43,18 @@ const TICKS: &[Row] = &[
 2 duty fan "Fan 1" 80.000
 zone "Z" failsafe 2000.000
 fan "Fan 1" 80.000
-"#,
-    ),
-    // a reading that is older than the timeout is bad; the duty is the greater of the last one and the failsafe percent
-    (
-        &[
-            Config(BOX_15),
-            Text(
-                "read T 30000\nread Tach 2000\ntick 20\nshow zones\nshow sensors\ntick 1\nshow zones\nshow sensors\n",
-            ),
-        ],
-        Done,
-        r#"0 new board "Box" 1
+== a reading that is older than the timeout is bad; the duty is the greater of the last one and the failsafe percent
+block BOX_15
+read T 30000
+read Tach 2000
+tick 20
+show zones
+show sensors
+tick 1
+show zones
+show sensors
+-> Done
+0 new board "Box" 1
 0 new sensor "T"
 0 new sensor "Tach"
 0 new fan "Fan 1"
@@ -70,42 +71,42 @@ zone "Z" failsafe 2000.000
 fan "Fan 1" 20.000
 sensor "T" 30.000 ok 21
 sensor "Tach" 2000.000 ok 21
-"#,
-    ),
-    // the lines of other acts have the tick count too
-    (
-        &[
-            Config(FREE_FAN),
-            Text("tick 36000\n"),
-            Config(r#"{"Name":"A","Probe":"xyz.openbmc_project.FruDevice({})"}"#),
-            Text("plug 1 80 $\ntick 1\nunplug 1 80\n"),
-        ],
-        Done,
-        r#"0 new board "Fans" 1
+== the lines of other acts have the tick count too
+block FREE_FAN
+tick 36000
+block {"Name":"A","Probe":"xyz.openbmc_project.FruDevice({})"}
+plug 1 80 $
+tick 1
+unplug 1 80
+-> Done
+0 new board "Fans" 1
 0 new fan "F"
 1 duty fan "F" 100.000
 36000 new board "A" 1 at 1 80
 36001 gone board "A" 1 at 1 80
-"#,
-    ),
-    // a fan that no controller holds has its full duty
-    (
-        &[Config(FREE_FAN), Text("show zones\ntick 2\nshow zones\n")],
-        Done,
-        r#"0 new board "Fans" 1
+== a fan that no controller holds has its full duty
+block FREE_FAN
+show zones
+tick 2
+show zones
+-> Done
+0 new board "Fans" 1
 0 new fan "F"
 fan "F" none
 1 duty fan "F" 100.000
 fan "F" 100.000
-"#,
-    ),
-    // no ticks, too many, and lines that do not say how many
-    (
-        &[Text(
-            "tick 0\ntick 36001\ntick 999999999\ntick 000036000\ntick\ntick 1 1\ntick -1\ntick 1000000000\ntick x\n",
-        )],
-        Refused,
-        r#"line 1 refused TickLimit
+== no ticks, too many, and lines that do not say how many
+tick 0
+tick 36001
+tick 999999999
+tick 000036000
+tick
+tick 1 1
+tick -1
+tick 1000000000
+tick x
+-> Refused
+line 1 refused TickLimit
 line 2 refused TickLimit
 line 3 refused TickLimit
 line 5 refused BadArguments
@@ -113,8 +114,10 @@ line 6 refused BadArguments
 line 7 refused BadArguments
 line 8 refused BadArguments
 line 9 refused BadArguments
-"#,
-    ),
+"#;
+
+// More of them, which are made of parts.
+const TICKS_BY_PARTS: &[Row] = &[
     // a line of each refusal
     (
         &[
@@ -245,9 +248,17 @@ fru 2 89 BOARD_MANUFACTURER="ACM" BOARD_PRODUCT_NAME="RSR2" BOARD_SERIAL_NUMBER=
 "#,
 )];
 
+// Documents by their names.
+const SHAPES: &[Shape] = &[
+    ("BOX", BOX, ""),
+    ("BOX_15", BOX_15, ""),
+    ("FREE_FAN", FREE_FAN, ""),
+];
+
 #[test]
 fn ticks(rt: HostRuntime) -> Result<(), Fail> {
-    play_rows(&rt, rt.alloc(), TICKS)
+    play_cases(&rt, rt.alloc(), TICKS, SHAPES)?;
+    play_rows(&rt, rt.alloc(), TICKS_BY_PARTS)
 }
 
 #[test]
