@@ -40,10 +40,36 @@ def program():
     return path
 
 
-def play(path, script, seconds=60):
-    """What the program prints for a script, and its status; below 0 it is the number of a signal."""
+# The statuses, and what standard error has, by the status.
+DONE, REFUSED, USED_WRONG, OUT_OF_MEMORY, READ_FAULT, WRITE_FAULT, TOO_LONG = range(7)
+SAID = {
+    DONE: b"",
+    REFUSED: b"",
+    USED_WRONG: b"",
+    OUT_OF_MEMORY: b"bmcreplay: out of memory\n",
+    READ_FAULT: b"bmcreplay: the input or a file could not be read\n",
+    WRITE_FAULT: b"bmcreplay: the output could not be written\n",
+    TOO_LONG: b"bmcreplay: the input has at least 1,099,511,627,776 bytes\n",
+}
+
+
+def ended(path, words=(), stdout=subprocess.DEVNULL, **said):
+    """The status of a run, and what it wrote to standard error."""
+    run = subprocess.run([path, *words], stdout=stdout, stderr=subprocess.PIPE, timeout=60, **said)
+    return run.returncode, run.stderr
+
+
+def expect(what, found, wanted):
+    """Compares the status of a run, and what it wrote to standard error."""
+    if found != (wanted, SAID[wanted]):
+        fail(f"{what}: status {found[0]} and {found[1]!r} on standard error, not status {wanted} and {SAID[wanted]!r}")
+
+
+def play(path, script, words=(), folder=None, seconds=60):
+    """What the program prints for a script and these words, in this folder, and its status; below 0 it is the number of
+    a signal."""
     try:
-        run = subprocess.run([path], input=script, capture_output=True, timeout=seconds)
+        run = subprocess.run([path, *words], input=script, capture_output=True, timeout=seconds, cwd=folder)
     except subprocess.TimeoutExpired:
         fail(f"the program has not ended within {seconds} seconds")
     if run.stderr:
@@ -51,12 +77,12 @@ def play(path, script, seconds=60):
     return run.stdout, run.returncode
 
 
-def play_pieces(path, script, size):
-    """What the program prints for pieces of this size. Over this kind of socket each piece that is sent
-    is a read of its own, which a pipe does not promise."""
+def play_pieces(path, script, size, words=(), folder=None):
+    """What the program prints for pieces of this size, and these words. Over this kind of socket each piece that is
+    sent is a read of its own, which a pipe does not promise."""
     here, there = socket.socketpair(socket.AF_UNIX, socket.SOCK_SEQPACKET)
     here.settimeout(60)
-    with subprocess.Popen([path], stdin=there, stdout=subprocess.PIPE) as run, here:
+    with subprocess.Popen([path, *words], stdin=there, stdout=subprocess.PIPE, cwd=folder) as run, here:
         there.close()
         os.set_blocking(run.stdout.fileno(), False)
         printed = b""
@@ -67,6 +93,24 @@ def play_pieces(path, script, size):
         os.set_blocking(run.stdout.fileno(), True)
         printed += run.stdout.read()
     return printed, run.returncode
+
+
+def example(folder):
+    """The script of an example, and its words, with spaces between them."""
+    with open(f"{folder}/script", "rb") as it:
+        script = it.read()
+    if not os.path.exists(f"{folder}/words"):
+        return script, []
+    with open(f"{folder}/words", "rb") as it:
+        return script, it.read().split()
+
+
+def lay(files, folder):
+    """Puts files with this content into a folder, each under its name."""
+    os.makedirs(folder, exist_ok=True)
+    for name, data in files.items():
+        with open(os.path.join(os.fsencode(folder), name), "wb") as it:
+            it.write(data)
 
 
 def first_difference(printed, wanted):

@@ -1,6 +1,7 @@
 #!/usr/bin/env python3
-"""The machine once more, written from docs/FORMATS.md and docs/RECORDS.md alone: model.py < SCRIPT prints
-what bmcreplay has to print, and ends with its status. The checks compare the program with it."""
+"""The machine once more, written from docs/FORMATS.md and docs/RECORDS.md alone: model.py [WORD].. < SCRIPT
+prints what bmcreplay has to print for these words, and ends with its status. The checks compare the program
+with it."""
 
 import datetime
 import json
@@ -12,7 +13,10 @@ from collections import namedtuple
 
 sys.path.insert(0, os.path.dirname(os.path.realpath(__file__)))
 import patterns
+import sample
 import zones
+from eventlog import DEFAULT_CAP, Log
+from words import USAGE, Refused, settings_of
 
 LONGEST = 9000
 LONGEST_BLOCK = 262_144
@@ -28,7 +32,7 @@ UNPLUG = re.compile(rb"unplug ([0-9]{1,9}) ([0-9]{1,9})")
 READ = re.compile(rb"read (.*) (-?[0-9]{1,18})", re.S)
 LOSE = re.compile(rb"lose (.*)", re.S)
 TICK = re.compile(rb"tick ([0-9]{1,9})")
-SHOW = re.compile(rb"show (frus|inventory|sensors|zones|indexes)")
+SHOW = re.compile(rb"show (frus|inventory|sensors|zones|log|indexes)")
 HEX = re.compile(rb"(?:[0-9A-Fa-f]{2})+")
 BOARD_NAMES = "MANUFACTURER PRODUCT_NAME SERIAL_NUMBER PART_NUMBER FRU_VERSION_ID".split()
 PRODUCT_NAMES = "MANUFACTURER PRODUCT_NAME PART_NUMBER VERSION SERIAL_NUMBER ASSET_TAG FRU_VERSION_ID".split()
@@ -94,13 +98,15 @@ class Machine:
     """What stands: the FRUs that are present by place, the configurations, and whether a FRU was plugged. For each
     configuration the places at which each of its patterns matches, the buses to which its channels lead from a place,
     and the indexes of all boards it ever had, by place. The boards, the live items, what each live sensor and each live
-    zone shows, what each live controller keeps, the duty of each live fan, and how many ticks there were."""
+    zone shows, what each live controller keeps, the duty of each live fan, and how many ticks there were. Whether there
+    is strict mode, and the log."""
 
-    def __init__(self):
+    def __init__(self, strict, log_cap):
         self.present, self.configs, self.plugged = {}, [], False
         self.matched, self.led, self.had = [], [], []
         self.boards, self.live, self.sensors = [], [], {}
         self.zones, self.controllers, self.duties, self.ticks = {}, {}, {}, 0
+        self.strict, self.log = strict, Log(log_cap)
 
 
 class Sensor:
@@ -573,7 +579,11 @@ def config(size, block, machine):
     """Adds the configuration of a block that should have this size, and gives what is printed."""
     demand("ConfigTooLong", size <= LONGEST_BLOCK)
     demand("ConfigShort", len(block) == size)
-    found = config_of(block)
+    return add(config_of(block), machine)
+
+
+def add(found, machine):
+    """Adds a configuration, and gives what is printed."""
     demand("ConfigAfterPlug", not machine.plugged)
     demand("DuplicateName", found.name not in [it.name for it in machine.configs])
     demand("ConfigLimit", len(machine.configs) < MOST_CONFIGS)
@@ -613,11 +623,20 @@ def match(place, fields, machine):
 
 
 def plug(bus, address, digits, machine):
-    """Puts the FRU with this record at a place, and gives what is printed."""
+    """A FRU appears: gives what is printed. One that is refused here joins the log."""
     place = place_of(bus, address)
     demand("BadHex", HEX.fullmatch(digits))
+    try:
+        return put(place, bytes.fromhex(digits.decode()), machine)
+    except Broken as rule:
+        machine.log.add(machine.ticks, f"refused plug {place[0]} {place[1]} {rule}")
+        raise
+
+
+def put(place, record, machine):
+    """Puts the FRU with this record at a place, and gives what is printed. Nothing is left of one that is refused."""
     demand("Occupied", place not in machine.present)
-    fields = fields_of(bytes.fromhex(digits.decode()))
+    fields = fields_of(record)
     demand("FruLimit", len(machine.present) < MOST_FRUS)
     machine.present[place] = fields
     match(place, fields, machine)
@@ -776,7 +795,9 @@ def changed(boards, live, machine):
 
 
 def at_tick(changes, machine):
-    """The lines of these changes: before each stands how many ticks there were."""
+    """The lines of these changes: before each stands how many ticks there were. They join the log."""
+    for it in changes:
+        machine.log.add(machine.ticks, it)
     return [f"{machine.ticks} {it}" for it in changes]
 
 
@@ -842,7 +863,7 @@ def one_tick(machine):
     """A tick: gives the lines of zones that change their mode, and those of fans whose duty changes."""
     machine.ticks += 1
     good = {item.name: it.value for item, it in machine.sensors.items() if it.is_good(machine.ticks)}
-    modes, fans = zones.tick(good, machine.zones, machine.controllers, machine.duties)
+    modes, fans = zones.tick(good, machine.zones, machine.controllers, machine.duties, machine.strict)
     changes = [f"{mode_of(machine.zones[it])} zone {quoted(it.name)}" for it in modes]
     changes += [f"duty fan {quoted(it.name)} {value_text(machine.duties[it])}" for it in fans]
     return at_tick(changes, machine)
@@ -895,6 +916,8 @@ def show(topic, machine):
         return [sensor_row(item, sensor, machine) for item, sensor in machine.sensors.items()]
     if topic == b"zones":
         return zone_rows(machine)
+    if topic == b"log":
+        return machine.log.rows()
     if topic == b"indexes":
         ever = [(number, place) for number, had in enumerate(machine.had) for place in had]
         return [f"index {board_text(it, machine)}" for it in ever]
@@ -952,20 +975,72 @@ def items_of(script):
         yield line, size, block
 
 
-def replay(script):
-    """What is printed for a script, and the status."""
-    machine, printed, status = Machine(), [], 0
-    for number, (line, size, block) in enumerate(items_of(script), 1):
+def config_file(block, machine):
+    """Adds the configuration of a file, and gives what is printed."""
+    demand("ConfigTooLong", len(block) <= LONGEST_BLOCK)
+    return add(config_of(block), machine)
+
+
+def replay(script, files=(), strict=False, log_cap=DEFAULT_CAP):
+    """What is printed for a script behind these configuration files, and the status."""
+    printed, status, _ = job(script, files, strict, log_cap)
+    return printed, status
+
+
+def job(script, files, strict, log_cap):
+    """The same, and how many lines of the script there are and how many of them were refused."""
+    machine, printed, turns = Machine(strict, log_cap), [], []
+    turns += [(f"file {at}", config_file, it) for at, it in enumerate(files, 1)]
+    lines = [*items_of(script)]
+    turns += [(f"line {at}", answer, *it) for at, it in enumerate(lines, 1)]
+    refused = 0
+    for what, act, *words in turns:
         try:
-            printed += answer(line, size, block, machine)
+            printed += act(*words, machine)
         except Broken as rule:
-            printed.append(f"line {number} refused {rule}")
-            status = 1
+            printed.append(f"{what} refused {rule}")
+            refused += 1
     printed += show(b"frus", machine)
-    return "".join(it + "\n" for it in printed).encode(), status
+    return "".join(it + "\n" for it in printed).encode(), int(refused > 0), (len(lines), refused)
+
+
+def read_file(name):
+    """The bytes of a file, as far as they are looked at."""
+    with open(name, "rb") as it:
+        return it.read(LONGEST_BLOCK + 1)
+
+
+def sampled(settings):
+    """The line of a sample, and the status."""
+    printed, status, counts = job(sample.script(settings.sample), (), settings.strict, settings.log_cap)
+    line = "sample %d lines %d refused %d bytes %d\n" % (settings.sample, *counts, len(printed))
+    return line.encode(), status
+
+
+def run(words, script, read=read_file):
+    """What is printed for these words and this script, and the status. The first file that cannot be read ends the
+    run. Of those before it all is printed here, of which the program may print a front."""
+    try:
+        settings = settings_of(words)
+    except Refused:
+        return USAGE, 2
+    if settings.sample is not None:
+        return sampled(settings)
+    files = []
+    for name in settings.files:
+        try:
+            files.append(read(name))
+        except OSError:
+            return front(files, settings), 4
+    return replay(script, files, settings.strict, settings.log_cap)
+
+
+def front(files, settings):
+    """What is printed of these files, where nothing comes behind them."""
+    return replay(b"", files, settings.strict, settings.log_cap)[0]
 
 
 if __name__ == "__main__":
-    printed, status = replay(sys.stdin.buffer.read())
+    printed, status = run([os.fsencode(it) for it in sys.argv[1:]], sys.stdin.buffer.read())
     sys.stdout.buffer.write(printed)
     sys.exit(status)

@@ -59,7 +59,14 @@ def set_points(zones, controllers, good):
         zone.setpoint = max(asked[item.name])
 
 
-def command(zones, controllers, good):
+def duty_of(output, zone, strict):
+    """The duty that a controller of fans commands by its output."""
+    if not zone.failsafe:
+        return output
+    return zone.failsafe_duty if strict else max(output, zone.failsafe_duty)
+
+
+def command(zones, controllers, good, strict):
     """Controllers of fans make a step, and each zone is in failsafe or not. Gives the duty of each name of a fan: the
     first controller holds it."""
     named, commanded = {item.name: zone for item, zone in zones.items()}, {}
@@ -70,17 +77,16 @@ def command(zones, controllers, good):
     for item, it in ((item, it) for item, it in controllers.items() if it.kind == "fan"):
         zone = named[item.zone]
         it.step(min((it for it in values_of(item.inputs, good) if it > 0), default=0), zone.setpoint)
-        duty = max(it.state.output, zone.failsafe_duty) if zone.failsafe else it.state.output
         for name in item.outputs:
-            commanded.setdefault(name, duty)
+            commanded.setdefault(name, duty_of(it.state.output, zone, strict))
     return commanded
 
 
-def tick(good, zones, controllers, duties):
+def tick(good, zones, controllers, duties, strict):
     """A tick, where the sensors of these names have good values. Gives the zones that change their mode, and the fans
     whose duty changes."""
     modes, before = {item: zone.failsafe for item, zone in zones.items()}, dict(duties)
     set_points(zones, controllers, good)
-    commanded = command(zones, controllers, good)
+    commanded = command(zones, controllers, good, strict)
     duties.update({item: commanded.get(item.name, FULL_DUTY) for item in duties})
     return [it for it in zones if zones[it].failsafe != modes[it]], [it for it in duties if duties[it] != before[it]]
