@@ -23,6 +23,7 @@ pub mod NewSound
 pub mod SetView
 pub mod Sitting
 pub mod SetMeaning
+pub mod Clearing
 pub mod OwnBoxes
 pub mod SettingsLaw
 pub mod MachineLemmas

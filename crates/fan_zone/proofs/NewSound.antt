@@ -16,7 +16,8 @@ use Rattle.ctl_face.specs.declared.setting.Setting.{Setting}
 use Rattle.ctl_face.specs.declared.setting.Setting.TheVariants.{Pid}
 use Rattle.ctl_face.specs.Ranges.{IsMilli, IsValid}
 use Rattle.ctl_face.specs.Kinds.{kind_of}
-use Rattle.ctl_face.specs.Seen.{Seen}
+use Rattle.ctl_face.specs.Seen.{Seen, unloaded}
+use Rattle.fan_zone.specs.Boxes.{box_at}
 use Rattle.cfg_json.specs.declared.item.ItemId.{ItemId}
 use Rattle.cfg_json.specs.declared.item.Item.{Item}
 use Rattle.fan_zone.specs.Live.{LiveControl, id_eq, id_of, controls, LiveZone, zones, fans}
@@ -30,8 +31,8 @@ use Rattle.fan_zone.specs.Ticks.{ZonesView}
 use Rattle.fan_zone.specs.Sets.{Seating, role_of, role_of_class, zone_from, zone_of, held_of, free, kept_seat, seated, seated_free, seat_next, seat_all}
 use Rattle.fan_zone.specs.SetRows.{plan_of, zone_row_of, kept_zone, find_zone, fan_plan_of, fan_row_of}
 use Rattle.fan_zone.specs.Settings.{CanSet, HasZone, before, set_to, zone_rows_of}
-use Rattle.fan_zone.specs.IsSets.{Paired, Sits}
-use Rattle.fan_zone.specs.Sound.{IsSound, HasSmallSetpoint, held_id, zone_plan_id, fan_plan_id}
+use Rattle.fan_zone.specs.IsSets.{IsSet, Paired, Sits}
+use Rattle.fan_zone.specs.Sound.{AreSpare, IsSound, HasSmallSetpoint, number_of, held_id, zone_plan_id, fan_plan_id}
 use Rattle.fan_zone.proofs.Numbered.{all_tail, all_push, all_map}
 use Rattle.fan_zone.proofs.SeatLoop.{roomy_end}
 use Rattle.fan_zone.proofs.SetLaw.{roomy_start}
@@ -112,6 +113,12 @@ ids_paired rows sensors old start bank (c ∷ cs) (h ∷ hs) sit =
     ap (λ (id : ItemId). id ∷ map held_id hs) one
     ∙ ap (λ (l : List ItemId). c.id ∷ l) (ids_paired rows sensors old start bank cs hs sit.1)
 
+-- a box of no controller is unloaded, of the kind that it was
+spare_after : {live : List Item} {sensors : LiveSensors} (old new : ZonesView) → IsSet old live sensors new → AreSpare new.bank (map number_of new.held)
+spare_after old new set number not =
+    let is : box_at new.bank number ≡ unloaded (box_at old.bank number).kind = set.others number not in
+    is ∙ ap unloaded (sym (ap (λ (b : Seen). b.kind) is))
+
 pub set_sound : (live : List Item) (sensors : LiveSensors) (old : ZonesView) → IsSound old → CanSet old live → IsSound (set_to live sensors old)
 set_sound live sensors old s can =
     let cs = controls live in
@@ -126,6 +133,7 @@ set_sound live sensors old s can =
       setpoints = all_seated rows sensors old.held HasSmallSetpoint start cs
           (λ k d lt seat. setpoint_small (slice_index_or cs k d).item.setting (can.valid k d lt).setting) (λ k d lt. absurd (omega arith));
       apart = apart_set live sensors old s can;
+      spare = spare_after old new (set_means live sensors old s can);
       zones = all_seated rows sensors old.held (λ (h : Held). h.zone < length rows) start cs
           (λ k d lt seat. in_zone old live (slice_index_or cs k d) (can.placed k d lt)) (λ k d lt. absurd (omega arith));
       plans = length-map (zones live) plan_of ∙ sym (length-map (zones live) (zone_row_of old.zone_plans old.zone_rows));

@@ -14,7 +14,7 @@ use Rattle.fan_zone.specs.declared.held.Held.{Held}
 use Rattle.sensor_core.specs.Sensors.{Sensor}
 use Rattle.fan_zone.specs.Passes.{pass, step_box, thermal_sample, fan_sample}
 use Rattle.fan_zone.specs.Sets.{is_taken}
-use Rattle.fan_zone.specs.Sound.{IsSound, Differ}
+use Rattle.fan_zone.specs.Sound.{AreSpare, IsSound, Differ}
 use Rattle.fan_zone.specs.Ticks.{ZonesView, ticked, thermal_bank, zone_rows_after}
 use Rattle.fan_zone.specs.IsTicks.{stepped_by, StepsOwnBoxes}
 use Rattle.fan_zone.proofs.Numbered.{all_tail}
@@ -94,3 +94,8 @@ ticked_own slots now strict old s =
       kinds = kinds_pass fan old.held bank ∙ kinds_pass thermal old.held old.bank;
       others = λ number not. pass_other fan old.held bank number not ∙ pass_other thermal old.held old.bank number not;
     }
+
+-- a pass leaves the boxes of no controller unloaded
+pub spare_pass : (f : Held → Option Sample) (held : List Held) (bank : List Seen) → AreSpare bank (numbers held) → AreSpare (pass f held bank) (numbers held)
+spare_pass f held bank spare number not =
+    subst (λ (b : Seen). b ≡ unloaded b.kind) (sym (pass_other f held bank number not)) (spare number not)

@@ -13,7 +13,7 @@ use Rattle.fan_zone.specs.declared.held.Held.{Held}
 use Rattle.fan_zone.specs.declared.rows.ZoneRow.{ZoneRow}
 use Rattle.fan_zone.specs.declared.rows.FanRow.{FanRow}
 use Rattle.fan_zone.specs.Ticks.{ZonesView, aged}
-use Rattle.fan_zone.specs.Sound.{IsSound, IsSeated, AreSeated, AreSmall, AreInZones, HasSmallSetpoint, IsTyped, Differ, number_of, held_id}
+use Rattle.fan_zone.specs.Sound.{IsSound, IsSeated, AreSeated, AreSmall, AreInZones, HasSmallSetpoint, AreSpare, IsTyped, Differ, number_of, held_id}
 use Rattle.fan_zone.proofs.Numbered.{all_map, all_set, all_tail}
 
 in_zones_still : (rows next : List ZoneRow) (held : List Held) → length next ≡ length rows → AreInZones rows held → AreInZones next held
@@ -31,14 +31,15 @@ seated_aged : (bank : List Seen) (held : List Held) → AreSeated bank held → 
 seated_aged bank held seats = all_map aged (IsSeated bank) held (λ k d lt. let s = seats k d lt in record { within = s.within; loaded = s.loaded })
 
 pub sound_aged : (old : ZonesView) (bank : List Seen) (rows : List ZoneRow) (fans : List FanRow) → IsSound old → AreSeated bank old.held → AreSmall bank
-    → All IsTyped bank → length rows ≡ length old.zone_rows → length fans ≡ length old.fan_rows
+    → All IsTyped bank → AreSpare bank (map number_of old.held) → length rows ≡ length old.zone_rows → length fans ≡ length old.fan_rows
     → IsSound (record { bank = bank; held = map aged old.held; zone_plans = old.zone_plans; zone_rows = rows; fan_plans = old.fan_plans; fan_rows = fans })
-sound_aged old bank rows fans s seats small typed zones fan = record {
+sound_aged old bank rows fans s seats small typed spare zones fan = record {
   seats = seated_aged bank old.held seats;
   outputs = small;
   typed = typed;
   setpoints = all_map aged HasSmallSetpoint old.held s.setpoints;
   apart = subst Differ (sym (numbers_aged old.held)) s.apart;
+  spare = subst (AreSpare bank) (sym (numbers_aged old.held)) spare;
   zones = all_map aged (λ (h : Held). h.zone < length rows) old.held (in_zones_still old.zone_rows rows old.held zones s.zones);
   plans = s.plans ∙ sym zones;
   lows = s.lows;

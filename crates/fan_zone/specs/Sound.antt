@@ -4,7 +4,7 @@ use Rattle.fan_zone.specs.Sets.{is_taken}
 use Rattle.std.specs.List.{All, IsDistinct}
 use Rattle.std.specs.Option.{ForSome}
 use Rattle.ctl_face.specs.Ranges.{IsMilli}
-use Rattle.ctl_face.specs.Seen.{Seen}
+use Rattle.ctl_face.specs.Seen.{Seen, unloaded}
 use Rattle.ctl_face.specs.Kinds.{kind_of}
 use Rattle.fan_zone.specs.Boxes.{box_at}
 use Rattle.fan_zone.specs.declared.held.Held.{Held}
@@ -52,6 +52,10 @@ abbrev pub Differ : List ℕ → Type 0
 Differ [] = Unit {0}
 Differ (number ∷ more) = (is_taken more number ≡ false) × Differ more
 
+-- each box that has none of these numbers is unloaded
+abbrev pub AreSpare : List Seen → List ℕ → Type 0
+AreSpare bank numbers = (number : ℕ) → is_taken numbers number ≡ false → box_at bank number ≡ unloaded (box_at bank number).kind
+
 -- no id twice
 abbrev pub HaveOwnIds : {A : Type 0} → (A → ItemId) → List A → Type 0
 HaveOwnIds id_in list = IsDistinct id_eq (map id_in list)
@@ -78,6 +82,7 @@ pub record IsSound (view : ZonesView) : Type 0 where
   pub typed : All IsTyped view.bank
   pub setpoints : All HasSmallSetpoint view.held
   pub apart : Differ (map number_of view.held)
+  pub spare : AreSpare view.bank (map number_of view.held)
   pub zones : AreInZones view.zone_rows view.held
   pub plans : length view.zone_plans ≡ length view.zone_rows
   pub lows : AreSmallPlans view.zone_plans

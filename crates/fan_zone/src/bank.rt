@@ -4,8 +4,9 @@ ghost use Rattle.ctl_face.specs.Seen.{Seen, loaded, stepped, unloaded};
 ghost use Rattle.ctl_face.specs.Kinds.{kind_of};
 ghost use Rattle.fan_zone.specs.Boxes.{box_at};
 ghost use Rattle.fan_zone.specs.Sets.{cleared, cleared_box, free, is_taken};
-ghost use Rattle.fan_zone.specs.Sound.{HasSmallOutput};
+ghost use Rattle.fan_zone.specs.Sound.{AreSeated, AreSpare, HasSmallOutput, number_of};
 
+use crate::held::Held;
 use ctl_face::{Controller, Kind, Sample, Setting};
 use std::marker::Model;
 
@@ -97,12 +98,14 @@ impl<C: Controller> Bank<C> {
         }
     }
 
-    /// Unloads each box that is not taken.
-    pub(crate) fn clear_others(&mut self, taken: &[usize])
+    /// Unloads the boxes of the controllers that were held, where they are not taken. The others are not loaded.
+    pub(crate) fn clear_gone(&mut self, held: &[Held], taken: &[usize])
+        requires seats { AreSeated self.old held.now }
+        requires spare { AreSpare self.old (map number_of held.now) }
         ensures { self.new ≡ cleared taken.now self.old }
     {
-        for number in 0..self.len() {
-            self.clear_unless_taken(number, taken);
+        for one in held {
+            self.clear_unless_taken(one.number, taken);
         }
     }
 

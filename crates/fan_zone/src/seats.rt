@@ -1,6 +1,6 @@
 ghost use Rattle.fan_zone.specs.Live.{LiveControl, controls, items_of};
 ghost use Rattle.fan_zone.specs.Settings.{before};
-ghost use Rattle.std.specs.Prelude.{◌≡◌, ◌+◌, ◌≤◌, ◌<◌, ◌++◌, [], ◌∷◌, None, Some, IsSome, length, slice_set, count_by};
+ghost use Rattle.std.specs.Prelude.{◌≡◌, ◌+◌, ◌≤◌, ◌<◌, ◌++◌, [], ◌∷◌, None, Some, IsSome, length, map, slice_set, count_by};
 ghost use Rattle.std.specs.List.{All, fold};
 ghost use Rattle.std.specs.Vec.{vec_capacity, vec_len};
 ghost use Rattle.ctl_face.specs.Ranges.{IsValid};
@@ -8,7 +8,7 @@ ghost use Rattle.ctl_face.specs.Seen.{loaded};
 ghost use Rattle.ctl_face.specs.Kinds.{kind_of};
 ghost use Rattle.fan_zone.specs.Boxes.{box_at};
 ghost use Rattle.fan_zone.specs.Sets.{seating, free, held_of, kept_numbers, kept_seat, seat_all, seat_next};
-ghost use Rattle.fan_zone.specs.Sound.{HaveOwnIds, held_id};
+ghost use Rattle.fan_zone.specs.Sound.{AreSeated, AreSpare, HaveOwnIds, held_id, number_of};
 ghost use Rattle.fan_zone.specs.Seats.{is_new, IsReady, IsRoomy};
 
 use crate::bank::Bank;
@@ -193,6 +193,8 @@ pub(crate) fn renew_seats<C: Controller>(
     requires next_room { length (controls (items_of live.now)) ≤ vec_capacity next.old }
     requires roomy { IsRoomy held.old.items (before held.old.items bank.old (items_of live.now)) (controls (items_of live.now)) }
     requires ids { HaveOwnIds held_id held.old.items }
+    requires seats { AreSeated bank.old held.old.items }
+    requires spare { AreSpare bank.old (map number_of held.old.items) }
     ensures bank { bank.new
         ≡ (seat_all rows.now sensors.now held.old.items (before held.old.items bank.old (items_of live.now)) (controls (items_of live.now))).bank }
     ensures held { held.new.items
@@ -204,7 +206,7 @@ pub(crate) fn renew_seats<C: Controller>(
     ensures held_room { vec_capacity next.old ≤ vec_capacity held.new }
 {
     keep_all(taken, held, live);
-    bank.clear_others(taken);
+    bank.clear_gone(held, taken);
     seat_live(bank, taken, next, held, rows, sensors, live);
     trade(held, next);
     taken.clear();

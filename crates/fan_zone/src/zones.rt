@@ -71,7 +71,7 @@ impl<C: Controller> Model for Zones<C> {
 impl<C: Controller> Zones<C> {
     /// Returns no zones, over a bank of boxes that are not loaded. All memory that is ever needed is taken here: for as many
     /// controllers as there are boxes, for 32 zones and for 128 fans.
-    #[tactic(auto, using(crate::proofs::FindRows::none_alike))]
+    #[tactic(auto, using(crate::proofs::Clearing::all_spare, crate::proofs::FindRows::none_alike))]
     pub fn new(alloc: Global, bank: Vec<C>) -> Result<Zones<C>, OutOfMemory>
         requires { All (λ seen. seen ≡ unloaded seen.kind) (map C.seen bank.items) }
         ensures { IfOk result (λ zones. zones ≡ no_zones (map C.seen bank.items)) }

@@ -13,5 +13,5 @@ seat_live-requires-clause-taken g c =
     let cs = controls (items_of c.args.live.now) in
     let e : c.keep_all.new.taken.items ≡ kept_numbers old cs = c.keep_all.ensures.items
     ∙ ap (λ (l : List ℕ). l ++ kept_numbers old cs) c.requires.taken_empty in
-    let same = ap (λ (held : List Held). count_by (is_new held) cs) (c.deref-3.ensures.value ∙ sym c.deref.ensures.value) in
+    let same = ap (λ (held : List Held). count_by (is_new held) cs) (c.deref-4.ensures.value ∙ sym c.deref.ensures.value) in
     omega (arith, same, ap length e, kept_or_new old cs, c.requires.taken_room, c.keep_all.ensures.room)

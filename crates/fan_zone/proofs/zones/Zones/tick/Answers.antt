@@ -3,16 +3,16 @@ use Rattle.std.specs.Vec.{with_items}
 use Rattle.std.proofs.lemmas.List.{with_items_is}
 use Rattle.fan_zone.specs.Ticks.{ZonesView, ticked, aged}
 use Rattle.fan_zone.specs.Failsafe.{IsFailsafe}
-use Rattle.fan_zone.specs.Sound.{IsSound, AreSeated, IsTyped, HasSmallSetpoint, AreSmallRows}
+use Rattle.fan_zone.specs.Sound.{AreSpare, IsSound, AreSeated, number_of, IsTyped, HasSmallSetpoint, AreSmallRows}
 use Rattle.fan_zone.specs.declared.rows.ZoneRow.{ZoneRow}
 use Rattle.fan_zone.specs.declared.held.Held.{Held}
 use Rattle.fan_zone.specs.IsTicks.{StepsOwnBoxes}
-use Rattle.fan_zone.proofs.OwnBoxes.{ticked_own}
+use Rattle.fan_zone.proofs.OwnBoxes.{spare_pass, ticked_own}
 use Rattle.fan_zone.proofs.TickLaw.{Calls, calls_tick}
 use Rattle.fan_zone.proofs.SoundLaw.{sound_aged, typed_pass, length-pass}
 use Rattle.std.specs.List.{All}
 use Rattle.ctl_face.specs.Seen.{Seen}
-use Rattle.fan_zone.specs.Passes.{thermal_sample, fan_sample}
+use Rattle.fan_zone.specs.Passes.{pass, thermal_sample, fan_sample}
 use Rattle.fan_zone.proofs.FailsafeLaw.{ticked_failsafe}
 use Rattle.fan_zone.proofs.zones.Zones.tick.Goals as goal
 
@@ -102,6 +102,14 @@ invariant_of-self g c =
     (typed_pass (thermal_sample c.args.sensors.now.slots c.args.now) c.deref.result.now i.bank c.self.invariant.0.typed) in
     let typed : All IsTyped c.step_fans.new.bank = subst (λ (b : List Seen). All IsTyped b) (sym c.step_fans.ensures.state)
     (typed_pass (fan_sample c.args.sensors.now.slots c.args.now c.deref-5.result.now) c.deref-4.result.now c.step_thermals.new.bank typed_thermal) in
+    let thermal_pass : c.step_thermals.new.bank ≡ pass (thermal_sample c.args.sensors.now.slots c.args.now) old.held i.bank =
+    cc (c.step_thermals.ensures.state, c.deref.ensures.value) in
+    let fan_pass : c.step_fans.new.bank ≡ pass (fan_sample c.args.sensors.now.slots c.args.now c.deref-5.result.now) old.held c.step_thermals.new.bank =
+    cc (c.step_fans.ensures.state, c.deref-4.ensures.value) in
+    let spare_thermal : AreSpare c.step_thermals.new.bank (map number_of old.held) = subst (λ (b : List Seen). AreSpare b (map number_of old.held))
+    (sym thermal_pass) (spare_pass (thermal_sample c.args.sensors.now.slots c.args.now) old.held i.bank c.self.invariant.0.spare) in
+    let spare : AreSpare c.step_fans.new.bank (map number_of old.held) = subst (λ (b : List Seen). AreSpare b (map number_of old.held)) (sym fan_pass)
+    (spare_pass (fan_sample c.args.sensors.now.slots c.args.now c.deref-5.result.now) old.held c.step_thermals.new.bank spare_thermal) in
     let family = λ (h : List Held). IsSound (record {
       bank = c.step_fans.new.bank;
       held = h;
@@ -111,7 +119,7 @@ invariant_of-self g c =
           old.fan_plans;
       fan_rows = fans;
     }) in
-    let sound = subst family (sym ages) (sound_aged old c.step_fans.new.bank rows fans c.self.invariant.0 seats c.step_fans.ensures.small typed zones fan) in
+    let sound = subst family (sym ages) (sound_aged old c.step_fans.new.bank rows fans c.self.invariant.0 seats c.step_fans.ensures.small typed spare zones fan) in
     let boxes : length c.step_fans.new.bank ≡ length i.bank =
     ap length c.step_fans.ensures.state ∙ (length-pass (fan_sample c.args.sensors.now.slots c.args.now c.deref-5.result.now) c.deref-4.result.now
     c.step_thermals.new.bank
