@@ -1,5 +1,6 @@
 -- Names and their slots, where the sensor in one slot changes, goes or comes.
-use Rattle.std.proofs.Common.{◌≡◌, ◌≢◌, ◌∙◌, ℕ, nat_eq, bytes_eq, Bool, true, false, cond, List, Option, Some, None, IsSome, IfSome, option_map, slice_index_or}
+use Rattle.std.proofs.Common.{◌≡◌, ◌≢◌, ◌∙◌, ℕ, nat_eq, bytes_eq, Bool, true, false, cond, List}
+use Rattle.std.proofs.Common.{Option, Some, None, IsSome, IfSome, option_map, slice_index_or}
 use Rattle.std.proofs.Common.{Result, Ok, Err, OnOk, refl, sym, ap, subst, true≢false}
 use Rattle.std.specs.Prelude.{option_and_then}
 use Rattle.std.specs.Option.{is_some}
@@ -192,3 +193,11 @@ module _ (names names' : List (List ℕ × ℕ)) (slots slots' : List (Option Se
         (λ filled. record { name = name; has = up name ∙ has_slot (bytes_eq name name) refl })
         (λ its differs filled. keeps_its_name its (tied.named its (subst IsSome (others its differs) filled)));
   }
+
+-- ---- the slots of other names
+
+-- where one name changes, each other name keeps its slot
+pub other_keeps : (names names' : List (List ℕ × ℕ)) (name other : List ℕ) (found : Option ℕ)
+    → lookup (bytes_eq other) names' ≡ cond (bytes_eq name other) found (lookup (bytes_eq other) names) → bytes_eq name other ≡ false
+    → lookup (bytes_eq other) names' ≡ lookup (bytes_eq other) names
+other_keeps names names' name other found is differ = is ∙ ap (λ (same : Bool). cond same found (lookup (bytes_eq other) names)) differ

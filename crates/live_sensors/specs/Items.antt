@@ -1,5 +1,6 @@
 -- The sensors of items that come and go.
-use Rattle.std.specs.Prelude.{ℕ, ◌&&◌, if◌then◌else◌, bytes_eq, List, [], ◌∷◌, Option, Some, None, option_map}
+use Rattle.std.specs.Prelude.{ℕ, Bool, ◌&&◌, if◌then◌else◌, bytes_eq, List, [], ◌∷◌, Option, Some, None, option_map}
+use Rattle.std.specs.List.{list_any}
 use Rattle.std.specs.Option.{is_some, option_or}
 use Rattle.sensor_core.specs.declared.setting.SensorSetting.{SensorSetting}
 use Rattle.sensor_core.specs.Sensors.{Sensor, sensor_of}
@@ -16,9 +17,17 @@ setting_in (parts.Control control) = None
 setting_in (parts.Mux part) = None
 setting_in parts.Passive = None
 
+-- whether an item is a sensor of this name
+abbrev pub is_sensor : List ℕ → Item → Bool
+is_sensor name item = is_some (setting_in item.part) && bytes_eq item.name name
+
+-- whether one of some items is
+abbrev pub has_sensor : List ℕ → List Item → Bool
+has_sensor name items = list_any (is_sensor name) items
+
 -- the sensor of a name, after that of an item is dropped
 abbrev pub dropped_one : Item → List ℕ → Option Sensor → Option Sensor
-dropped_one item name sensor = if is_some (setting_in item.part) && bytes_eq item.name name then None else sensor
+dropped_one item name sensor = if is_sensor name item then None else sensor
 
 -- and after those of these items are dropped
 abbrev pub dropped : List Item → List ℕ → Option Sensor → Option Sensor

@@ -1,4 +1,4 @@
-ghost use Rattle.std.specs.Prelude.{◌≡◌, ◌<◌, ◌≤◌, ◌+◌, ◌↔◌, ℕ, bytes_eq, if◌then◌else◌, List, [], length, All};
+ghost use Rattle.std.specs.Prelude.{◌≡◌, ◌<◌, ◌≤◌, ◌+◌, ◌↔◌, ℕ, false, bytes_eq, if◌then◌else◌, List, [], length, All};
 ghost use Rattle.std.specs.Prelude.{None, Some, is_none, IfSome, IsOk, IfOk, OnOk, OnErr};
 ghost use Rattle.sensor_core.specs.Settings.{IsValidSetting, IsRaw};
 ghost use Rattle.sensor_core.specs.Sensors.{Good, Lost, sensor_of};
@@ -6,7 +6,7 @@ ghost use Rattle.sensor_core.specs.Updates.{good_after, lost_after, Takes};
 ghost use Rattle.cfg_json.specs.declared.item.Item.{Item};
 ghost use Rattle.live_sensors.specs.Sensors.{slot_of, sensor_in, ContainsSlot, AtSlot, Changes};
 ghost use Rattle.inventory.specs.Items.{IsValidPart, IsValidItem};
-ghost use Rattle.live_sensors.specs.Items.{setting_in, dropped_one, started_one, dropped, started, settled};
+ghost use Rattle.live_sensors.specs.Items.{setting_in, is_sensor, has_sensor, dropped_one, started_one, dropped, started, settled};
 
 use bmc_base::{Name, OutOfMemory};
 use cfg_json::{Item, ItemPart};
@@ -71,11 +71,13 @@ impl LiveSensors {
     }
 
     /// Drops the sensors of the items that are gone, and then starts a blank one for each new sensor
-    /// item. It takes no memory, since there is room.
+    /// item. The other sensors keep their slots. It takes no memory, since there is room.
     pub fn settle(&mut self, gone: &[Item], new: &[Item])
         requires room { length new.now ≤ self.old.room }
         requires valid { All IsValidItem new.now }
-        ensures { (name : List ℕ) → sensor_in self.new name ≡ settled gone.now new.now name (sensor_in self.old name) }
+        ensures slots { (name : List ℕ) → has_sensor name gone.now ≡ false → has_sensor name new.now ≡ false
+            → slot_of self.new name ≡ slot_of self.old name }
+        ensures sensors { (name : List ℕ) → sensor_in self.new name ≡ settled gone.now new.now name (sensor_in self.old name) }
     {
         self.drop_all(gone);
         self.start_all(new);
@@ -131,6 +133,7 @@ impl LiveSensors {
     // Drops the sensor of a name, if it has one.
     fn forget(&mut self, name: &Name)
         ensures sensors { (other : List ℕ) → sensor_in self.new other ≡ (if bytes_eq name.now other then None else sensor_in self.old other) }
+        ensures slots { (other : List ℕ) → bytes_eq name.now other ≡ false → slot_of self.new other ≡ slot_of self.old other }
         ensures room { self.old.room ≤ self.new.room }
     {
         if let Some(slot) = self.slots.swap_remove(name) {
@@ -145,6 +148,7 @@ impl LiveSensors {
         requires free { sensor_in self.old name ≡ None }
         ensures sensors { (other : List ℕ)
             → sensor_in self.new other ≡ (if bytes_eq name other then Some (sensor_of setting []) else sensor_in self.old other) }
+        ensures slots { (other : List ℕ) → bytes_eq name other ≡ false → slot_of self.new other ≡ slot_of self.old other }
         ensures room { self.old.room ≤ self.new.room + 1 }
     {
         let slot = self.table.put(Sensor::new(setting));
@@ -157,6 +161,7 @@ impl LiveSensors {
     // Drops the sensor of an item that is gone.
     fn drop_one(&mut self, item: &Item)
         ensures sensors { (name : List ℕ) → sensor_in self.new name ≡ dropped_one item.now name (sensor_in self.old name) }
+        ensures slots { (name : List ℕ) → is_sensor name item.now ≡ false → slot_of self.new name ≡ slot_of self.old name }
         ensures room { self.old.room ≤ self.new.room }
     {
         if setting_in(&item.part).is_some() {
@@ -169,6 +174,7 @@ impl LiveSensors {
         requires valid { IsValidPart item.now.part }
         requires room { 0 < self.old.room }
         ensures sensors { (name : List ℕ) → sensor_in self.new name ≡ started_one item.now name (sensor_in self.old name) }
+        ensures slots { (name : List ℕ) → is_sensor name item.now ≡ false → slot_of self.new name ≡ slot_of self.old name }
         ensures room { self.old.room ≤ self.new.room + 1 }
     {
         if let Some(setting) = setting_in(&item.part) {
@@ -180,6 +186,7 @@ impl LiveSensors {
     // Drops the sensors of the items that are gone.
     fn drop_all(&mut self, gone: &[Item])
         ensures sensors { (name : List ℕ) → sensor_in self.new name ≡ dropped gone.now name (sensor_in self.old name) }
+        ensures slots { (name : List ℕ) → has_sensor name gone.now ≡ false → slot_of self.new name ≡ slot_of self.old name }
         ensures room { self.old.room ≤ self.new.room }
     {
         for item in gone {
@@ -191,7 +198,8 @@ impl LiveSensors {
     fn start_all(&mut self, new: &[Item])
         requires room { length new.now ≤ self.old.room }
         requires valid { All IsValidItem new.now }
-        ensures { (name : List ℕ) → sensor_in self.new name ≡ started new.now name (sensor_in self.old name) }
+        ensures sensors { (name : List ℕ) → sensor_in self.new name ≡ started new.now name (sensor_in self.old name) }
+        ensures slots { (name : List ℕ) → has_sensor name new.now ≡ false → slot_of self.new name ≡ slot_of self.old name }
     {
         for item in new {
             self.start_one(item);

@@ -1,8 +1,8 @@
 use Rattle.std.proofs.Common.{◌≡◌, ◌∙◌, bytes_eq, cond, [], Some, None, ap}
 use Rattle.std.specs.Map.{lookup}
 use Rattle.sensor_core.specs.Sensors.{sensor_of}
-use Rattle.live_sensors.specs.Sensors.{LiveSensors, sensor_in}
-use Rattle.live_sensors.proofs.SlotsLemmas.{no_slot, come_shows, come_tied}
+use Rattle.live_sensors.specs.Sensors.{LiveSensors, sensor_in, slot_of}
+use Rattle.live_sensors.proofs.SlotsLemmas.{no_slot, come_shows, come_tied, other_keeps}
 use Rattle.live_sensors.proofs.sensors.LiveSensors.put.Goals as goal
 use Rattle.live_sensors.proofs.sensors.LiveSensors.put.Goals.{In-Ok}
 
@@ -22,3 +22,8 @@ returns-clause-sensors c other =
     come_shows _ _ _ _ _ _ _ c.self.invariant (nameless c) c.put-slot.ensures.free (c.put-slot.ensures.puts.changed ∙ ap Some c.new.ensures)
     c.put-slot.ensures.puts.others c.in-Ok.ensures.updates.0 other
     ∙ ap (λ (sensors : LiveSensors). cond (bytes_eq c.args.name other) (Some (sensor_of c.args.setting [])) (sensor_in sensors other)) c.self.view_is
+
+pub returns-clause-slots : goal.returns-clause-slots
+returns-clause-slots c other differ =
+    other_keeps _ _ c.args.name other _ (c.in-Ok.ensures.updates.0 other) differ
+    ∙ ap (λ (sensors : LiveSensors). slot_of sensors other) c.self.view_is
