@@ -20,6 +20,7 @@ pub mod ReadingLemmas
 pub mod SinceLemmas
 pub mod PartLemmas
 pub mod FoundLemmas
+pub mod StillLemmas
 pub mod WaitingLemmas
 pub mod LiveViewLemmas
 pub mod LiveItemLemmas

@@ -1,5 +1,8 @@
--- Steps that are no ticks. An idle one leaves zones, controllers and fans as they are, and no step but a tick changes what zones and fans show.
-use Rattle.std.proofs.Common.{◌≡◌, ℕ, ◌%◌, List, [], ◌∷◌, ◌++◌, map, Bool, true, false, cond, Option, Some, None, refl, sym, ap, ap₂, ◌∙◌, subst, flat_map}
+-- Steps that are no ticks. One that leaves the live items that act in zones, and the slots of their inputs, leaves zones, controllers and fans as they
+-- are; and no step but a tick changes what zones and fans show.
+use Rattle.std.proofs.Common.{◌≡◌, ℕ, ◌%◌, bytes_eq, List, [], ◌∷◌, ◌++◌, map, filter, Bool, true, false, cond, Option, Some, None, unwrap_or, refl, sym, ap, ap₂}
+use Rattle.std.proofs.Common.{◌∙◌, subst, flat_map}
+use Rattle.std.specs.Map.{lookup}
 use Rattle.std.specs.List.{AllByRecursion}
 use Rattle.std.proofs.Math.Bool.{beq}
 use Rattle.std.proofs.lemmas.Cmp.{int_eq_equiv}
@@ -9,13 +12,13 @@ use Rattle.bmc_report.specs.declared.change.Change.TheVariants.{Zone, Duty}
 use Rattle.ctl_face.specs.Kinds.{kind_of}
 use Rattle.ctl_face.specs.declared.state.CtlState.{CtlState}
 use Rattle.cfg_json.specs.declared.item.Item.{Item}
-use Rattle.live_sensors.specs.Sensors.{LiveSensors}
+use Rattle.live_sensors.specs.Sensors.{LiveSensors, slot_of}
 use Rattle.fan_zone.specs.declared.held.Held.{Held}
 use Rattle.fan_zone.specs.declared.rows.ZoneRow.{ZoneRow}
 use Rattle.fan_zone.specs.declared.rows.FanRow.{FanRow}
 use Rattle.fan_zone.specs.IsSets.{Paired}
-use Rattle.fan_zone.specs.Live.{LiveControl, LiveZone, LiveFan, controls, zones, fans}
-use Rattle.fan_zone.specs.Sets.{held_of, seat_of}
+use Rattle.fan_zone.specs.Live.{LiveControl, LiveZone, LiveFan, acts, controls, zones, fans}
+use Rattle.fan_zone.specs.Sets.{held_of, role_of, seat_of, zone_of}
 use Rattle.fan_zone.specs.SetRows.{fan_plan_of, plan_of}
 use Rattle.fan_zone.specs.Ticks.{ZonesView}
 use Rattle.bmc_machine.specs.Histories.{Step, is_idle_step, is_tick}
@@ -24,9 +27,11 @@ use Rattle.bmc_machine.specs.Lives.{has_id}
 use Rattle.bmc_machine.specs.Turns.{zone_now, fan_now}
 use Rattle.bmc_machine.specs.Zones.{Holds, ZonesStand}
 use Rattle.bmc_machine.specs.Changes.{mode_change, changes_of_zone, duty_change, changes_of_fan, changes_of_zones}
-use Rattle.inventory.proofs.ListLemmas.{all_weaker}
+use Rattle.fan_zone.proofs.ActsLemmas.{controls_acting, fans_acting, zones_acting}
+use Rattle.inventory.proofs.ListLemmas.{all_any, all_weaker}
 use Rattle.bmc_machine.proofs.FoundLemmas.{controls_have_ids, zones_have_ids, fans_have_ids}
 use Rattle.bmc_machine.proofs.IdleLemmas.{live_same}
+use Rattle.bmc_machine.proofs.NameLemmas.{all_both}
 use Rattle.bmc_machine.proofs.SinceLemmas.{age_waits, state_waits, zone_waits, fan_waits}
 
 -- ---- lists
@@ -44,21 +49,30 @@ paired_with Fact R S (x ∷ xs) [] next facts paired = paired
 paired_with Fact R S (x ∷ xs) (y ∷ ys) next facts paired =
     (next x y facts.0 paired.0, paired_with Fact R S xs ys next facts.1 paired.1)
 
--- ---- an idle step
+-- ---- a step that leaves what acts in zones
 
-module _ (view : ZonesView) (sensors sensors_now : LiveSensors) (step : Step) (past : List Step) (still : is_tick step ≡ false)
-    (names : sensors_now.names ≡ sensors.names) where
-  -- a controller that is held reads its sensors by the same names
-  same_names : (control : LiveControl) (held : Held)
+-- the inputs of a controller have the slots that they had
+abbrev pub KeepsInputs : LiveSensors → LiveSensors → LiveControl → Type 0
+KeepsInputs sensors now control = map (slot_of sensors) control.item.inputs ≡ map (slot_of now) control.item.inputs
+
+module _ (view : ZonesView) (sensors sensors_now : LiveSensors) (step : Step) (past : List Step) (still : is_tick step ≡ false) where
+  -- a controller that is held reads its sensors by the same slots
+  same_names : (control : LiveControl) (held : Held) → KeepsInputs sensors sensors_now control
       → held_of view.zone_rows sensors control (seat_of held) ≡ held_of view.zone_rows sensors_now control (seat_of held)
-  same_names control held =
-      ap (λ (names : List (List ℕ × ℕ)). held_of view.zone_rows (record { names = names; slots = sensors.slots; room = sensors.room }) control
-      (seat_of held)) (sym names)
+  same_names control held keeps =
+      ap (λ (inputs : List (Option ℕ)). record {
+        id = control.id;
+        role = role_of control.item.setting;
+        zone = unwrap_or (zone_of view.zone_rows control.item.zone) 0;
+        inputs = inputs;
+        number = held.number;
+        age = held.age;
+      }) keeps
 
-  holds_on : (control : LiveControl) (held : Held) → has_id (live_now past) control.id ≡ true
+  holds_on : (control : LiveControl) (held : Held) → KeepsInputs sensors sensors_now control × (has_id (live_now past) control.id ≡ true)
       → Holds view.zone_rows sensors view.bank past control held → Holds view.zone_rows sensors_now view.bank (step ∷ past) control held
-  holds_on control held lived holds = record {
-    names = holds.names ∙ same_names control held;
+  holds_on control held (keeps, lived) holds = record {
+    names = holds.names ∙ same_names control held keeps;
     age = holds.age ∙ ap (λ (age : ℕ). age % 10) (sym (age_waits step past still control.id lived));
     box =
         holds.box
@@ -66,34 +80,55 @@ module _ (view : ZonesView) (sensors sensors_now : LiveSensors) (step : Step) (p
         (sym (state_waits step past still control lived));
   }
 
-  stands_on : is_idle_step step ≡ true → ZonesStand view sensors past → ZonesStand view sensors_now (step ∷ past)
-  stands_on idle stands =
+  stands_on : filter (λ (item : Item). acts item.part) (live_now (step ∷ past)) ≡ filter (λ (item : Item). acts item.part) (live_now past)
+      → AllByRecursion (KeepsInputs sensors sensors_now) (controls (live_now past)) → ZonesStand view sensors past
+      → ZonesStand view sensors_now (step ∷ past)
+  stands_on kept keep stands =
       let live = live_now past in
-      let same : live ≡ live_now (step ∷ past) = sym (live_same step past idle) in
+      let then = live_now (step ∷ past) in
+      let same_zones : zones live ≡ zones then = sym (zones_acting live) ∙ ap zones (sym kept) ∙ zones_acting then in
+      let same_fans : fans live ≡ fans then = sym (fans_acting live) ∙ ap fans (sym kept) ∙ fans_acting then in
+      let same_controls : controls live ≡ controls then = sym (controls_acting live) ∙ ap controls (sym kept) ∙ controls_acting then in
       record {
-        zone_plans = stands.zone_plans ∙ ap (λ (items : List Item). map plan_of (zones items)) same;
+        zone_plans = stands.zone_plans ∙ ap (map plan_of) same_zones;
         zone_rows =
             stands.zone_rows
             ∙ map_alike (zone_now past) (zone_now (step ∷ past)) (zones live)
             (all_weaker _ _ (λ (zone : LiveZone) lived. sym (zone_waits step past still zone lived)) (zones live) (zones_have_ids live))
-            ∙ ap (λ (items : List Item). map (zone_now (step ∷ past)) (zones items)) same;
-        fan_plans = stands.fan_plans ∙ ap (λ (items : List Item). map (fan_plan_of (controls items)) (fans items)) same;
+            ∙ ap (map (zone_now (step ∷ past))) same_zones;
+        fan_plans =
+            stands.fan_plans ∙ ap₂ (λ (controls : List LiveControl) (fans : List LiveFan). map (fan_plan_of controls) fans) same_controls same_fans;
         fan_rows =
             stands.fan_rows
             ∙ map_alike (fan_now past) (fan_now (step ∷ past)) (fans live)
             (all_weaker _ _ (λ (fan : LiveFan) lived. sym (fan_waits step past still fan lived)) (fans live) (fans_have_ids live))
-            ∙ ap (λ (items : List Item). map (fan_now (step ∷ past)) (fans items)) same;
+            ∙ ap (map (fan_now (step ∷ past))) same_fans;
         held =
-            subst (λ (items : List Item). Paired (Holds view.zone_rows sensors_now view.bank (step ∷ past)) (controls items) view.held) same
-            (paired_with (λ (control : LiveControl). has_id live control.id ≡ true) _ _ (controls live) view.held holds_on (controls_have_ids live)
+            subst (λ (controls : List LiveControl). Paired (Holds view.zone_rows sensors_now view.bank (step ∷ past)) controls view.held) same_controls
+            (paired_with (λ (control : LiveControl). KeepsInputs sensors sensors_now control × (has_id live control.id ≡ true)) _ _ (controls live)
+            view.held holds_on
+            (all_both (KeepsInputs sensors sensors_now) (λ (control : LiveControl). has_id live control.id ≡ true) (controls live) keep
+            (controls_have_ids live))
             stands.held);
         apart = stands.apart;
         others = stands.others;
       }
 
+pub zones_stay : (view : ZonesView) (sensors sensors_now : LiveSensors) (step : Step) (past : List Step) → is_tick step ≡ false
+    → filter (λ (item : Item). acts item.part) (live_now (step ∷ past)) ≡ filter (λ (item : Item). acts item.part) (live_now past)
+    → AllByRecursion (KeepsInputs sensors sensors_now) (controls (live_now past)) → ZonesStand view sensors past → ZonesStand view sensors_now (step ∷ past)
+zones_stay view sensors sensors_now step past still kept keep stands = stands_on view sensors sensors_now step past still kept keep stands
+
+-- ---- an idle step
+
 pub zones_wait : (view : ZonesView) (sensors sensors_now : LiveSensors) (step : Step) (past : List Step) → is_idle_step step ≡ true
     → is_tick step ≡ false → sensors_now.names ≡ sensors.names → ZonesStand view sensors past → ZonesStand view sensors_now (step ∷ past)
-zones_wait view sensors sensors_now step past idle still names stands = stands_on view sensors sensors_now step past still names idle stands
+zones_wait view sensors sensors_now step past idle still names stands =
+    zones_stay view sensors sensors_now step past still (ap (filter (λ (item : Item). acts item.part)) (live_same step past idle))
+    (all_any (KeepsInputs sensors sensors_now)
+    (λ (control : LiveControl). ap (λ (names : List (List ℕ × ℕ)). map (λ (name : List ℕ). lookup (bytes_eq name) names) control.item.inputs) (sym names))
+    (controls (live_now past)))
+    stands
 
 -- ---- no change is told
 

@@ -1,6 +1,6 @@
 -- What a step changes: the boards that go and those that come, the live items, and what sensors, zones and fans show.
-use Rattle.std.specs.Prelude.{ℕ, ◌==◌, Bool, true, false, if◌then◌else◌, List, [], ◌∷◌, ◌++◌, length, map, filter_map, Option, Some, None, option_map}
-use Rattle.std.specs.List.{flat_map, enumerate_from}
+use Rattle.std.specs.Prelude.{ℕ, ◌==◌, bytes_eq, Bool, true, false, if◌then◌else◌, List, [], ◌∷◌, ◌++◌, length, map, filter_map, Option, Some, None, option_map}
+use Rattle.std.specs.List.{flat_map, enumerate_from, list_any}
 use Rattle.std.proofs.Math.Bool.{beq}
 use Rattle.std.specs.Option.{option_eq}
 use Rattle.std.specs.Ordering.{int_eq}
@@ -61,6 +61,27 @@ kind_of parts.Passive = None
 -- a live item is gone or new
 abbrev pub item_change : Bool → Item → Option Change
 item_change gone item = option_map (λ kind. changes_of.Item gone kind item.name) (kind_of item.part)
+
+-- whether an item is a controller that has a sensor of this name as an input
+abbrev pub asks_for : List ℕ → ItemPart → Bool
+asks_for name (parts.Control control) = list_any (bytes_eq name) control.inputs
+asks_for name (parts.Sensor item) = false
+asks_for name parts.Fan = false
+asks_for name (parts.Zone setting) = false
+asks_for name (parts.Mux part) = false
+asks_for name parts.Passive = false
+
+-- whether zones have to do with an item of this kind and name: it acts in them, or it is a sensor that one of these items has as an input
+abbrev pub concerns : List Item → LiveKind → List ℕ → Bool
+concerns items kinds.Sensor name = list_any (λ (item : Item). asks_for name item.part) items
+concerns items kinds.Fan name = true
+concerns items kinds.Zone name = true
+concerns items kinds.Controller name = true
+
+-- whether a change is that a live item is gone or new with which zones have to do
+abbrev pub concerns_zones : List Item → Change → Bool
+concerns_zones items (changes_of.Item gone kind name) = concerns items kind name
+concerns_zones items _ = false
 
 -- the changes of the live items that are here and not there
 abbrev pub items_left : Bool → Inventory → Inventory → List Change
