@@ -1,5 +1,6 @@
 -- After each tick the fans of a zone with a bad input have at least its percent, whatever happened before.
-use Rattle.std.proofs.Common.{◌≡◌, ◌∙◌, ℕ, ℤ, pos, List, [], ◌∷◌, Bool, true, ◌&&◌, ◌||◌, Option, Some, refl, ap, ap₂, sym, subst, map, option_map, slice_get, unwrap_or}
+use Rattle.std.proofs.Common.{◌≡◌, ◌∙◌, ℕ, ℤ, pos, List, [], ◌∷◌, Bool, true, ◌&&◌, ◌||◌, Option, Some, refl, ap, ap₂, sym, subst, map, option_map}
+use Rattle.std.proofs.Common.{slice_get, unwrap_or}
 use Rattle.std.specs.Prelude.{bytes_eq, find}
 use Rattle.std.specs.Cmp.Lexicographic.{bytes_decides}
 use Rattle.std.specs.List.{list_any}

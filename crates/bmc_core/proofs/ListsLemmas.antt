@@ -37,7 +37,8 @@ use Rattle.bmc_machine.specs.Lives.{item_sensor, outcomes, sensor_now}
 use Rattle.bmc_machine.specs.Logs.{entries, log_list}
 use Rattle.bmc_machine.specs.Names.{is_of}
 use Rattle.bmc_machine.specs.Refusals.{IsLegal}
-use Rattle.bmc_machine.specs.Shows.{board_lists, board_text, fan_text, fru_list, index_list, index_rows, item_text, sensor_list, sensor_text, shown, zone_list, zone_text}
+use Rattle.bmc_machine.specs.Shows.{board_lists, board_text, fan_text, fru_list, index_list, index_rows, item_text, sensor_list, sensor_text, shown}
+use Rattle.bmc_machine.specs.Shows.{zone_list, zone_text}
 use Rattle.bmc_machine.specs.Standings.{Fru, fields_of}
 use Rattle.bmc_machine.specs.Turns.{fan_now, zone_now}
 use Rattle.bmc_machine.specs.Zones.{ZonesStand}
@@ -47,7 +48,8 @@ use Rattle.bmc_watch.specs.Watches.{WatchView, WatchStands, fru_entry, view_boar
 use Rattle.bmc_watch.proofs.ItemsLemmas.{IsAlike, busy_alike}
 use Rattle.bmc_watch.proofs.WatchesLemmas.{boards_are, fields_are, known_by_place, live_is}
 use Rattle.bmc_core.specs.Cores.{CoreView, LogStands, Stands}
-use Rattle.bmc_core.specs.Lists.{board_rows, core_list, entry_rows, inventory_rows, item_sensor_row, kept_rows, log_rows, sensor_of_item, sensor_rows, zones_list}
+use Rattle.bmc_core.specs.Lists.{board_rows, core_list, entry_rows, inventory_rows, item_sensor_row, kept_rows, log_rows, sensor_of_item, sensor_rows}
+use Rattle.bmc_core.specs.Lists.{zones_list}
 use Rattle.bmc_core.proofs.LiveLemmas.{all_told_rows, told_rows}
 
 -- the rows of elements that have the same rows

@@ -42,7 +42,7 @@ use Rattle.bmc_watch.specs.Settling.{AreKept, Settles, SettlesUnless}
 use Rattle.bmc_watch.specs.Steps.{Tries}
 use Rattle.bmc_watch.proofs.StockLemmas.{kept_sensor}
 use Rattle.bmc_watch.proofs.WatchesLemmas.{live_is, stands_none}
-use Rattle.bmc_core.specs.Senses.{SensesView, SensorsStand, AreLast, SensesStand, quiet_senses, AreUnchanged}
+use Rattle.bmc_core.specs.Senses.{KeepsSlots, SensesView, SensorsStand, AreLast, SensesStand, quiet_senses, AreUnchanged}
 use Rattle.bmc_core.specs.Acts.{answer_of, is_short, TakesMemory, Notes}
 use Rattle.bmc_core.specs.declared.fault.CoreFault.{CoreFault}
 use Rattle.bmc_core.specs.declared.fault.CoreFault.TheVariants.{Refused}
@@ -58,7 +58,7 @@ last_told (change ∷ more) past step is = is
 sensors_follow : (old new : SensesView) (past : List Step) (step : Step) → IsNoOutcome step
     → SensesStand old past → WatchStands new.watch (step ∷ past) → Settles old.watch new.watch old.sensors new.sensors → SensorsStand new.sensors (step ∷ past)
 sensors_follow old new past step watched stood stands settles name =
-    settles name
+    settles.sensors name
     ∙ (λ i. settled (items_less (before i) (after i)) (items_less (after i) (before i)) name (stood.sensors name i))
     ∙ sym (sensor_settled past step stands.legal watched name)
   where
@@ -104,7 +104,8 @@ sensors_idle past step idle watched legal name =
 -- a step that is refused leaves the sensors, also where it joins the history
 sensors_refused : (sensors : LiveSensors) (past : List Step) (step : Step) (refusal : Refusal) → IsLegal (past_refused past step refusal)
     → SensorsStand sensors past → SensorsStand sensors (past_refused past step refusal)
-sensors_refused sensors past (Plug place bytes) refusal legal stood = λ name. stood name ∙ sym (sensors_idle past (RefusedPlug place bytes refusal) refl (λ name tick. refl) legal name)
+sensors_refused sensors past (Plug place bytes) refusal legal stood = λ name. stood name
+    ∙ sym (sensors_idle past (RefusedPlug place bytes refusal) refl (λ name tick. refl) legal name)
 sensors_refused sensors past (Start options) refusal legal stood = stood
 sensors_refused sensors past (Configure config) refusal legal stood = stood
 sensors_refused sensors past (RefusedPlug place bytes reason) refusal legal stood = stood
@@ -166,6 +167,14 @@ answered old new step (Err fault) watched still takes same tries kept = record {
   stand = λ past stood. unchanged_stands old new past (record { watch = kept.0; sensors = kept.1; ticks = same }) stood;
   left = (takes, record { watch = kept.0; sensors = kept.1; ticks = same });
 }
+
+-- a name keeps its slot that is the name of no sensor that is gone, and of none that is new
+pub slots_answered : (old new : SensesView) (step : Step) (tried : Result (Option Refusal) NoMemory)
+    → IfOk tried (λ refusal. Tries old.watch step refusal new.watch × SettlesUnless refusal old.watch new.watch old.sensors new.sensors)
+    → KeepsSlots (answer_of tried) old new
+slots_answered old new step (Ok None) tries = tries.1.slots
+slots_answered old new step (Ok (Some refusal)) tries = tt
+slots_answered old new step (Err fault) tries = tt
 
 -- ---- readings and losses
 
@@ -275,7 +284,8 @@ told old new step name change result is idle still accepted legal sensors tells 
 -- ---- the answers to readings and losses
 
 -- a name without a slot is unknown, and one with a slot is known
-slot_unknown : (senses : SensesView) (past : List Step) (name : List ℕ) (slot : Option ℕ) → is_none slot ≡ is_none (sensor_in senses.sensors name) → SensesStand senses past
+slot_unknown : (senses : SensesView) (past : List Step) (name : List ℕ) (slot : Option ℕ) → is_none slot ≡ is_none (sensor_in senses.sensors name)
+    → SensesStand senses past
     → is_unknown (live_now past) name ≡ is_none slot
 slot_unknown senses past name slot same stood = unknown_is past name ∙ ap is_none (sym (stood.sensors name)) ∙ sym same
 
@@ -388,7 +398,8 @@ none_now : (name : List ℕ) → sensor_now [] name ≡ None
 unfolding sensor_now live_now items_now boards_now board_keys standing live items boards boards_in board_places
 none_now name = refl
 
-pub stands_new : (senses : SensesView) → senses.watch ≡ no_view → ((name : List ℕ) → sensor_in senses.sensors name ≡ None) → senses.ticks ≡ 0 → SensesStand senses []
+pub stands_new : (senses : SensesView) → senses.watch ≡ no_view → ((name : List ℕ) → sensor_in senses.sensors name ≡ None) → senses.ticks ≡ 0
+    → SensesStand senses []
 stands_new senses nothing none zero = record {
   watch = subst (λ (watch : WatchView). WatchStands watch []) (sym nothing) stands_none;
   sensors = λ name. none name ∙ sym (none_now name);

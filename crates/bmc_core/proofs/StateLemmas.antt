@@ -1,36 +1,43 @@
 -- What each act leaves of a state: what it leaves of the senses, and of the zones.
-use Rattle.std.proofs.Common.{◌≡◌, ◌≤◌, ◌∙◌, ℕ, List, ◌∷◌, ◌||◌, Bool, true, false, Ok, Err, refl, ap, sym, subst, arith, length}
+use Rattle.std.proofs.Common.{◌≡◌, ◌≤◌, ◌∙◌, ℕ, List, ◌∷◌, ◌||◌, Bool, true, false, Ok, Err, refl, ap, ap₂, sym, subst, arith, length, inl, inr}
+use Rattle.std.proofs.Common.{[], bytes_eq, map, true≢false}
 use Rattle.std.specs.Prelude.{⊤, Result}
-use Rattle.std.specs.List.{All}
+use Rattle.std.specs.List.{All, AllByRecursion, list_any}
 use Rattle.cfg_json.specs.Configs.{IsValidConfig}
 use Rattle.cfg_json.specs.declared.item.Item.{Item}
-use Rattle.inventory.specs.Items.{live}
+use Rattle.inventory.specs.Items.{items_less, live}
 use Rattle.inventory.proofs.ListLemmas.{all_any}
+use Rattle.bmc_report.specs.declared.change.Change.{Change}
 use Rattle.bmc_report.specs.declared.refusal.Refusal.{Refusal}
+use Rattle.live_sensors.specs.Items.{has_sensor}
 use Rattle.live_sensors.specs.Sensors.{LiveSensors}
 use Rattle.fan_zone.specs.IsSets.{IsSet}
-use Rattle.fan_zone.specs.Live.{LiveControl, controls, fans, zones}
+use Rattle.fan_zone.specs.Live.{LiveControl, LiveZone, controls, fans, zones}
 use Rattle.fan_zone.specs.Sets.{held_of, seat_of}
 use Rattle.fan_zone.specs.declared.held.Held.{Held}
-use Rattle.fan_zone.specs.Settings.{CanSet}
+use Rattle.fan_zone.specs.Settings.{CanSet, HasZone}
 use Rattle.fan_zone.specs.Ticks.{ZonesView}
 use Rattle.fan_zone.proofs.ActsLemmas.{controls_acting, fans_acting, length_acting, zones_acting}
 use Rattle.bmc_machine.specs.Answers.{past_refused}
 use Rattle.bmc_machine.specs.Banks.{AreFit, HasBank}
 use Rattle.bmc_machine.specs.Histories.{Step, Start, Configure, Plug, RefusedPlug, Unplug, Read, Lose, Tick, asks_strict, is_idle_step, is_strict, is_tick}
+use Rattle.bmc_machine.specs.Changes.{concerns_zones}
 use Rattle.bmc_machine.specs.Indexes.{live_now}
 use Rattle.bmc_machine.specs.Zones.{Holds, ZonesStand}
-use Rattle.bmc_machine.proofs.BankLemmas.{can_set}
+use Rattle.bmc_machine.proofs.BankLemmas.{bank_kept_by_set, can_set}
 use Rattle.bmc_machine.proofs.FitLemmas.{fit, fit_alike}
+use Rattle.bmc_machine.specs.Turns.{zone_now}
+use Rattle.bmc_machine.proofs.LiveItemLemmas.{placed}
 use Rattle.bmc_machine.proofs.LiveLimitLemmas.{few_controls, few_fans, few_zones}
 use Rattle.bmc_machine.proofs.SettingLemmas.{zones_set}
-use Rattle.bmc_machine.proofs.WaitingLemmas.{paired_with, zones_wait}
-use Rattle.bmc_watch.specs.Watches.{view_items}
+use Rattle.bmc_machine.proofs.StillLemmas.{acting_stays, inputs_stay, told_apart}
+use Rattle.bmc_machine.proofs.WaitingLemmas.{KeepsInputs, paired_with, zones_stay, zones_wait}
+use Rattle.bmc_watch.specs.Watches.{WatchView, view_items}
 use Rattle.bmc_watch.proofs.WatchesLemmas.{live_is}
-use Rattle.bmc_core.specs.Acting.{acting, most_acting}
+use Rattle.bmc_core.specs.Acting.{AreRenewed, MayStay, acting, most_acting}
 use Rattle.bmc_core.specs.Acts.{StateApplies, Notes, TakesMemory}
 use Rattle.bmc_core.specs.States.{StateView, IsState, StateStands}
-use Rattle.bmc_core.specs.Senses.{SensesStand, SensesView}
+use Rattle.bmc_core.specs.Senses.{KeepsSlots, SensesStand, SensesView}
 use Rattle.bmc_core.specs.declared.fault.CoreFault.{CoreFault}
 use Rattle.bmc_core.specs.declared.fault.CoreFault.TheVariants.{Refused, OutOfMemory}
 
@@ -141,6 +148,21 @@ sensed old new step (Ok done) idle still plain notes names zones strict = record
   left = tt;
 }
 
+-- ---- without a zone there is no controller
+
+none_mapped : {X Y : Type 0} (image : X → Y) (xs : List X) → map image xs ≡ [] → xs ≡ []
+none_mapped image [] none = refl
+none_mapped image (x ∷ xs) none = absurd (cc)
+
+no_controls : (past : List Step) → zones (live_now past) ≡ [] → controls (live_now past) ≡ []
+no_controls past none = by (controls (live_now past)) (placed past)
+  where
+    by : (some : List LiveControl) → All (HasZone (live_now past)) some → some ≡ []
+    by [] all = refl
+    by (control ∷ more) all =
+        let has : list_any (λ (zone : LiveZone). bytes_eq zone.name control.item.zone) (zones (live_now past)) ≡ true = all 0 control (omega arith) in
+        absurd (true≢false (sym has ∙ ap (list_any (λ (zone : LiveZone). bytes_eq zone.name control.item.zone)) none))
+
 -- ---- an event, after which the zones are set to the live items
 
 module _ (old : StateView) (step : Step) (new : SensesView) (still : is_tick step ≡ false) (plain : asks_strict step ≡ false)
@@ -194,28 +216,77 @@ module _ (old : StateView) (step : Step) (new : SensesView) (still : is_tick ste
       can_set old.zones old.senses.sensors step state.past those (stands_then state.past state.stands).watch.legal (same_controls state.past state.stands)
       state.stands.zones state.enough (fits state.past state.stands valid)
 
+  -- the zones after the longer history, where they are set
+  set_stands : (past : List Step) → StateStands old past → (view : ZonesView) → IsSet old.zones those new.sensors view
+      → ZonesStand view new.sensors (step ∷ past)
+  set_stands past stood view set =
+      zones_set old.zones view old.senses.sensors new.sensors step past those (stands_then past stood).watch.legal still (same_controls past stood)
+      (same_zones past stood) (same_fans past stood) stood.zones set
+
+  -- what acts in zones stays, and so do inputs, where the last changes tell of nothing with which zones have to do
+  unasked : KeepsSlots (Ok tt) old.senses new → (past : List Step) → StateStands old past
+      → list_any (concerns_zones (live (view_items new.watch))) new.watch.changes ≡ false → ZonesStand old.zones new.sensors (step ∷ past)
+  unasked keeps past stood none =
+      let then = stands_then past stood in
+      let was = live_is old.senses.watch past stood.senses.watch in
+      let is = are_live past stood in
+      let told = ap₂ (λ (items : List Item) (told : List Change). list_any (concerns_zones items) told) (sym is) (sym (notes.stand past stood.senses).2)
+      ∙ none in
+      let apart = told_apart (live_now (step ∷ past)) step past told in
+      let kept = acting_stays (live_now (step ∷ past)) step past then.watch.legal apart in
+      let inputs = inputs_stay old.senses.sensors new.sensors (live_now (step ∷ past)) (live_now past) (live_now (step ∷ past)) apart
+      (λ name gone fresh. keeps name (ap (has_sensor name) (ap₂ items_less was is) ∙ gone) (ap (has_sensor name) (ap₂ items_less is was) ∙ fresh)) in
+      zones_stay old.zones old.senses.sensors new.sensors step past still kept
+      (subst (AllByRecursion (KeepsInputs old.senses.sensors new.sensors))
+      (sym (controls_acting (live_now (step ∷ past))) ∙ ap controls kept ∙ controls_acting (live_now past)) inputs)
+      stood.zones
+
+  -- nor where there is no zone, and so no controller
+  zoneless : (past : List Step) → StateStands old past → old.zones.zone_rows ≡ [] → list_any (concerns_zones []) new.watch.changes ≡ false
+      → ZonesStand old.zones new.sensors (step ∷ past)
+  zoneless past stood empty none =
+      let then = stands_then past stood in
+      let told = ap (list_any (concerns_zones [])) (sym (notes.stand past stood.senses).2) ∙ none in
+      let kept = acting_stays [] step past then.watch.legal (told_apart [] step past told) in
+      zones_stay old.zones old.senses.sensors new.sensors step past still kept
+      (subst (AllByRecursion (KeepsInputs old.senses.sensors new.sensors)) (sym (no_controls past (none_mapped (zone_now past) (zones (live_now past)) (sym stood.zones.zone_rows ∙ empty)))) tt)
+      stood.zones
+
+  -- and where they may stay
+  stay_stand : KeepsSlots (Ok tt) old.senses new → (past : List Step) → StateStands old past → MayStay old.zones new.watch
+      → ZonesStand old.zones new.sensors (step ∷ past)
+  stay_stand keeps past stood (inl none) = unasked keeps past stood none
+  stay_stand keeps past stood (inr (empty, none)) = zoneless past stood empty none
+
   -- then the state stands for the longer history
-  pub happened : (view : ZonesView) → IsSet old.zones those new.sensors view
+  pub happened : KeepsSlots (Ok tt) old.senses new → (view : ZonesView) → AreRenewed old.zones new.watch new.sensors view
       → StateApplies old step (Ok tt) (record { senses = new; zones = view; strict = old.strict })
-  happened view set = record {
+  happened keeps view renewed = record {
     stands = λ past stood.
         let noted = notes.stand past stood.senses in (
           noted.0,
-          record {
-            senses = noted.1;
-            zones = zones_set old.zones view old.senses.sensors new.sensors step past those noted.1.watch.legal still (same_controls past stood)
-                (same_zones past stood) (same_fans past stood) stood.zones set;
-            strict = stood.strict ∙ sym (strict_next past step plain);
-          },
+          record { senses = noted.1; zones = by past stood renewed; strict = stood.strict ∙ sym (strict_next past step plain) },
           noted.2,
         );
     left = tt;
   }
+    where
+      by : (past : List Step) → StateStands old past → AreRenewed old.zones new.watch new.sensors view → ZonesStand view new.sensors (step ∷ past)
+      by past stood (inl set) = set_stands past stood view set
+      by past stood (inr (stay, same)) =
+          subst (λ (zones : ZonesView). ZonesStand zones new.sensors (step ∷ past)) (sym same) (stay_stand keeps past stood stay)
+
+-- a bank that is enough stays enough
+pub bank_kept : (old view : ZonesView) (watch : WatchView) (sensors : LiveSensors) → AreRenewed old watch sensors view → HasBank old.bank
+    → HasBank view.bank
+bank_kept old view watch sensors (inl set) enough = bank_kept_by_set old view sensors _ set enough
+bank_kept old view watch sensors (inr (stay, same)) enough = subst (λ (zones : ZonesView). HasBank zones.bank) (sym same) enough
 
 -- ---- each state stands for a history
 
 -- an act leaves a state, whether it is done or not
-pub state_next : (old new : StateView) (step : Step) (result : Result ⊤ CoreFault) → IsState old → StateApplies old step result new → HasBank new.zones.bank → IsState new
+pub state_next : (old new : StateView) (step : Step) (result : Result ⊤ CoreFault) → IsState old → StateApplies old step result new
+    → HasBank new.zones.bank → IsState new
 state_next old new step (Ok done) state applies bank =
     let then = applies.stands state.past state.stands in
     record { past = step ∷ state.past; stands = then.1; enough = bank }

@@ -1,12 +1,14 @@
 -- What is known of the bus and of the sensors, and when it stands for a history.
-use Rattle.std.specs.Prelude.{ℕ, ◌≡◌, ⊤, List, [], ◌∷◌}
+use Rattle.std.specs.Prelude.{ℕ, ◌≡◌, ⊤, false, List, [], ◌∷◌, Result, Ok, Err}
 use Rattle.bmc_report.specs.declared.change.Change.{Change}
-use Rattle.live_sensors.specs.Sensors.{LiveSensors, sensor_in}
+use Rattle.live_sensors.specs.Items.{has_sensor}
+use Rattle.live_sensors.specs.Sensors.{LiveSensors, sensor_in, slot_of}
 use Rattle.bmc_machine.specs.Histories.{Step, tick_of}
 use Rattle.bmc_machine.specs.Lives.{sensor_now}
 use Rattle.bmc_machine.specs.Changes.{changes}
 use Rattle.bmc_watch.specs.Watches.{WatchView, WatchStands, IsSame}
-use Rattle.bmc_watch.specs.Settling.{AreKept}
+use Rattle.bmc_watch.specs.Settling.{AreKept, live_left}
+use Rattle.bmc_core.specs.declared.fault.CoreFault.{CoreFault}
 
 -- what is known of the bus, with the last changes, the live sensors, and the tick count
 pub record SensesView : Type 0 where
@@ -40,3 +42,10 @@ pub record AreUnchanged (old new : SensesView) : Type 0 where
   pub watch : IsSame old.watch new.watch
   pub sensors : AreKept old.sensors new.sensors
   pub ticks : new.ticks ≡ old.ticks
+
+-- behind an event that was accepted, each name keeps its slot that is the name of no sensor that is gone, and of none that is new
+abbrev pub KeepsSlots : Result ⊤ CoreFault → SensesView → SensesView → Type 0
+KeepsSlots (Ok done) old new =
+    (name : List ℕ) → has_sensor name (live_left old.watch new.watch) ≡ false → has_sensor name (live_left new.watch old.watch) ≡ false
+    → slot_of new.sensors name ≡ slot_of old.sensors name
+KeepsSlots (Err fault) old new = ⊤

@@ -1,17 +1,21 @@
-ghost use Rattle.std.specs.Prelude.{◌≡◌, ◌+◌, ◌≤◌, ◌++◌, ◌∷◌, [], None, length, take};
-ghost use Rattle.std.specs.List.{All};
+ghost use Rattle.std.specs.Prelude.{◌≡◌, false, bytes_eq, ◌+◌, ◌≤◌, ◌++◌, ◌∷◌, [], None, length, take};
+ghost use Rattle.std.specs.List.{All, list_any};
+ghost use Rattle.cfg_json.specs.declared.item.Item.{Item};
 ghost use Rattle.cfg_json.specs.Configs.{IsValidConfig};
 ghost use Rattle.fan_zone.specs.IsSets.{IsSet};
 ghost use Rattle.fan_zone.specs.Live.{items_of};
 ghost use Rattle.fan_zone.specs.Settings.{CanSet};
 ghost use Rattle.inventory.specs.Items.{live};
 ghost use Rattle.inventory.specs.Shown.{items_of as all_items};
+ghost use Rattle.inventory.specs.declared.shown.Shown.{Shown as BoardShown};
+ghost use Rattle.bmc_machine.specs.Changes.{concerns_zones};
 ghost use Rattle.bmc_watch.specs.Watches.{view_items};
-ghost use Rattle.bmc_core.specs.Acting.{acting, acting_of, most_acting};
+ghost use Rattle.bmc_core.specs.Acting.{AreRenewed, MayStay, acting, acting_of, asks_for_some, is_named, most_acting};
 
-use bmc_base::Ledger;
+use bmc_base::{Ledger, Name};
+use bmc_report::{Change, LiveKind};
 use bmc_watch::Watch;
-use cfg_json::Item;
+use cfg_json::{Item, ItemPart};
 use ctl_face::Controller;
 use fan_zone::{Zones, acts};
 use inventory::Shown;
@@ -82,9 +86,8 @@ fn any_item(boards: &[Shown]) -> Option<&Item>
     None
 }
 
-/// Sets the zones to the live items that act in zones: the zones, the fans and the controllers, by board and expose. Takes no
-/// memory: the items are listed on the stack.
-pub(crate) fn set_zones<L: Ledger, C: Controller>(
+// Sets the zones to the live items that act in zones.
+fn set_zones<L: Ledger, C: Controller>(
     zones: &mut Zones<C>,
     watch: &Watch<L>,
     sensors: &LiveSensors,
@@ -103,5 +106,118 @@ pub(crate) fn set_zones<L: Ledger, C: Controller>(
             let count = gather(watch, boards, &mut items);
             zones.set(&items[..count], sensors);
         }
+    }
+}
+
+// Whether two names are the same.
+fn same_name(name: &Name, other: &Name) -> bool
+    ensures { result ≡ bytes_eq name.now other.now }
+{
+    name == other
+}
+
+// Whether a name is among the names.
+fn is_among(name: &Name, names: &[Name]) -> bool
+    ensures { result ≡ list_any (bytes_eq name.now) names.now }
+{
+    names.iter().any(|one| same_name(name, one))
+}
+
+// Whether a change is that a zone, a fan or a controller is gone or new.
+fn is_acting(change: &Change) -> bool
+    ensures { result ≡ concerns_zones [] change.now }
+{
+    match change {
+        Change::Item { kind, .. } => match kind {
+            LiveKind::Sensor => false,
+            LiveKind::Zone | LiveKind::Fan | LiveKind::Controller => true,
+        },
+        _ => false,
+    }
+}
+
+// Whether one of some changes is.
+fn some_act(changes: &[Change]) -> bool
+    ensures { result ≡ list_any (concerns_zones []) changes.now }
+{
+    changes.iter().any(|change| is_acting(change))
+}
+
+// Whether a change is that a sensor is gone or new which has one of these names.
+fn is_named(change: &Change, names: &[Name]) -> bool
+    ensures { result ≡ is_named names.now change.now }
+{
+    match change {
+        Change::Item { kind, name, .. } => match kind {
+            LiveKind::Sensor => is_among(name, names),
+            LiveKind::Zone | LiveKind::Fan | LiveKind::Controller => false,
+        },
+        _ => false,
+    }
+}
+
+// Whether one of some changes is.
+fn some_named(changes: &[Change], names: &[Name]) -> bool
+    ensures { result ≡ list_any (is_named names.now) changes.now }
+{
+    changes.iter().any(|change| is_named(change, names))
+}
+
+// Whether an item is a controller with an input that is gone or new by these changes.
+fn asks_for_some(item: &Item, changes: &[Change]) -> bool
+    ensures { result ≡ asks_for_some changes.now item.now }
+{
+    match &item.part {
+        ItemPart::Control(control) => some_named(changes, control.get().inputs.as_slice()),
+        _ => false,
+    }
+}
+
+// Whether one of some items is.
+fn some_ask(items: &[Item], changes: &[Change]) -> bool
+    ensures { result ≡ list_any (asks_for_some changes.now) items.now }
+{
+    items.iter().any(|item| asks_for_some(item, changes))
+}
+
+// Whether one of some boards has such an item.
+fn some_have_asking(boards: &[Shown], changes: &[Change]) -> bool
+    ensures { result ≡ list_any (λ (board : BoardShown). list_any (asks_for_some changes.now) board.items.items) boards.now }
+{
+    boards.iter().any(|board| some_ask(&board.items, changes))
+}
+
+// Whether zones may have to do with what is gone or new by these changes. It goes through the items once.
+fn some_concern_zones(boards: &[Shown], changes: &[Change]) -> bool
+    ensures { result ≡ false → list_any (concerns_zones (all_items boards.now)) changes.now ≡ false }
+{
+    some_act(changes) || some_have_asking(boards, changes)
+}
+
+// Whether zones may not stay as they are. Where there is no zone there is no controller, and items are not looked at.
+fn must_set<L: Ledger, C: Controller>(zones: &Zones<C>, watch: &Watch<L>) -> bool
+    ensures { result ≡ false → MayStay zones.now watch.now }
+{
+    if zones.zone_rows().is_empty() {
+        some_act(watch.changes())
+    } else {
+        some_concern_zones(watch.shown(), watch.changes())
+    }
+}
+
+/// Sets the zones to the live items that act in zones: the zones, the fans and the controllers, by board and expose. Where by the
+/// last changes zones have nothing to do with the live items that are gone and with those that are new, it leaves them. Takes no
+/// memory: the items are listed on the stack.
+pub(crate) fn renew_zones<L: Ledger, C: Controller>(
+    zones: &mut Zones<C>,
+    watch: &Watch<L>,
+    sensors: &LiveSensors,
+)
+    requires few { length (acting (live (view_items watch.now))) ≤ most_acting }
+    requires fit { All IsValidConfig watch.now.configs → CanSet zones.old (acting (live (view_items watch.now))) }
+    ensures { AreRenewed zones.old watch.now sensors.now zones.new }
+{
+    if must_set(zones, watch) {
+        set_zones(zones, watch, sensors);
     }
 }

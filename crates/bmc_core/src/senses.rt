@@ -3,7 +3,7 @@ ghost use Rattle.bmc_base.specs.Counts.{raised};
 ghost use Rattle.bmc_machine.specs.Histories.{Configure, Plug, Unplug, Read, Lose};
 ghost use Rattle.bmc_core.specs.declared.fault.CoreFault.{CoreFault as Fault};
 ghost use Rattle.bmc_core.specs.Acts.{answer_of, Notes, IsCounted};
-ghost use Rattle.bmc_core.specs.Senses.{SensesStand, quiet_senses};
+ghost use Rattle.bmc_core.specs.Senses.{KeepsSlots, SensesStand, quiet_senses};
 ghost use Rattle.bmc_watch.specs.Panels.{panel_changes};
 ghost use Rattle.fan_zone.specs.Sound.{most_zones, most_fans};
 
@@ -113,6 +113,7 @@ impl<L: Ledger> Senses<L> {
         steps: &mut Steps<L>,
     ) -> Result<(), CoreFault>
         ensures notes { Notes self.old (Configure config) result self.new }
+        ensures slots { KeepsSlots result self.old self.new }
         ensures counted { IsCounted result self.old (Configure config) steps.old steps.new }
     {
         answer(
@@ -130,6 +131,7 @@ impl<L: Ledger> Senses<L> {
         steps: &mut Steps<L>,
     ) -> Result<(), CoreFault>
         ensures notes { Notes self.old (Plug place bytes.now) result self.new }
+        ensures slots { KeepsSlots result self.old self.new }
         ensures counted { IsCounted result self.old (Plug place bytes.now) steps.old steps.new }
     {
         answer(
@@ -146,6 +148,7 @@ impl<L: Ledger> Senses<L> {
         steps: &mut Steps<L>,
     ) -> Result<(), CoreFault>
         ensures notes { Notes self.old (Unplug place) result self.new }
+        ensures slots { KeepsSlots result self.old self.new }
         ensures counted { IsCounted result self.old (Unplug place) steps.old steps.new }
     {
         answer(self.watch.unplug(alloc, place, &mut self.sensors, steps))

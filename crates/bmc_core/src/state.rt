@@ -5,7 +5,7 @@ ghost use Rattle.bmc_core.specs.Cores.{IsStated};
 ghost use Rattle.bmc_core.specs.Failsafe.{IsFailsafe};
 ghost use Rattle.bmc_core.specs.States.{StateStands, ticked_state};
 
-use crate::acting::set_zones;
+use crate::acting::renew_zones;
 use crate::senses::Senses;
 use crate::{Act, CoreFault};
 use bmc_base::{Ledger, Name, OutOfMemory, Place, Steps};
@@ -80,7 +80,7 @@ impl<L: Ledger, C: Controller> State<L, C> {
     {
         match self.senses.configure(alloc, config, steps) {
             Ok(()) => {
-                set_zones(&mut self.zones, self.senses.watch(), self.senses.sensors());
+                renew_zones(&mut self.zones, self.senses.watch(), self.senses.sensors());
                 Ok(())
             }
             Err(fault) => Err(fault),
@@ -100,7 +100,7 @@ impl<L: Ledger, C: Controller> State<L, C> {
     {
         match self.senses.plug(alloc, place, bytes, steps) {
             Ok(()) => {
-                set_zones(&mut self.zones, self.senses.watch(), self.senses.sensors());
+                renew_zones(&mut self.zones, self.senses.watch(), self.senses.sensors());
                 Ok(())
             }
             Err(fault) => Err(fault),
@@ -114,7 +114,7 @@ impl<L: Ledger, C: Controller> State<L, C> {
     {
         match self.senses.unplug(alloc, place, steps) {
             Ok(()) => {
-                set_zones(&mut self.zones, self.senses.watch(), self.senses.sensors());
+                renew_zones(&mut self.zones, self.senses.watch(), self.senses.sensors());
                 Ok(())
             }
             Err(fault) => Err(fault),

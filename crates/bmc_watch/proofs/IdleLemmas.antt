@@ -210,7 +210,10 @@ items_same old new configs works same kept =
 -- where all boards are the same each sensor stays
 pub idle_settles : (old new : WatchView) (sensors : LiveSensors) → new.configs ≡ old.configs → busy new.entries ≡ busy old.entries
     → ((number : ℕ) → view_boards new number ≡ view_boards old number) → new.kept ≡ old.kept → Settles old new sensors sensors
-idle_settles old new sensors configs works same kept name = sym (λ i. settled (none_gone i) (none_new i) name (sensor_in sensors name))
+idle_settles old new sensors configs works same kept = record {
+  sensors = λ name. sym (λ i. settled (none_gone i) (none_new i) name (sensor_in sensors name));
+  slots = λ name gone fresh. refl;
+}
   where
     live_same : live (view_items new) ≡ live (view_items old)
     live_same = ap live (items_same old new configs works same kept)

@@ -41,8 +41,8 @@ use Rattle.bmc_machine.proofs.FewerLemmas.{boards_fewer}
 use Rattle.bmc_machine.proofs.LimitLemmas.{keys_fewer}
 use Rattle.bmc_report.specs.declared.change.Change.{Change}
 use Rattle.bmc_machine.specs.Changes.{item_change}
-use Rattle.live_sensors.specs.Items.{settled}
-use Rattle.live_sensors.specs.Sensors.{LiveSensors, sensor_in}
+use Rattle.live_sensors.specs.Items.{has_sensor, settled}
+use Rattle.live_sensors.specs.Sensors.{LiveSensors, sensor_in, slot_of}
 use Rattle.bmc_watch.specs.Settling.{AreKept, live_left, Settles}
 use Rattle.bmc_watch.specs.Changes.{IsDifference, Tells}
 use Rattle.bmc_watch.specs.Insides.{IsStocked}
@@ -294,9 +294,15 @@ kept_sensor before now kept name =
 
 -- the sensors are settled as the live items go and come
 pub settles : (old new : WatchView) (gone fresh : List Item) (before staged now : LiveSensors) → gone ≡ live_left old new → fresh ≡ live_left new old
-    → AreKept before staged → ((name : List ℕ) → sensor_in now name ≡ settled gone fresh name (sensor_in staged name)) → Settles old new before now
-settles old new gone fresh before staged now goes comes kept follow =
-    λ name. follow name ∙ (λ i. settled (goes i) (comes i) name (kept_sensor before staged kept name i))
+    → AreKept before staged → ((name : List ℕ) → sensor_in now name ≡ settled gone fresh name (sensor_in staged name))
+    → ((name : List ℕ) → has_sensor name gone ≡ false → has_sensor name fresh ≡ false → slot_of now name ≡ slot_of staged name)
+    → Settles old new before now
+settles old new gone fresh before staged now goes comes kept follow still = record {
+  sensors = λ name. follow name ∙ (λ i. settled (goes i) (comes i) name (kept_sensor before staged kept name i));
+  slots = λ name none_gone none_new.
+      still name (ap (has_sensor name) goes ∙ none_gone) (ap (has_sensor name) comes ∙ none_new)
+      ∙ ap (λ (names : List (List ℕ × ℕ)). lookup (bytes_eq name) names) kept.names;
+}
 
 -- ---- limits
 

@@ -9,8 +9,8 @@ ghost use Rattle.bmc_watch.specs.ItemSteps.{Continues, TellsItems};
 ghost use Rattle.cfg_json.specs.declared.item.Item.{Item as ItemView};
 ghost use Rattle.inventory.specs.Items.{IsValidItem};
 ghost use Rattle.std.specs.List.{All};
-ghost use Rattle.live_sensors.specs.Items.{settled};
-ghost use Rattle.live_sensors.specs.Sensors.{sensor_in};
+ghost use Rattle.live_sensors.specs.Items.{has_sensor, settled};
+ghost use Rattle.live_sensors.specs.Sensors.{sensor_in, slot_of};
 ghost use Rattle.bmc_watch.specs.Settling.{AreKept};
 
 use bmc_base::{Bytes, Ledger, OutOfMemory};
@@ -205,11 +205,14 @@ pub(crate) fn tell_items(items: &ItemDifference, changes: &mut Vec<Change>)
     append_items(false, items.new.as_slice(), changes);
 }
 
-// Drops the sensors of live items that are gone, and starts those of live items that are new. There is room for them.
+// Drops the sensors of live items that are gone, and starts those of live items that are new. There is room for them. The other
+// sensors keep their slots.
 pub(crate) fn settle_sensors(items: &ItemDifference, sensors: &mut LiveSensors)
     requires room { length items.now.new ≤ sensors.old.room }
     requires valid { All IsValidItem items.now.new }
-    ensures { (name : List ℕ) → sensor_in sensors.new name ≡ settled items.now.gone items.now.new name (sensor_in sensors.old name) }
+    ensures settled { (name : List ℕ) → sensor_in sensors.new name ≡ settled items.now.gone items.now.new name (sensor_in sensors.old name) }
+    ensures slots { (name : List ℕ) → has_sensor name items.now.gone ≡ false → has_sensor name items.now.new ≡ false
+        → slot_of sensors.new name ≡ slot_of sensors.old name }
 {
     sensors.settle(items.gone.as_slice(), items.new.as_slice());
 }

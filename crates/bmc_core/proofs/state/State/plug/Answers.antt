@@ -2,27 +2,25 @@
 use Rattle.std.proofs.Common.{◌≤◌, Err, Ok, length, refl, subst, subst₂, sym}
 use Rattle.std.specs.List.{All}
 use Rattle.cfg_json.specs.Configs.{IsValidConfig}
-use Rattle.fan_zone.specs.IsSets.{IsSet}
 use Rattle.fan_zone.specs.Settings.{CanSet}
 use Rattle.inventory.specs.Items.{live}
 use Rattle.live_sensors.specs.Sensors.{LiveSensors}
 use Rattle.bmc_machine.specs.Histories.{Plug}
-use Rattle.bmc_machine.proofs.BankLemmas.{bank_kept_by_set}
 use Rattle.bmc_watch.specs.Watches.{WatchView, view_items}
-use Rattle.bmc_core.specs.Acting.{acting, most_acting}
+use Rattle.bmc_core.specs.Acting.{AreRenewed, acting, most_acting}
 use Rattle.bmc_core.specs.Acts.{StateApplies}
 use Rattle.bmc_core.specs.States.{StateView}
-use Rattle.bmc_core.proofs.StateLemmas.{can_take, state_next, few_acting, happened, not_done}
+use Rattle.bmc_core.proofs.StateLemmas.{bank_kept, can_take, state_next, few_acting, happened, not_done}
 use Rattle.bmc_core.proofs.state.State.plug.Goals as goal
 
-pub set_zones-requires-clause-few : goal.set_zones-requires-clause-few
-set_zones-requires-clause-few g c =
+pub renew_zones-requires-clause-few : goal.renew_zones-requires-clause-few
+renew_zones-requires-clause-few g c =
     let old : StateView = record { senses = c.self.inside.senses; zones = c.self.inside.zones; strict = c.self.inside.strict } in
     subst (λ (watch : WatchView). length (acting (live (view_items watch))) ≤ most_acting) (sym c.watch.ensures)
     (few_acting old (Plug c.args.place c.args.bytes.now) c.plug.new.self refl refl c.in-Ok.ensures.notes c.self.invariant)
 
-pub set_zones-requires-clause-fit : goal.set_zones-requires-clause-fit
-set_zones-requires-clause-fit g c =
+pub renew_zones-requires-clause-fit : goal.renew_zones-requires-clause-fit
+renew_zones-requires-clause-fit g c =
     let old : StateView = record { senses = c.self.inside.senses; zones = c.self.inside.zones; strict = c.self.inside.strict } in
     subst (λ (watch : WatchView). All IsValidConfig watch.configs → CanSet c.self.inside.zones (acting (live (view_items watch)))) (sym c.watch.ensures)
     (can_take old (Plug c.args.place c.args.bytes.now) c.plug.new.self refl refl c.in-Ok.ensures.notes c.self.invariant)
@@ -30,30 +28,31 @@ set_zones-requires-clause-fit g c =
 pub invariant_of-self : goal.invariant_of-self
 invariant_of-self g c =
     let old : StateView = record { senses = c.self.inside.senses; zones = c.self.inside.zones; strict = c.self.inside.strict } in
-    let new : StateView = record { senses = c.plug.new.self; zones = c.set_zones.new.zones; strict = c.self.inside.strict } in
-    let set : IsSet c.self.inside.zones (acting (live (view_items c.plug.new.self.watch))) c.plug.new.self.sensors c.set_zones.new.zones =
-    subst₂ (λ (watch : WatchView) (sensors : LiveSensors). IsSet c.self.inside.zones (acting (live (view_items watch))) sensors c.set_zones.new.zones)
-    c.watch.ensures c.sensors.ensures c.set_zones.ensures in
+    let new : StateView = record { senses = c.plug.new.self; zones = c.renew_zones.new.zones; strict = c.self.inside.strict } in
+    let renewed : AreRenewed c.self.inside.zones c.plug.new.self.watch c.plug.new.self.sensors c.renew_zones.new.zones =
+    subst₂ (λ (watch : WatchView) (sensors : LiveSensors). AreRenewed c.self.inside.zones watch sensors c.renew_zones.new.zones)
+    c.watch.ensures c.sensors.ensures c.renew_zones.ensures in
     state_next old new (Plug c.args.place c.args.bytes.now) (Ok tt) c.self.invariant
-    (happened old (Plug c.args.place c.args.bytes.now) c.plug.new.self refl refl c.in-Ok.ensures.notes c.set_zones.new.zones set)
-    (bank_kept_by_set c.self.inside.zones c.set_zones.new.zones c.plug.new.self.sensors _ set c.self.invariant.enough)
+    (happened old (Plug c.args.place c.args.bytes.now) c.plug.new.self refl refl c.in-Ok.ensures.notes c.in-Ok.ensures.slots c.renew_zones.new.zones renewed)
+    (bank_kept c.self.inside.zones c.renew_zones.new.zones c.plug.new.self.watch c.plug.new.self.sensors renewed c.self.invariant.enough)
 
 pub invariant_of-self-in-Err : goal.invariant_of-self-in-Err
 invariant_of-self-in-Err g c =
     let old : StateView = record { senses = c.self.inside.senses; zones = c.self.inside.zones; strict = c.self.inside.strict } in
     let new : StateView = record { senses = c.plug.new.self; zones = c.self.inside.zones; strict = c.self.inside.strict } in
-    state_next old new (Plug c.args.place c.args.bytes.now) (Err c.in-Err.fault) c.self.invariant (not_done old new (Plug c.args.place c.args.bytes.now) c.in-Err.fault c.in-Err.ensures.notes refl refl)
+    state_next old new (Plug c.args.place c.args.bytes.now) (Err c.in-Err.fault) c.self.invariant
+    (not_done old new (Plug c.args.place c.args.bytes.now) c.in-Err.fault c.in-Err.ensures.notes refl refl)
     c.self.invariant.enough
 
 pub returns-in-Ok-clause-applies : goal.returns-in-Ok-clause-applies
 returns-in-Ok-clause-applies g c =
     let old : StateView = record { senses = c.self.inside.senses; zones = c.self.inside.zones; strict = c.self.inside.strict } in
-    let new : StateView = record { senses = c.plug.new.self; zones = c.set_zones.new.zones; strict = c.self.inside.strict } in
-    let set : IsSet c.self.inside.zones (acting (live (view_items c.plug.new.self.watch))) c.plug.new.self.sensors c.set_zones.new.zones =
-    subst₂ (λ (watch : WatchView) (sensors : LiveSensors). IsSet c.self.inside.zones (acting (live (view_items watch))) sensors c.set_zones.new.zones)
-    c.watch.ensures c.sensors.ensures c.set_zones.ensures in
+    let new : StateView = record { senses = c.plug.new.self; zones = c.renew_zones.new.zones; strict = c.self.inside.strict } in
+    let renewed : AreRenewed c.self.inside.zones c.plug.new.self.watch c.plug.new.self.sensors c.renew_zones.new.zones =
+    subst₂ (λ (watch : WatchView) (sensors : LiveSensors). AreRenewed c.self.inside.zones watch sensors c.renew_zones.new.zones)
+    c.watch.ensures c.sensors.ensures c.renew_zones.ensures in
     subst (λ (state : StateView). StateApplies state (Plug c.args.place c.args.bytes.now) (Ok tt) new) c.self.view_is
-    (happened old (Plug c.args.place c.args.bytes.now) c.plug.new.self refl refl c.in-Ok.ensures.notes c.set_zones.new.zones set)
+    (happened old (Plug c.args.place c.args.bytes.now) c.plug.new.self refl refl c.in-Ok.ensures.notes c.in-Ok.ensures.slots c.renew_zones.new.zones renewed)
 
 pub returns-in-Err-clause-applies : goal.returns-in-Err-clause-applies
 returns-in-Err-clause-applies g c =

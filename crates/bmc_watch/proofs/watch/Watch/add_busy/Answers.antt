@@ -301,7 +301,7 @@ returns-clause-ok g c =
     let is = next g done (order g compared) (order_there g compared) (boards_differ g compared) (staged g done (items_continue g compared)) in
     let new = behind g done c.plug.new.self.entries in
     let follows = settles (before g done) new c.in_ok-items.items.gone c.in_ok-items.items.new c.args.sensors.now c.stage_changes.new.sensors
-    c.settle_sensors.new.sensors is.goes is.comes c.stage_changes.ensures.sensors c.settle_sensors.ensures in
+    c.settle_sensors.new.sensors is.goes is.comes c.stage_changes.ensures.sensors c.settle_sensors.ensures.settled c.settle_sensors.ensures.slots in
     subst (λ (view : WatchView). AddsFru c.args.boxed.value.place c.args.boxed.value.fru view new
     × Settles view new c.args.sensors.now c.settle_sensors.new.sensors) c.self.view_is (
       record {

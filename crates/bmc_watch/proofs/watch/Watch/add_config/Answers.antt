@@ -307,7 +307,7 @@ returns-clause-tried g c =
     let old = before g done in
     let new = behind g done c.add.new.self in
     let follows = settles old new c.in_ok-items.items.gone c.in_ok-items.items.new c.args.sensors.now c.stage_changes.new.sensors c.settle_sensors.new.sensors
-    is.goes is.comes c.stage_changes.ensures.sensors c.settle_sensors.ensures in
+    is.goes is.comes c.stage_changes.ensures.sensors c.settle_sensors.ensures.settled c.settle_sensors.ensures.slots in
     let never = ap (λ (view : WatchView). view.plugged) c.self.view_is ∙ c.requires.never in
     let empty = no_entries c.self.inside.plugged c.self.inside.rows.entries never c.self.invariant.none in
     subst (λ (view : WatchView). Tries view (Configure c.args.config) None new × Settles view new c.args.sensors.now c.settle_sensors.new.sensors)
