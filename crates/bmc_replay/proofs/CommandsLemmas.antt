@@ -26,7 +26,8 @@ use Rattle.bmc_run.specs.declared.stop.Stop.TheVariants as stops
 use Rattle.bmc_replay.specs.Files.{HasTaken, StopsAtFile, ReadsFiles, file_items}
 use Rattle.bmc_replay.proofs.FilesLemmas.{reads_nothing}
 use Rattle.bmc_replay.proofs.SampleLemmas.{no_ties}
-use Rattle.bmc_replay.specs.Commands.{ComesToScript, RunsFiles, RunsSample, RunsSettings, ReplaysWords, RefusesWords, Obeys, EndsUnsettled, StopsBefore, options_of, sample_of}
+use Rattle.bmc_replay.specs.Commands.{ComesToScript, RunsFiles, RunsSample, RunsSettings, ReplaysWords, RefusesWords, Obeys, EndsUnsettled, StopsBefore}
+use Rattle.bmc_replay.specs.Commands.{options_of, sample_of}
 use Rattle.bmc_replay.specs.declared.status.Status.{Status}
 use Rattle.bmc_replay.specs.declared.status.Status.TheVariants.{OutOfMemory}
 

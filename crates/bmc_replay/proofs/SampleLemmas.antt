@@ -1,5 +1,6 @@
 -- A sample, counted and told.
-use Rattle.std.proofs.Common.{◌≡◌, ◌∙◌, ℕ, List, [], ◌∷◌, length, Bool, true, false, cond, ◌+◌, ◌++◌, Option, Some, None, Ok, Err, refl, ap, ap₂, sym, subst, append-nil, arith}
+use Rattle.std.proofs.Common.{◌≡◌, ◌∙◌, ℕ, List, [], ◌∷◌, length, Bool, true, false, cond, ◌+◌, ◌++◌, Option, Some, None, Ok, Err, refl, ap, ap₂, sym}
+use Rattle.std.proofs.Common.{subst, append-nil, arith}
 use Rattle.std.specs.Prelude.{Result, nat_le, ◌-◌}
 use Rattle.bmc_base.specs.Counts.{last_count}
 use Rattle.bmc_base.specs.Calls.{Fails}
@@ -103,7 +104,8 @@ module _ (options : Options) (seed : ℕ) (counted : Counted) (maker maker_now :
   said text front none is = is ∙ ap (λ (front : List ℕ). front ++ summary seed counted.refused counted.bytes) none ∙ summary_is
 
   -- it is told
-  pub tells_all : (old new : Output) (text front : List ℕ) → front ≡ [] → text ≡ front ++ summary seed counted.refused counted.bytes → new.taken ≡ added old.taken text
+  pub tells_all : (old new : Output) (text front : List ℕ) → front ≡ [] → text ≡ front ++ summary seed counted.refused counted.bytes
+      → new.taken ≡ added old.taken text
       → new.calls.faults ≡ old.calls.faults → RunsSample options seed (Ok counted.refused) old new maker maker_now
   tells_all old new text front none is told well = record {
     verdicts = counts.verdicts;

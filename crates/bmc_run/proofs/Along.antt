@@ -237,7 +237,8 @@ stops_after first stops.ReadFault verdicts before now calls calls_now takes caus
 stops_after first stops.TooLong verdicts before now calls calls_now takes cause = absurd cause
 
 all_written : (first : Answer) (refused : ℕ) (left left_now : Option (List ℕ)) (taken : List ℕ) (verdicts : List Verdict) (so_far : Answer) (old new : Told)
-    → Consumes left left_now taken → IsAtEnd left_now → HasEnded first taken verdicts so_far → refused ≡ raised 0 so_far.refused → new ≡ added old (with_list so_far)
+    → Consumes left left_now taken → IsAtEnd left_now → HasEnded first taken verdicts so_far → refused ≡ raised 0 so_far.refused
+    → new ≡ added old (with_list so_far)
     → WhereTold left (λ script. Writes first (Ok refused) script verdicts old new)
 all_written first refused None left_now taken verdicts so_far old new consumed at_end machine same text = tt
 all_written first refused (Some script) None taken verdicts so_far old new consumed at_end machine same text = absurd consumed
@@ -595,8 +596,10 @@ module _ {L C : Type 0} (first : Answer) where
 
   -- it stops in the final list
   pub ended_cut : (stop : Stop) (before now new : Outside) (maker maker_now : Maker) (feed : ItemFeed) (run : Run L C) (calls calls_now : Calls)
-      → IsAtEnd now.input.left → feed.read ≤ longest_script → now.input ≡ new.input → Along first true before now maker maker_now feed run → run.pending ≡ Nothing
-      → AppendsFront now.output.taken new.output.taken (string_bytes run.text ++ entry_rows run.core.state.senses.watch.entries) → WriteCause stop calls calls_now
+      → IsAtEnd now.input.left → feed.read ≤ longest_script → now.input ≡ new.input → Along first true before now maker maker_now feed run
+      → run.pending ≡ Nothing
+      → AppendsFront now.output.taken new.output.taken (string_bytes run.text ++ entry_rows run.core.state.senses.watch.entries)
+      → WriteCause stop calls calls_now
       → Replays first (Err stop) before new maker maker_now
   ended_cut stop before now new maker maker_now feed run calls calls_now at_end limit same along none front cause =
       along_replays stop true before now new maker maker_now feed run along (λ yes. at_end)

@@ -303,7 +303,8 @@ answered_item {L} {C} origin item effect old answered new maker maker_now same a
 
 -- and so what came is taken
 pub taken_next : {L C : Type 0} (item : Option Item) (found : Option Effect) (effect : Effect) (old answered new : Run L C) (maker maker_now : Maker)
-    → AnswersNext item found old answered maker maker_now → found ≡ Some effect → CountsItem OfScript effect answered new → TakesNext item old new maker maker_now
+    → AnswersNext item found old answered maker maker_now → found ≡ Some effect → CountsItem OfScript effect answered new
+    → TakesNext item old new maker maker_now
 taken_next item found effect old answered new maker maker_now answers is counts =
     of item (subst (λ (found : Option Effect). AnswersNext item found old answered maker maker_now) is answers)
   where

@@ -55,7 +55,8 @@ with_verdict : (verdicts later : List Verdict) (verdict : Verdict) → (verdicts
 with_verdict verdicts later verdict = append_assoc verdicts (verdict ∷ []) later
 
 -- an item more, whatever follows it
-pub so_far_more : (first : Answer) (taken waiting piece rest : List ℕ) (verdicts : List Verdict) (number : ℕ) (so_far : Answer) (verdict : Verdict) (item : Item)
+pub so_far_more : (first : Answer) (taken waiting piece rest : List ℕ) (verdicts : List Verdict) (number : ℕ) (so_far : Answer) (verdict : Verdict)
+    (item : Item)
     → SoFar first taken waiting verdicts number so_far → BeginsWith (waiting ++ piece) item rest → IsTied item verdict
     → SoFar first (taken ++ piece) rest (verdicts ++ verdict ∷ []) (number + 1) (with_item so_far number verdict item)
 so_far_more first taken waiting piece rest verdicts number so_far verdict item machine begins tie = record {
@@ -93,7 +94,8 @@ stop_here : (so_far : Answer) (number : ℕ) (verdicts : List Verdict) → and_t
 stop_here so_far number verdicts = ap (and_then so_far) (answers-nil number so_far.past verdicts) ∙ and_then-silent so_far
 
 -- no item is left
-ended_after : (first : Answer) (taken waiting piece : List ℕ) (verdicts : List Verdict) (number : ℕ) (so_far : Answer) → SoFar first taken waiting verdicts number so_far
+ended_after : (first : Answer) (taken waiting piece : List ℕ) (verdicts : List Verdict) (number : ℕ) (so_far : Answer)
+    → SoFar first taken waiting verdicts number so_far
     → items_of (waiting ++ piece) ≡ [] → HasEnded first (taken ++ piece) verdicts so_far
 ended_after first taken waiting piece verdicts number so_far machine none = record {
   all = λ later.
@@ -107,7 +109,8 @@ unfolding cut_most cut
 items_of-nil = refl
 
 -- the bytes that wait and those that came are the last item
-pub so_far_last : (first : Answer) (taken waiting piece rest : List ℕ) (verdicts : List Verdict) (number : ℕ) (so_far : Answer) (verdict : Verdict) (item : Item)
+pub so_far_last : (first : Answer) (taken waiting piece rest : List ℕ) (verdicts : List Verdict) (number : ℕ) (so_far : Answer) (verdict : Verdict)
+    (item : Item)
     → SoFar first taken waiting verdicts number so_far → AreLast (waiting ++ piece) item rest → IsTied item verdict
     → HasEnded first (taken ++ piece) (verdicts ++ verdict ∷ []) (with_item so_far number verdict item)
 so_far_last first taken waiting piece rest verdicts number so_far verdict item machine last tie = record {

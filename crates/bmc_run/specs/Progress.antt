@@ -41,7 +41,8 @@ HasCome first true taken waiting verdicts number so_far = HasEnded first taken v
 
 -- The bytes of the source that were read have taken the machine this far behind a first answer, under these verdicts, and what it printed is written or
 -- gathered.
-pub record Along {L C : Type 0} (first : Answer) (ended : Bool) (before now : Outside) (maker maker_now : Maker) (feed : ItemFeed) (run : Run L C) : Type 0 where
+pub record Along {L C : Type 0} (first : Answer) (ended : Bool) (before now : Outside) (maker maker_now : Maker) (feed : ItemFeed)
+    (run : Run L C) : Type 0 where
   pub taken : List ℕ
   pub verdicts : List Verdict
   pub so_far : Answer

@@ -20,4 +20,5 @@ returns-in-Some g c =
 
 pub returns : goal.returns
 returns g c =
-    rw (c.in-None.is, ← c.as_slice-names.ensures.value) (c.run_files.ensures (options_of (view_of c.args.settings.now)) (c.in_ok-run.ensures.ready, c.in_ok-run.ensures.new))
+    rw (c.in-None.is, ← c.as_slice-names.ensures.value)
+    (c.run_files.ensures (options_of (view_of c.args.settings.now)) (c.in_ok-run.ensures.ready, c.in_ok-run.ensures.new))
