@@ -106,11 +106,14 @@ impl Micro {
     }
 }
 
-// The number divided by n million and rounded down.
+// The number divided by n million and rounded down. Most numbers fit in 64 bits, where a division is one instruction.
 #[tactic(auto, using(std::proofs::lemmas::Int::ints))]
 fn divided(number: i128, n: u8) -> i128
     requires { 1 ≤ n }
     ensures { result ≡ floor_div number (n * 1000000) }
 {
-    number.div_euclid(n as i128 * 1_000_000)
+    match i64::try_from(number) {
+        Ok(number) => i128::from(number.div_euclid(i64::from(n) * 1_000_000)),
+        Err(_) => number.div_euclid(i128::from(n) * 1_000_000),
+    }
 }

@@ -2,3 +2,4 @@ pub mod ValuesLemmas
 pub mod AlarmsLemmas
 pub mod SensorsLemmas
 pub mod LawsLemmas
+pub mod FreshLemmas

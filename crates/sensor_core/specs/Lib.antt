@@ -1,6 +1,7 @@
 pub mod Limits
 pub mod Settings
 pub mod Sensors
+pub mod Fresh
 pub mod Updates
 pub mod Tables
 pub mod Lends

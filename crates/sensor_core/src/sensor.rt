@@ -1,7 +1,8 @@
 ghost use Rattle.std.specs.Prelude.{◌≡◌, ◌↔◌, IsOk, OnOk, OnErr, ◌≤◌, [], length, take, All};
 ghost use Rattle.sensor_core.specs.Limits.{IsValidLimit};
 ghost use Rattle.sensor_core.specs.Settings.{IsValidSetting, IsRaw, most_limits};
-ghost use Rattle.sensor_core.specs.Sensors.{Good, Lost, sensor_of, has_failed, age_at, is_stale, is_bad, has_alarm};
+ghost use Rattle.sensor_core.specs.Sensors.{Good, Lost, sensor_of, has_failed, age_at, is_bad, has_alarm};
+ghost use Rattle.sensor_core.specs.Fresh.{fresh_until};
 ghost use Rattle.sensor_core.specs.Updates.{alarms_after, good_after, lost_after, Takes};
 
 use crate::{Limit, ReadingRange, SensorSetting};
@@ -14,11 +15,12 @@ const FAILING_LOSSES: u8 = 5;
 // How large a raw number is at the most.
 const MOST_RAW: u64 = 1_000_000_000;
 
-// A good reading.
+// A good reading, and the last tick at which it is not stale.
 #[derive(Clone, Copy)]
 struct Reading {
     value: Milli,
     tick: u64,
+    fresh_until: u64,
 }
 
 /// A sensor: its setting, its last good reading, how many losses came after it, and its alarms.
@@ -31,8 +33,10 @@ pub struct Sensor {
 }
 
 impl Model for Sensor {
-    ghost use Rattle.std.specs.Prelude.{◌≤◌, take, option_map};
+    ghost use Rattle.std.specs.Prelude.{◌≡◌, ◌≤◌, take, option_map};
+    ghost use Rattle.std.specs.Option.{ForSome};
     ghost use Rattle.sensor_core.specs.Settings.{IsValidSetting};
+    ghost use Rattle.sensor_core.specs.Fresh.{fresh_until};
     ghost use Rattle.sensor_core.specs.Sensors.{Sensor, failing_losses};
     ghost use Rattle.sensor_core.specs.declared.sensor.Reading.{Reading};
 
@@ -46,7 +50,8 @@ impl Model for Sensor {
       alarms = take s.setting.count s.alarms;
     } };
 
-    ghost invariant = { λ s. IsValidSetting s.setting × (s.losses ≤ failing_losses) };
+    ghost invariant = { λ s. IsValidSetting s.setting × (s.losses ≤ failing_losses)
+        × ForSome s.last (λ (reading : Reading). reading.fresh_until ≡ fresh_until s.setting.timeout reading.tick) };
 }
 
 impl Sensor {
@@ -87,7 +92,11 @@ impl Sensor {
     {
         let value = self.setting.value(raw);
         update_alarms(&mut self.alarms, self.setting.limits_in_use(), value);
-        self.last = Some(Reading { value, tick });
+        self.last = Some(Reading {
+            value,
+            tick,
+            fresh_until: fresh_until(self.setting.timeout, tick),
+        });
         self.losses = 0;
     }
 
@@ -146,20 +155,26 @@ impl Sensor {
         n < self.setting.count && self.alarms[usize::from(n)]
     }
 
-    // Whether the last good reading is older than the timeout, where there is one.
-    fn is_stale(&self, tick: u64) -> bool
-        ensures { result ≡ is_stale self.now tick }
-    {
-        let timeout = u64::from(self.setting.timeout);
-        timeout != 0 && self.age(tick).is_some_and(|age| age > timeout)
-    }
-
     /// Whether the sensor is no good input at this tick: it had no good reading, it failed, or its
     /// last good reading is older than its timeout. A timeout of 0 never passes.
     pub fn is_bad(&self, tick: u64) -> bool
         ensures { result ≡ is_bad self.now tick }
     {
-        self.last.is_none() || self.is_failed() || self.is_stale(tick)
+        match self.last {
+            None => true,
+            Some(reading) => self.is_failed() || tick > reading.fresh_until,
+        }
+    }
+}
+
+// The last tick at which a good reading is not older than the timeout, where there is one.
+fn fresh_until(timeout: u32, tick: u64) -> u64
+    ensures { result ≡ fresh_until timeout tick }
+{
+    if timeout == 0 {
+        u64::MAX
+    } else {
+        tick.saturating_add(u64::from(timeout))
     }
 }
 
