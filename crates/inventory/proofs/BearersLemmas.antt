@@ -74,7 +74,8 @@ first_bearer items family name = (λ i. slice_get (map id_at (filter (λ (item :
         by true later = refl
         by false later = later
 
-is_id_item : (id : ItemId) (item : Option Item) → is_id id (option_map id_at item) ≡ is_item id item
+-- an id is that of an item where the item has it
+pub is_id_item : (id : ItemId) (item : Option Item) → is_id id (option_map id_at item) ≡ is_item id item
 is_id_item id None = refl
 is_id_item id (Some item) = id_swap id item.id
 

@@ -122,7 +122,7 @@ less_facts Fact one other facts = all_filter Fact _ (filter (is_live one) one) (
 
 -- ---- the holder of a name
 
-no_item : (item : Option Item) → option_map id_at item ≡ None → item ≡ None
+pub no_item : (item : Option Item) → option_map id_at item ≡ None → item ≡ None
 no_item None none = refl
 no_item (Some item) none = absurd (cc)
 
@@ -139,18 +139,17 @@ found_at items (first ∷ these) id item found test is some = by (test first) is
         ap (item_of items) (sym same) ∙ found.0 ∙ sym is
     by false is later = later is
 
-module _ (items : List Item) (order : AreById items) (family : Family) (name : List ℕ) (ids : List ItemId)
-    (lists : Lists ids (is_bearer items (name_tag family name))) where
-  first_is : slice_get ids 0 ≡ option_map id_at (holder items family name)
-  first_is =
-      ap (λ (ids : List ItemId). slice_get ids 0)
-      (lists_one ids (bearers items (name_tag family name)) (is_bearer items (name_tag family name)) lists
-      (bearers_list items (name_tag family name) order))
-      ∙ first_bearer items family name
+-- the first of the ids for a name is that of its holder
+pub first_is : (items : List Item) → AreById items → (family : Family) (name : List ℕ) (ids : List ItemId)
+    → Lists ids (is_bearer items (name_tag family name)) → slice_get ids 0 ≡ option_map id_at (holder items family name)
+first_is items order family name ids lists =
+    ap (λ (ids : List ItemId). slice_get ids 0)
+    (lists_one ids (bearers items (name_tag family name)) (is_bearer items (name_tag family name)) lists
+    (bearers_list items (name_tag family name) order))
+    ∙ first_bearer items family name
 
-  pub name_some : (id : ItemId) → slice_get ids 0 ≡ Some id → item_of items id ≡ holder items family name
-  name_some id first =
-      found_at items items id (holder items family name) (own_found items (ascending_ids items order)) (has_name family name) refl (sym first_is ∙ first)
-
-  pub name_none : slice_get ids 0 ≡ None → None ≡ holder items family name
-  name_none none = sym (no_item (holder items family name) (sym first_is ∙ none))
+-- the holder of a name is found by its id
+pub held_item : (items : List Item) → AreById items → (family : Family) (name : List ℕ) (id : ItemId)
+    → option_map id_at (holder items family name) ≡ Some id → item_of items id ≡ holder items family name
+held_item items order family name id is =
+    found_at items items id (holder items family name) (own_found items (ascending_ids items order)) (has_name family name) refl is

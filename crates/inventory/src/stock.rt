@@ -15,13 +15,14 @@ ghost use Rattle.inventory.specs.Stocks.{AreNoted};
 ghost use Rattle.inventory.specs.declared.tag.Tag.{Tag};
 
 use crate::coming::show_coming;
+use crate::ids::is_same;
 use crate::leads::{copy_items, find_leads};
 use crate::shown::{Shown, insert_boards, item_at, remove_boards};
 use crate::tag::name_tag;
 use crate::tags::{Notes, Tags, first_of, forget_boards, keep_noted, note_boards};
 use crate::{BoardKey, Difference, Family, IndexKeep, ItemList, Moment};
 use bmc_base::{Ledger, Name, OutOfMemory};
-use cfg_json::{Config, Item, ItemPart, Shelf};
+use cfg_json::{Config, Item, ItemId, ItemPart, Shelf};
 use indexmap::IndexMap;
 use std::alloc::Global;
 use std::marker::Model;
@@ -193,23 +194,26 @@ impl Stock {
         &self.boards
     }
 
+    // Returns the id of the item that holds a name in a family, if one does. The name is looked up once, and no item.
+    fn holder_id(&self, family: Family, name: &Name) -> Option<ItemId>
+        ensures { result ≡ option_map (λ item. item.id) (holder self.now.items family name.now) }
+    {
+        first_of(&self.tags, &name_tag(family, name))
+    }
+
     /// Borrows the item that holds a name in a family, if one does. The name is looked up once.
     pub fn holder(&self, family: Family, name: &Name) -> Option<&Item>
         ensures { option_map (λ item. item.now) result ≡ holder self.now.items family name.now }
     {
-        let tag = name_tag(family, name);
-        let id = first_of(&self.tags, &tag)?;
+        let id = self.holder_id(family, name)?;
         item_at(&self.boards, &id)
     }
 
-    // Whether an item holds its name in a family. The name is looked up once.
+    // Whether an item holds its name in a family. The name is looked up once, and no item.
     fn holds(&self, family: Family, item: &Item) -> bool
         ensures { result ≡ is_item item.now.id (holder self.now.items family item.now.name) }
     {
-        match self.holder(family, &item.name) {
-            Some(first) => first.id == item.id,
-            None => false,
-        }
+        is_same(&item.id, self.holder_id(family, &item.name))
     }
 
     /// Whether an item is live, which is so where it holds its name, and for a controller where the name of its zone is held.
@@ -221,7 +225,9 @@ impl Stock {
             ItemPart::Sensor(_) => self.holds(Family::Sensor, item),
             ItemPart::Zone(_) => self.holds(Family::Zone, item),
             ItemPart::Fan => self.holds(Family::Fan, item),
-            ItemPart::Control(control) => self.holder(Family::Zone, &control.get().zone).is_some(),
+            ItemPart::Control(control) => self
+                .holder_id(Family::Zone, &control.get().zone)
+                .is_some(),
             ItemPart::Mux(_) | ItemPart::Passive => false,
         }
     }
