@@ -4,9 +4,10 @@ ghost use Rattle.inventory.specs.Bearers.{member_tag, name_tag, role_of, tag_of}
 use crate::Family;
 use bmc_base::Name;
 use cfg_json::{Item, ItemPart};
+use std::hash::{Hash, Hasher};
 
 /// As what an item is noted.
-#[derive(Clone, Copy, PartialEq, Eq, Hash)]
+#[derive(Clone, Copy, PartialEq, Eq)]
 pub(crate) enum Role {
     /// As a sensor, which bears its name.
     Sensor,
@@ -19,10 +20,25 @@ pub(crate) enum Role {
 }
 
 /// Under what items are noted: a name that they bear in their family, or the name of the zone that they are in.
-#[derive(Drop, PartialEq, Eq, Hash)]
+#[derive(Drop, PartialEq, Eq)]
 pub(crate) struct Tag {
     pub(crate) role: Role,
     pub(crate) name: Name,
+}
+
+// A tag is hashed by its name alone: at most four have the same.
+impl Hash for Tag {
+    ghost use Rattle.std.specs.Cmp.Rules.{hashing};
+    ghost use Rattle.std.specs.Prelude.{◌∷◌, []};
+    ghost use Rattle.std.proofs.Common.{rules};
+
+    ghost hash_input = { λ tag. tag.name ∷ [] };
+
+    ghost respects_eq = { Prim.search (hashing, rules) };
+
+    fn hash<H: Hasher>(&self, state: &mut H) {
+        state.write(self.name.as_str().as_bytes());
+    }
 }
 
 impl Role {
