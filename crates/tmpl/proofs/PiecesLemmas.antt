@@ -1,7 +1,7 @@
 -- Pieces, one stretch on.
 use Rattle.std.proofs.Common.{◌≡◌, ℕ, suc, ◌+◌, ◌-◌, ◌<◌, ◌≤◌, Bool, true, false, List, [], ◌∷◌, ◌++◌, length, drop, take, get_or, map}
 use Rattle.std.proofs.Common.{Option, Some, None}
-use Rattle.std.proofs.Common.{refl, ap, sym, ◌∙◌, arith, cond, length-drop}
+use Rattle.std.proofs.Common.{refl, ap, sym, ◌∙◌, arith, cond, length-drop, length-take-le}
 use Rattle.std.specs.Prelude.{◌&&◌, ◌==◌, nat_lt, nat_le, if◌then◌else◌, Ok, Err, slice_index, not, position, unwrap_or, IsUtf8, IsCharBoundary}
 use Rattle.std.specs.List.{list_all, list_any, position_or_len, prefix_len}
 use Rattle.std.proofs.lemmas.Bool.{le-leb}
@@ -18,6 +18,7 @@ use Rattle.tmpl.specs.declared.template.TmplFault.TheVariants.{TemplateSyntax}
 use Rattle.tmpl.specs.declared.word.Word.{Word}
 use Rattle.tmpl.specs.Templates.{Piece, Plain, Substitution, begins_substitution, first_word, is_dollar, piece_at, pieces_of}
 use Rattle.tmpl.specs.Templates.{is_plain, is_right, is_template, template_of, longest_template, is_single, is_one_substitution, asks_index}
+use Rattle.tmpl.specs.Stretches.{EndsText}
 use Rattle.tmpl.proofs.ChainsLemmas.{chain_found}
 
 abbrev piece_of : Piece × ℕ → Piece
@@ -95,6 +96,12 @@ pub plain_asks_none : (text : List ℕ) → list_any asks_index (map Plain text)
 plain_asks_none [] = refl
 plain_asks_none (byte ∷ text) = plain_asks_none text
 
+-- what is plain is right
+pub plain_is_right : (pieces : List Piece) → list_all is_plain pieces ≡ true → list_all is_right pieces ≡ true
+plain_is_right [] plain = refl
+plain_is_right (Plain byte ∷ pieces) plain = plain_is_right pieces plain
+plain_is_right (Substitution word operations ∷ pieces) plain = absurd (cc)
+
 pub right_alone : (word : Word) (operations : List Operation) → list_all (λ operation. not (divides_by_zero operation)) operations
     ≡ list_all is_right (Substitution (Some word) operations ∷ [])
 right_alone word operations = by (list_all (λ operation. not (divides_by_zero operation)) operations)
@@ -139,12 +146,16 @@ plain_cut text n is within = by (nat_lt n (length text)) refl
 
 pub plain_stretch : (text plain rest : List ℕ) (n : ℕ) → 0 < length text → begins_substitution text ≡ false
     → n ≡ 1 + position_or_len is_dollar (drop 1 text) → plain ≡ take n text → rest ≡ drop n text → length rest < length text
+    → n ≤ length text
     → (pieces_of text ≡ map Plain plain ++ pieces_of rest) × (0 < length (map Plain plain)) × (length rest < length text)
-plain_stretch text plain rest n some none is plain_is_taken rest_is shorter =
-    let run = length-map plain (λ (byte : ℕ). Plain byte) in (
+    × ((plain ≡ take (length plain) text) × (length plain ≤ length text) × (rest ≡ drop (length plain) text))
+plain_stretch text plain rest n some none is plain_is_taken rest_is shorter within =
+    let run = length-map plain (λ (byte : ℕ). Plain byte) in
+    let size : length plain ≡ n = ap length plain_is_taken ∙ length-take-le n text within in (
       rw (plain_is_taken, rest_is, is) (plain_is text some none),
       omega (arith, run, ap length plain_is_taken, length-take n text, ap length rest_is, length-drop n text),
       shorter,
+      (rw size plain_is_taken, omega (arith, size), rw size rest_is),
     )
 
 -- ---- substitutions
@@ -184,15 +195,26 @@ pub substitution_at : (text marked word behind rest : List ℕ) (read : Option W
     → length behind + length_is ≡ length marked → size ≡ operations_len behind → size ≤ length behind → rest ≡ drop size behind
     → length rest + size ≡ length behind → read ≡ word_of word
     → (pieces_of text ≡ Substitution read (operations_of behind) ∷ pieces_of rest)
-    × (0 < length (Substitution read (operations_of behind) ∷ [])) × (length rest < length text)
+    × (0 < length (Substitution read (operations_of behind) ∷ [])) × (length rest < length text) × (EndsText text behind × EndsText text rest)
 substitution_at text marked word behind rest read length_is size is starts length_eq word_is behind_is whole size_is within rest_is left read_is =
     let first : take length_is marked ≡ first_word marked =
     ap (λ (n : ℕ). take n marked) (length_eq ∙ length-prefix_len is_word_byte marked) in
     let known : read ≡ word_of (first_word marked) = read_is ∙ ap word_of (word_is ∙ first) in
     let split = substitution_is text marked behind rest size is starts (rw length_eq at behind_is) (omega (arith, whole, length_eq)) size_is within rest_is in
-    (rw known split, omega arith, omega (arith, left, whole, ap length is))
+    let front : behind ≡ drop (suc length_is) text = behind_is ∙ sym (ap (drop (suc length_is)) is) in
+    let back : rest ≡ drop (suc length_is + size) text =
+    rest_is ∙ ap (drop size) front ∙ drop-drop size (suc length_is) text in (
+      rw known split,
+      omega arith,
+      omega (arith, left, whole, ap length is),
+      ((suc length_is, omega (arith, whole, ap length is), front), (suc length_is + size, omega (arith, within, whole, ap length is), back)),
+    )
 
 -- ---- the end, and one stretch alone
+
+pub empty_is : (text : List ℕ) → length text ≡ 0 → text ≡ []
+empty_is [] empty = refl
+empty_is (byte ∷ text) empty = absurd (omega (arith, empty))
 
 pub end_pieces : (text : List ℕ) → text ≡ [] → pieces_of text ≡ []
 end_pieces text end = ap pieces_of end ∙ no_pieces

@@ -3,6 +3,7 @@ use Rattle.std.proofs.Common.{◌≡◌, ℕ, ◌<◌, Bool, true, false, List, 
 use Rattle.std.proofs.Common.{refl, ap, sym, ◌∙◌, arith, cond, append_assoc, length-append}
 use Rattle.std.proofs.lemmas.List.{append-nil}
 use Rattle.std.specs.Prelude.{nat_le, option_and_then}
+use Rattle.std.specs.Option.{MatchOption}
 use Rattle.std.specs.Result.{result_ok}
 use Rattle.std.specs.List.{list_all}
 use Rattle.std.proofs.lemmas.Bool.{false≢true}
@@ -11,9 +12,11 @@ use Rattle.bmc_base.specs.Names.{name_of}
 use Rattle.bmc_base.specs.Places.{Place}
 use Rattle.fru_area.specs.declared.field.Field.{Field}
 use Rattle.tmpl.specs.Operations.{digits, up_to}
-use Rattle.tmpl.specs.Templates.{Piece, Plain, begins_substitution, is_plain, is_fixed, pieces_of}
-use Rattle.tmpl.specs.Rendering.{followed, pieces_text, piece_text, rendered, rendered_number, number_digits}
-use Rattle.tmpl.specs.Stretches.{joined}
+use Rattle.tmpl.specs.declared.operation.Operation.{Operation}
+use Rattle.tmpl.specs.declared.word.Word.{Word}
+use Rattle.tmpl.specs.Templates.{Piece, Plain, Substitution, begins_substitution, is_plain, is_fixed, pieces_of}
+use Rattle.tmpl.specs.Rendering.{followed, pieces_text, piece_text, substituted, rendered, rendered_behind, rendered_number, number_digits}
+use Rattle.tmpl.specs.Stretches.{joined, Joins}
 use Rattle.tmpl.proofs.PiecesLemmas.{no_pieces, not_plain, plain_first}
 
 -- the text as a name
@@ -53,11 +56,16 @@ module _ (place : Option Place) (fields : Option (List Field)) (index : ℕ) whe
   plain_text [] = refl
   plain_text (byte ∷ text) = ap (followed (byte ∷ [])) (plain_text text)
 
-  -- what is rendered of a text behind another
-  abbrev pub rendered_behind : List ℕ → List ℕ → Option (List ℕ)
-  rendered_behind out rest = option_and_then as_name (followed out (text_of (pieces_of rest)))
+  -- a substitution alone is what it stands for
+  pub substitution_text : (word : Word) (operations : List Operation)
+      → text_of (Substitution (Some word) operations ∷ []) ≡ substituted place fields index word operations
+  substitution_text word operations = by (substituted place fields index word operations)
+    where
+      by : (text : Option (List ℕ)) → option_and_then (λ text. followed text (Some [])) text ≡ text
+      by None = refl
+      by (Some text) = ap Some (append-nil text)
 
-  pub rendered_start : (text : List ℕ) → rendered_behind [] text ≡ rendered place fields index text
+  pub rendered_start : (text : List ℕ) → rendered_behind place fields index [] text ≡ rendered place fields index text
   unfolding rendered
   rendered_start text = by (text_of (pieces_of text))
     where
@@ -65,14 +73,14 @@ module _ (place : Option Place) (fields : Option (List Field)) (index : ℕ) whe
       by None = refl
       by (Some text) = refl
 
-  pub rendered_end : (out rest : List ℕ) → rest ≡ [] → rendered_behind out rest ≡ as_name out
+  pub rendered_end : (out rest : List ℕ) → rest ≡ [] → rendered_behind place fields index out rest ≡ as_name out
   rendered_end out rest end =
       ap (λ (pieces : List Piece). option_and_then as_name (followed out (text_of pieces))) (ap pieces_of end ∙ no_pieces)
       ∙ ap as_name (append-nil out)
 
   -- a stretch on, where it has a text and there is room
   pub rendered_on : (out new text rest : List ℕ) (pieces : List Piece) → pieces_of text ≡ pieces ++ pieces_of rest → joined out (text_of pieces) ≡ Some new
-      → rendered_behind out text ≡ rendered_behind new rest
+      → rendered_behind place fields index out text ≡ rendered_behind place fields index new rest
   rendered_on out new text rest pieces split is =
       ap (λ (all : Option (List ℕ)). option_and_then as_name (followed out all)) (ap text_of split ∙ text_of-append pieces (pieces_of rest))
       ∙ ap (option_and_then as_name) (by (text_of pieces) is)
@@ -90,7 +98,7 @@ module _ (place : Option Place) (fields : Option (List Field)) (index : ℕ) whe
 
   -- and where it has none, or there is no room
   pub rendered_not : (out text rest : List ℕ) (pieces : List Piece) → pieces_of text ≡ pieces ++ pieces_of rest → joined out (text_of pieces) ≡ None
-      → rendered_behind out text ≡ None
+      → rendered_behind place fields index out text ≡ None
   rendered_not out text rest pieces split is =
       ap (λ (all : Option (List ℕ)). option_and_then as_name (followed out all)) (ap text_of split ∙ text_of-append pieces (pieces_of rest))
       ∙ by (text_of pieces) (text_of (pieces_of rest)) is
@@ -102,6 +110,14 @@ module _ (place : Option Place) (fields : Option (List Field)) (index : ℕ) whe
       by (Some first) (Some later) e =
           let long : 64 < length (out ++ first) = grind (arith, nat_tests, e) in
           too_long (out ++ (first ++ later)) (omega (arith, long, length-append out first, length-append out (first ++ later), length-append first later))
+
+  -- and as it was put behind, or not
+  pub rendered_joined : (out new text rest : List ℕ) (pieces : List Piece) (all : Option (List ℕ)) (result : Option (Unit {0}))
+      → pieces_of text ≡ pieces ++ pieces_of rest → text_of pieces ≡ all → Joins out new all result
+      → MatchOption result (rendered_behind place fields index out text ≡ None)
+      (λ done. rendered_behind place fields index out text ≡ rendered_behind place fields index new rest)
+  rendered_joined out new text rest pieces all None split is joins = rendered_not out text rest pieces split (ap (joined out) is ∙ joins)
+  rendered_joined out new text rest pieces all (Some done) split is joins = rendered_on out new text rest pieces split (ap (joined out) is ∙ joins)
 
   -- a text without substitutions is rendered as itself
   fixed_text : (text : List ℕ) → list_all is_plain (pieces_of text) ≡ true → text_of (pieces_of text) ≡ Some text

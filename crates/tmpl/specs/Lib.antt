@@ -5,4 +5,5 @@ pub mod Words
 pub mod Templates
 pub mod Rendering
 pub mod Stretches
+pub mod Leads
 pub mod Worked

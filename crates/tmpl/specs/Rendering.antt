@@ -64,6 +64,10 @@ module _ (place : Option Place) (fields : Option (List Field)) (index : ℕ) whe
   unfoldable pub rendered : List ℕ → Option (List ℕ)
   rendered text = option_and_then (λ text. result_ok (name_of text)) (pieces_text (pieces_of text))
 
+  -- what is rendered of a text behind another
+  abbrev pub rendered_behind : List ℕ → List ℕ → Option (List ℕ)
+  rendered_behind out rest = option_and_then (λ text. result_ok (name_of text)) (followed out (pieces_text (pieces_of rest)))
+
   -- the number that it is rendered as: 1 to 10 digits, and at most the maximum
   unfoldable pub rendered_number : List ℕ → ℕ → Option ℕ
   rendered_number text max = option_and_then (up_to max) (option_and_then (digits number_digits) (rendered text))

@@ -2,6 +2,7 @@
 #![tactic(auto)]
 
 mod digits;
+mod lead;
 mod number;
 mod operation;
 mod render;

@@ -81,6 +81,7 @@ fn operand_len(text: &[u8]) -> usize
 }
 
 // The operation at the front of a text, and the text behind it.
+#[inline(always)]
 fn next_operation(text: &[u8]) -> Option<(Operation, &[u8])>
     ensures { MatchOption result (operation_at text.now ≡ None)
         (λ found. FindsOperation text.now found.0 found.1.now) }

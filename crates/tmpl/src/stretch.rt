@@ -140,8 +140,17 @@ fn dollar_at(text: &[u8]) -> Option<usize>
     text.iter().position(|byte| *byte == b'$')
 }
 
+// Whether each piece of a text is right; a fixed one has no other.
+#[tactic(auto, unfolding(crate::specs::Templates::is_fixed))]
+pub(crate) fn all_right(text: &str, fixed: bool) -> bool
+    requires { fixed ≡ is_fixed text.now }
+    ensures { result ≡ list_all is_right (pieces_of text.now) }
+{
+    fixed || are_right(text)
+}
+
 // Whether each piece of a text is right.
-pub(crate) fn are_right(text: &str) -> bool
+fn are_right(text: &str) -> bool
     ensures { result ≡ list_all is_right (pieces_of text.now) }
 {
     let mut rest = text;

@@ -3,8 +3,9 @@ ghost use Rattle.tmpl.specs.Templates.{template_of, is_fixed, is_single, uses_in
 ghost use Rattle.tmpl.specs.Rendering.{fields_of, rendered, rendered_number, given};
 
 use crate::Spot;
-use crate::render::{named, number_in, render_text};
-use crate::stretch::{are_right, is_fixed, is_single, uses_index};
+use crate::lead::{Leads, leads_of};
+use crate::render::{named, number_in, push_text_of};
+use crate::stretch::{all_right, is_fixed, is_single, uses_index};
 use arrayvec::ArrayString;
 use bmc_base::Name;
 use std::alloc::Global;
@@ -39,18 +40,22 @@ pub enum Rendered {
 pub struct Template {
     text: ArrayString<LONGEST_TEMPLATE>,
     fixed: bool,
+    // What is known of its front; nothing of a fixed one.
+    leads: Leads,
 }
 
 impl Model for Template {
     ghost use Rattle.std.specs.Prelude.{ℕ, List, ◌≡◌, true};
     ghost use Rattle.tmpl.specs.Templates.{is_template, is_fixed};
+    ghost use Rattle.tmpl.specs.Leads.{AreLeads};
 
     ghost Value = { List ℕ };
 
     ghost view = { λ t. t.text.bytes };
 
     ghost invariant = { λ t. (is_template t.text.bytes ≡ true)
-        × (t.fixed ≡ is_fixed t.text.bytes) };
+        × (t.fixed ≡ is_fixed t.text.bytes)
+        × AreLeads t.text.bytes t.leads };
 }
 
 impl Template {
@@ -67,14 +72,16 @@ impl Template {
         if text.is_empty() {
             return Err(TmplFault::TemplateSyntax);
         }
-        if !are_right(text) {
+        let fixed = is_fixed(text);
+        if !all_right(text, fixed) {
             return Err(TmplFault::TemplateSyntax);
         }
         let mut held = ArrayString::new();
         match held.try_push_str(text) {
             Ok(()) => Ok(Template {
                 text: held,
-                fixed: is_fixed(text),
+                fixed,
+                leads: leads_of(text, fixed),
             }),
             Err(_) => Err(TmplFault::TemplateSyntax),
         }
@@ -92,8 +99,9 @@ impl Template {
         if self.fixed {
             return named(self.text.as_str());
         }
-        match render_text(self.text.as_str(), spot) {
-            Some(text) => named(text.as_str()),
+        let mut out = ArrayString::new();
+        match push_text_of(&mut out, self.text.as_str(), &self.leads, spot) {
+            Some(()) => named(out.as_str()),
             None => Rendered::Skip,
         }
     }
@@ -107,8 +115,9 @@ impl Template {
         if self.fixed {
             return number_in(self.text.as_str(), max);
         }
-        let text = render_text(self.text.as_str(), spot)?;
-        number_in(text.as_str(), max)
+        let mut out = ArrayString::new();
+        push_text_of(&mut out, self.text.as_str(), &self.leads, spot)?;
+        number_in(out.as_str(), max)
     }
 
     /// Whether it has no substitution, so that it is rendered the same everywhere.

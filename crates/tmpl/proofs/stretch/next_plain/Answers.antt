@@ -16,3 +16,4 @@ returns c =
     let some : 0 < length c.args.text.now = grind (arith, c.if-is_empty.ensures) in
     plain_stretch c.args.text.now c.split_at.result.0.now c.split_at.result.1.now c.plain_len.result some c.requires n
     c.split_at.ensures.front c.split_at.ensures.back (omega (arith, c.split_at.ensures.back_len, n))
+    (rw c.as_bytes.ensures.value at c.plain_len.ensures.within)

@@ -20,23 +20,26 @@ too_long held n empty refused = by (nat_lt 128 n) refl
 pub returns-then-is_empty : goal.returns-then-is_empty
 returns-then-is_empty c = sym (empty_not c.args.text.now (grind (arith, c.if-is_empty.ensures)))
 
-pub returns-then-not-are_right : goal.returns-then-not-are_right
-returns-then-not-are_right c = sym (wrong_not c.args.text.now (sym c.if-not-are_right.ensures))
+pub returns-then-not-all_right : goal.returns-then-not-all_right
+returns-then-not-all_right c = sym (wrong_not c.args.text.now (sym c.if-not-all_right.ensures))
 
 pub invariant_of-result : goal.invariant_of-result
 invariant_of-result c =
     let bytes : c.try_push_str.new.self.bytes ≡ c.args.text.now =
     c.in-Ok.ensures.ok ∙ ap (λ (held : List ℕ). held ++ c.args.text.now) c.new-held.ensures in
     let few = c.in-Ok.ensures.variant.0 refl in
-    let right = right_is c.args.text.now (grind (arith, c.if-is_empty.ensures)) (omega (arith, few)) (sym c.if-not-are_right.ensures) in
-    (ap is_template bytes ∙ right, c.is_fixed.ensures ∙ ap is_fixed (sym bytes))
+    let right = right_is c.args.text.now (grind (arith, c.if-is_empty.ensures)) (omega (arith, few)) (sym c.if-not-all_right.ensures) in (
+      ap is_template bytes ∙ right,
+      c.is_fixed-fixed.ensures ∙ ap is_fixed (sym bytes),
+      rw bytes c.leads_of.ensures,
+    )
 
 pub returns-in-Ok : goal.returns-in-Ok
 returns-in-Ok c =
     let bytes : c.try_push_str.new.self.bytes ≡ c.args.text.now =
     c.in-Ok.ensures.ok ∙ ap (λ (held : List ℕ). held ++ c.args.text.now) c.new-held.ensures in
     let few = c.in-Ok.ensures.variant.0 refl in
-    let right = right_is c.args.text.now (grind (arith, c.if-is_empty.ensures)) (omega (arith, few)) (sym c.if-not-are_right.ensures) in
+    let right = right_is c.args.text.now (grind (arith, c.if-is_empty.ensures)) (omega (arith, few)) (sym c.if-not-all_right.ensures) in
     sym (right_read c.args.text.now c.try_push_str.new.self.bytes right bytes)
 
 pub returns-in-Err : goal.returns-in-Err

@@ -14,18 +14,18 @@ returns-then-self c =
     ∙ number_is spot.place (fields_of spot.fru) spot.index c.args.self.now c.args.self.now c.args.max
     (fixed_is spot.place (fields_of spot.fru) spot.index c.args.self.now fixed)
 
-pub returns-in_err-text : goal.returns-in_err-text
-returns-in_err-text c =
+pub returns-in_err-push_text_of : goal.returns-in_err-push_text_of
+returns-in_err-push_text_of c =
     let spot = c.args.spot.now in
     let same = c.as_str-2.ensures.value ∙ c.self.view_is in
     c.from_residual.ensures
     ∙ number_none spot.place (fields_of spot.fru) spot.index c.args.self.now c.args.max
-    (ap (rendered spot.place (fields_of spot.fru) spot.index) (sym same) ∙ c.in_err-text.ensures)
+    (ap (rendered spot.place (fields_of spot.fru) spot.index) (sym same) ∙ c.in_err-push_text_of.ensures)
 
 pub returns : goal.returns
 returns c =
     let spot = c.args.spot.now in
     let same = c.as_str-2.ensures.value ∙ c.self.view_is in
     rw c.as_str-3.ensures.value at c.number_in-2.ensures
-    ∙ number_is spot.place (fields_of spot.fru) spot.index c.args.self.now c.in_ok-text.text.bytes c.args.max
-    (ap (rendered spot.place (fields_of spot.fru) spot.index) (sym same) ∙ c.in_ok-text.ensures)
+    ∙ number_is spot.place (fields_of spot.fru) spot.index c.args.self.now c.push_text_of.new.out.bytes c.args.max
+    (ap (rendered spot.place (fields_of spot.fru) spot.index) (sym same) ∙ c.in_ok-push_text_of.ensures)

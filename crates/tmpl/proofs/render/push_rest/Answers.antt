@@ -1,9 +1,9 @@
 -- A stretch more, and the end.
-use Rattle.std.proofs.Common.{List, ℕ, sym, ap, ◌∙◌, rules}
+use Rattle.std.proofs.Common.{refl, sym, ◌∙◌, rules}
 use Rattle.tmpl.specs.Rendering.{fields_of}
 use Rattle.tmpl.specs.Stretches.{stretch_pieces}
-use Rattle.tmpl.proofs.RenderingLemmas.{rendered_behind, rendered_start, rendered_on, rendered_not, rendered_end}
-use Rattle.tmpl.proofs.render.render_text.Goals as goal
+use Rattle.tmpl.proofs.RenderingLemmas.{rendered_on, rendered_not, rendered_end}
+use Rattle.tmpl.proofs.render.push_rest.Goals as goal
 
 pub returns-in_err-push_stretch : goal.returns-in_err-push_stretch
 returns-in_err-push_stretch c =
@@ -15,13 +15,7 @@ returns-in_err-push_stretch c =
     (stretch_pieces c.in-Some.stretch) begins.0 c.in_err-push_stretch.ensures)
 
 pub loop-stretch-init : goal.loop-stretch-init
-loop-stretch-init c =
-    let spot = c.args.spot.now in
-    record {
-      told = ap (λ (out : List ℕ). rendered_behind spot.place (fields_of spot.fru) spot.index out c.args.text.now) c.new-out.ensures
-          ∙ rendered_start spot.place (fields_of spot.fru) spot.index c.args.text.now;
-      utf8 = c.utf8.text;
-    }
+loop-stretch-init c = record { told = refl; utf8 = c.utf8.text }
 
 pub loop-stretch-preserved : goal.loop-stretch-preserved
 loop-stretch-preserved c =
