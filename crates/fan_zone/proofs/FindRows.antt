@@ -1,7 +1,7 @@
 -- A search for a row by the id of its plan, one row on; and where the ids differ, any one with the id is the first.
-use Rattle.std.proofs.Common.{◌≡◌, ℕ, zero, suc, ◌+◌, ◌<◌, Bool, true, false, ◌&&◌, ◌||◌, if◌then◌else◌, bytes_eq, List, [], ◌∷◌, length, map, drop}
-use Rattle.std.proofs.Common.{get_or, Some, None, refl, ap, sym, ◌∙◌, subst, arith}
-use Rattle.std.specs.List.{AllByRecursion, IsDistinct, list_any}
+use Rattle.std.proofs.Common.{◌≡◌, ℕ, zero, suc, ◌+◌, ◌<◌, Bool, true, false, if◌then◌else◌, List, [], ◌∷◌, length, map, drop}
+use Rattle.std.proofs.Common.{get_or, Some, refl, ap, sym, ◌∙◌, subst, arith}
+use Rattle.std.specs.List.{AllByRecursion, IsDistinct}
 use Rattle.std.proofs.lemmas.Bool.{true≢false}
 use Rattle.std.proofs.lemmas.List.{drop_more}
 use Rattle.std.proofs.lemmas.Map.Keys.{IsDistinct-head, IsDistinct-tail}
@@ -11,11 +11,11 @@ use Rattle.fan_zone.specs.declared.rows.ZoneRow.{ZoneRow}
 use Rattle.fan_zone.specs.declared.rows.FanPlan.{FanPlan}
 use Rattle.fan_zone.specs.declared.rows.FanRow.{FanRow}
 use Rattle.fan_zone.specs.declared.held.Held.{Held}
-use Rattle.fan_zone.specs.Live.{LiveControl, id_eq}
+use Rattle.fan_zone.specs.Live.{id_eq}
 use Rattle.fan_zone.specs.Sets.{find_held}
 use Rattle.fan_zone.specs.Sound.{HaveOwnIds, held_id, zone_plan_id, fan_plan_id}
 use Rattle.fan_zone.proofs.EqualLemmas.{id_same, id_self}
-use Rattle.fan_zone.specs.SetRows.{find_zone, find_fan, first_from, commands_fans, some_command_fans}
+use Rattle.fan_zone.specs.SetRows.{find_zone, find_fan}
 
 nothing : IsDistinct id_eq []
 unfolding IsDistinct
@@ -91,15 +91,3 @@ find_held_at id (held ∷ old) zero d own lt is = ap (λ (b : Bool). if b then S
 find_held_at id (held ∷ old) (suc n) d own lt is =
     ap (λ (b : Bool). if b then Some held else find_held id old) (not_first held_id id held old n d own (omega (arith, lt)) is)
     ∙ find_held_at id old n d (IsDistinct-tail id_eq held.id (map held_id old) own) (omega (arith, lt)) is
-
-neither : (one other : Bool) → (one || other) ≡ false → (one ≡ false) × (other ≡ false)
-neither true other is = absurd (true≢false is)
-neither false other is = (refl, is)
-
--- no controller holds a fan where none commands fans
-pub held_by_none : (n : ℕ) (name : List ℕ) (cs : List LiveControl) → some_command_fans cs ≡ false → first_from n name cs ≡ None
-held_by_none n name [] none = refl
-held_by_none n name (c ∷ cs) none =
-    let both = neither (commands_fans c.item) (some_command_fans cs) none in
-    ap (λ (b : Bool). if b && list_any (bytes_eq name) c.item.outputs then Some n else first_from (suc n) name cs) both.0
-    ∙ held_by_none (suc n) name cs both.1

@@ -28,3 +28,5 @@ pub mod OwnBoxes
 pub mod SettingsLaw
 pub mod MachineLemmas
 pub mod ValuesLaw
+pub mod ControlsLemmas
+pub mod OutputsLemmas

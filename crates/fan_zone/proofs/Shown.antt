@@ -72,7 +72,8 @@ more_none slots now bank zone row =
     ap (λ (b : Bool). row_of row.name b (raised_by [] row.setpoint)) (or-false row.failsafe) ∙ ap (row_of row.name row.failsafe) (raised_none row.setpoint)
 
 -- what the loop keeps: with what the controllers from n on tell, the rows are those of the definition
-pub record Shown (slots : List (Option Sensor)) (now : ℕ) (plans : List ZonePlan) (held : List Held) (bank : List Seen) (start rows : List ZoneRow) (n : ℕ) : Type 0
+pub record Shown (slots : List (Option Sensor)) (now : ℕ) (plans : List ZonePlan) (held : List Held) (bank : List Seen)
+    (start rows : List ZoneRow) (n : ℕ) : Type 0
   where
     pub small : AreSmallRows rows
     pub rest : numbered (with_more slots now bank (drop n held)) 0 rows ≡ numbered (zone_row slots now plans held bank) 0 start

@@ -1,5 +1,5 @@
--- The row of a zone as far as the walk over the controllers has come.
-use Rattle.std.specs.Prelude.{ℕ, false, ◌||◌, List, Option, Some, option_map, slice_get}
+-- The row of a zone as far as the walk over the controllers has come, and the duty that the fans of a holder get.
+use Rattle.std.specs.Prelude.{◌≡◌, ℕ, ℤ, Bool, false, ◌||◌, List, Option, Some, option_map, slice_get}
 use Rattle.bmc_base.specs.declared.milli.Milli.{Milli}
 use Rattle.ctl_face.specs.Seen.{Seen}
 use Rattle.fan_zone.specs.declared.held.Held.{Held}
@@ -8,7 +8,7 @@ use Rattle.fan_zone.specs.declared.rows.ZoneRow.{ZoneRow}
 use Rattle.sensor_core.specs.Sensors.{Sensor}
 use Rattle.fan_zone.specs.Inputs.{has_bad_input}
 use Rattle.fan_zone.specs.Passes.{milli}
-use Rattle.fan_zone.specs.Rows.{raised, thermal_output, min_thermal}
+use Rattle.fan_zone.specs.Rows.{raised, thermal_output, min_thermal, held_at, held_duty}
 
 -- no controller of the zone was seen yet
 abbrev pub bare_row : List ZonePlan → ℕ → ZoneRow → ZoneRow
@@ -21,3 +21,7 @@ with_held slots now bank held row = record {
   failsafe = row.failsafe || has_bad_input slots now held.inputs;
   setpoint = option_map (λ (best : Milli). milli (raised best.0 (thermal_output held.zone bank held))) row.setpoint;
 }
+
+-- this is the duty of the fans of a holder
+abbrev pub IsCommanded : Bool → List Seen → List ZonePlan → List ZoneRow → List Held → Option ℕ → ℤ → Type 0
+IsCommanded strict bank plans rows held holder duty = duty ≡ held_duty strict bank plans rows (held_at held holder)

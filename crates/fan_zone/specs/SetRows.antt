@@ -1,9 +1,11 @@
 -- What a new list of live items makes of the rows.
-use Rattle.std.specs.Prelude.{ℕ, suc, bytes_eq, Bool, false, ◌&&◌, if◌then◌else◌, List, [], ◌∷◌, Option, Some, None}
+use Rattle.std.specs.Prelude.{ℕ, suc, bytes_eq, Bool, true, false, ◌&&◌, if◌then◌else◌, List, [], ◌∷◌, Option, Some, None}
 use Rattle.std.specs.List.{list_any}
 use Rattle.std.specs.Option.{is_none}
 use Rattle.cfg_json.specs.declared.item.ItemId.{ItemId}
 use Rattle.cfg_json.specs.declared.item.ControlItem.{ControlItem}
+use Rattle.cfg_json.specs.declared.item.ItemPart.{ItemPart}
+use Rattle.cfg_json.specs.declared.item.ItemPart.TheVariants as parts
 use Rattle.fan_zone.specs.Live.{LiveControl, LiveZone, LiveFan, id_eq}
 use Rattle.fan_zone.specs.declared.rows.ZonePlan.{ZonePlan}
 use Rattle.fan_zone.specs.declared.rows.ZoneRow.{ZoneRow}
@@ -29,13 +31,18 @@ kept_zone name (Some row) = record { name = name; failsafe = row.failsafe; setpo
 abbrev pub zone_row_of : List ZonePlan → List ZoneRow → LiveZone → ZoneRow
 zone_row_of plans rows zone = kept_zone zone.name (find_zone zone.id plans rows)
 
+-- whether an item is a controller
+abbrev pub is_control : ItemPart → Bool
+is_control (parts.Control item) = true
+is_control (parts.Zone setting) = false
+is_control parts.Fan = false
+is_control (parts.Sensor sensor) = false
+is_control (parts.Mux part) = false
+is_control parts.Passive = false
+
 -- whether a controller commands fans
 abbrev pub commands_fans : ControlItem → Bool
 commands_fans item = is_none (thermal_setpoint (role_of item.setting))
-
--- whether one of some controllers does
-abbrev pub some_command_fans : List LiveControl → Bool
-some_command_fans controls = list_any (λ (control : LiveControl). commands_fans control.item) controls
 
 -- whether a controller commands fans, and names this one as an output
 abbrev pub outputs_to : List ℕ → ControlItem → Bool

@@ -1,4 +1,4 @@
-ghost use Rattle.std.specs.Prelude.{◌≡◌, ◌<◌, length, map, slice_set, IsSome, Some, option_map};
+ghost use Rattle.std.specs.Prelude.{◌≡◌, ◌<◌, length, map, slice_set, IfOk, IsSome};
 ghost use Rattle.ctl_face.specs.Ranges.{IsMilli, IsValid, IsValidSample};
 ghost use Rattle.ctl_face.specs.Seen.{Seen, loaded, stepped, unloaded};
 ghost use Rattle.ctl_face.specs.Kinds.{kind_of};
@@ -7,29 +7,39 @@ ghost use Rattle.fan_zone.specs.Sets.{cleared, cleared_box, free, is_taken};
 ghost use Rattle.fan_zone.specs.Sound.{AreSeated, AreSpare, HasSmallOutput, number_of};
 
 use crate::held::Held;
+use bmc_base::OutOfMemory;
 use ctl_face::{Controller, Kind, Sample, Setting};
+use std::alloc::Global;
 use std::marker::Model;
 
-/// The boxes, each under its number from 0 on.
+/// The boxes, each under its number from 0 on. Their last outputs stand beside them, so that a box is not called to read one.
 #[derive(Drop)]
 pub(crate) struct Bank<C: Controller> {
     boxes: Vec<C>,
+    outputs: Vec<Option<i64>>,
 }
 
 impl<C: Controller> Model for Bank<C> {
-    ghost use Rattle.std.specs.Prelude.{List, map};
+    ghost use Rattle.std.specs.Prelude.{◌≡◌, List, map};
     ghost use Rattle.ctl_face.specs.Seen.{Seen};
+    ghost use Rattle.fan_zone.specs.Boxes.{outputs_of};
 
     ghost Value = { List Seen };
 
     ghost view = { λ b. map C.seen b.boxes.items };
+
+    ghost invariant = { λ b. b.outputs.items ≡ outputs_of (map C.seen b.boxes.items) };
 }
 
 impl<C: Controller> Bank<C> {
-    pub(crate) fn new(boxes: Vec<C>) -> Bank<C>
-        ensures { result ≡ map C.seen boxes.items }
+    pub(crate) fn new(alloc: Global, boxes: Vec<C>) -> Result<Bank<C>, OutOfMemory>
+        ensures { IfOk result (λ bank. bank ≡ map C.seen boxes.items) }
     {
-        Bank { boxes }
+        let mut outputs = Vec::with_capacity(alloc, boxes.len())?;
+        for controller in &boxes {
+            outputs.push(controller.state().output)?;
+        }
+        Ok(Bank { boxes, outputs })
     }
 
     pub(crate) fn len(&self) -> usize
@@ -47,7 +57,8 @@ impl<C: Controller> Bank<C> {
         ensures small { HasSmallOutput (stepped (box_at self.old number) sample) }
     {
         let controller = &mut self.boxes[number];
-        controller.step(sample);
+        let output = controller.step(sample);
+        self.outputs[number] = Some(output.0);
     }
 
     /// The last output of a box, in thousandths.
@@ -55,8 +66,7 @@ impl<C: Controller> Bank<C> {
         requires { number < length self.now }
         ensures { result ≡ (box_at self.now number).state.output }
     {
-        let controller = &self.boxes[number];
-        controller.state().output
+        self.outputs[number]
     }
 
     // The kind of a box.
@@ -77,6 +87,7 @@ impl<C: Controller> Bank<C> {
     {
         let controller = &mut self.boxes[number];
         controller.load(setting);
+        self.outputs[number] = None;
     }
 
     // Unloads one box.
@@ -86,6 +97,7 @@ impl<C: Controller> Bank<C> {
     {
         let controller = &mut self.boxes[number];
         controller.clear();
+        self.outputs[number] = None;
     }
 
     // Unloads one box, unless it is taken.

@@ -4,7 +4,7 @@ ghost use Rattle.std.specs.Vec.{vec_capacity};
 ghost use Rattle.std.specs.List.{list_any};
 ghost use Rattle.fan_zone.specs.Live.{controls, fans, items_of, zones};
 ghost use Rattle.fan_zone.specs.Sound.{HaveOwnIds, fan_plan_id, zone_plan_id};
-ghost use Rattle.fan_zone.specs.SetRows.{commands_fans, outputs_to, some_command_fans, first_from};
+ghost use Rattle.fan_zone.specs.SetRows.{commands_fans, is_control, outputs_to, first_from};
 ghost use Rattle.fan_zone.specs.SetRows.{fan_plan_of, fan_row_of, find_fan, find_zone, kept_zone, plan_of, zone_row_of};
 
 use crate::passes::thermal_setpoint;
@@ -121,20 +121,6 @@ fn commands_fans(control: &ControlItem) -> bool
     thermal_setpoint(role_of(&control.setting)).is_none()
 }
 
-// Whether one of the controllers commands fans.
-fn some_command_fans(live: &[&Item]) -> bool
-    ensures { result ≡ some_command_fans (controls (items_of live.now)) }
-{
-    for item in live {
-        if let ItemPart::Control(control) = &item.part {
-            if commands_fans(control.get()) {
-                return true;
-            }
-        }
-    }
-    false
-}
-
 // Whether it is a fan controller that outputs to this name.
 fn outputs_to(control: &ControlItem, name: &Name) -> bool
     ensures { result ≡ outputs_to name.now control.now }
@@ -149,15 +135,45 @@ fn has_name(names: &[Name], name: &Name) -> bool
     names.iter().any(|one| same_name(name, one))
 }
 
-// The number of the controller that holds a fan. Where no controller commands fans, it does not look.
-#[tactic(auto, using(crate::proofs::FindRows::held_by_none))]
-fn holder(live: &[&Item], some_command: bool, name: &Name) -> Option<usize>
-    requires { some_command ≡ some_command_fans (controls (items_of live.now)) }
+// Whether an item is a controller.
+fn is_control(item: &Item) -> bool
+    ensures { result ≡ is_control item.now.part }
+{
+    match &item.part {
+        ItemPart::Control(_) => true,
+        _ => false,
+    }
+}
+
+// The items from the first controller on.
+fn from_first<'l, 'i>(live: &'l [&'i Item]) -> &'l [&'i Item]
+    ensures { controls (items_of result.now) ≡ controls (items_of live.now) }
+{
+    for at in 0..live.len() {
+        if is_control(live[at]) {
+            return &live[at..];
+        }
+    }
+    &[]
+}
+
+// The items up to the last controller.
+fn to_last<'l, 'i>(live: &'l [&'i Item]) -> &'l [&'i Item]
+    ensures { controls (items_of result.now) ≡ controls (items_of live.now) }
+{
+    for behind in 0..live.len() {
+        let end = live.len() - behind;
+        if is_control(live[end - 1]) {
+            return &live[..end];
+        }
+    }
+    &[]
+}
+
+// The number of the controller that holds a fan.
+fn holder(live: &[&Item], name: &Name) -> Option<usize>
     ensures { result ≡ first_from 0 name.now (controls (items_of live.now)) }
 {
-    if !some_command {
-        return None;
-    }
     let mut number = 0;
     for item in live {
         if let ItemPart::Control(control) = &item.part {
@@ -210,16 +226,14 @@ fn add_fan(
     plans: &[FanPlan],
     rows: &[FanRow],
     cursor: &mut usize,
-    live: &[&Item],
-    some_command: bool,
+    controllers: &[&Item],
     item: &Item,
 )
     requires plans { length next_plans.old.items + length (fans (item.now ∷ [])) ≤ vec_capacity next_plans.old }
     requires rows { length next_rows.old.items + length (fans (item.now ∷ [])) ≤ vec_capacity next_rows.old }
     requires same { length plans.now ≡ length rows.now }
     requires ids { HaveOwnIds fan_plan_id plans.now }
-    requires command { some_command ≡ some_command_fans (controls (items_of live.now)) }
-    ensures plans { next_plans.new.items ≡ next_plans.old.items ++ map (fan_plan_of (controls (items_of live.now))) (fans (item.now ∷ [])) }
+    ensures plans { next_plans.new.items ≡ next_plans.old.items ++ map (fan_plan_of (controls (items_of controllers.now))) (fans (item.now ∷ [])) }
     ensures rows { next_rows.new.items ≡ next_rows.old.items ++ map (fan_row_of plans.now rows.now) (fans (item.now ∷ [])) }
     ensures room_plans { vec_capacity next_plans.old ≤ vec_capacity next_plans.new }
     ensures room_rows { vec_capacity next_rows.old ≤ vec_capacity next_rows.new }
@@ -229,7 +243,7 @@ fn add_fan(
             next_plans,
             FanPlan {
                 id: item.id,
-                holder: holder(live, some_command, &item.name),
+                holder: holder(controllers, &item.name),
             },
         );
         put(
@@ -279,7 +293,7 @@ pub(crate) fn add_fans(
     ensures room_plans { vec_capacity next_plans.old ≤ vec_capacity next_plans.new }
     ensures room_rows { vec_capacity next_rows.old ≤ vec_capacity next_rows.new }
 {
-    let some_command = some_command_fans(live);
+    let controllers = to_last(from_first(live));
     let mut cursor = 0;
     for item in live {
         add_fan(
@@ -288,8 +302,7 @@ pub(crate) fn add_fans(
             plans,
             rows,
             &mut cursor,
-            live,
-            some_command,
+            controllers,
             item,
         );
     }

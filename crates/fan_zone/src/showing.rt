@@ -4,7 +4,7 @@ ghost use Rattle.std.specs.Option.{ForSome};
 ghost use Rattle.ctl_face.specs.Ranges.{IsMilli};
 ghost use Rattle.fan_zone.specs.Rows.{commanded, failsafe_percent, fan_row, held_at, held_duty, is_failsafe, min_thermal, numbered};
 ghost use Rattle.fan_zone.specs.Rows.{raised, thermal_output, zone_row};
-ghost use Rattle.fan_zone.specs.RowSteps.{bare_row, with_held};
+ghost use Rattle.fan_zone.specs.RowSteps.{IsCommanded, bare_row, with_held};
 ghost use Rattle.fan_zone.specs.Sound.{AreInZones, AreSeated, AreSmall, AreSmallPlans, AreSmallRows, HasSmallRow, IsSeated};
 ghost use Rattle.fan_zone.specs.Ticks.{aged};
 
@@ -163,7 +163,38 @@ fn duty<C: Controller>(
     }
 }
 
-/// Shows the duty of each fan.
+// What the fans of a holder are commanded.
+#[derive(Clone, Copy)]
+struct Command {
+    holder: Option<usize>,
+    duty: Milli,
+}
+
+// What the fans of this holder are commanded, which is looked up where it is not the holder of the last fan.
+fn command_of<C: Controller>(
+    last: Command,
+    holder: Option<usize>,
+    held: &[Held],
+    bank: &Bank<C>,
+    plans: &[ZonePlan],
+    rows: &[ZoneRow],
+    strict: bool,
+) -> Command
+    requires seats { AreSeated bank.now held.now }
+    requires plans { length plans.now ≡ length rows.now }
+    requires zones { AreInZones rows.now held.now }
+    requires last { IsCommanded strict bank.now plans.now rows.now held.now last.holder last.duty.0 }
+    ensures duty { IsCommanded strict bank.now plans.now rows.now held.now holder result.duty.0 }
+    ensures holder { result.holder ≡ holder }
+{
+    if holder == last.holder {
+        return last;
+    }
+    let duty = duty(holder, held, bank, plans, rows, strict);
+    Command { holder, duty }
+}
+
+/// Shows the duty of each fan. Fans that one controller holds mostly stand together, so it is mostly looked up once for all.
 pub(crate) fn show_fans<C: Controller>(
     fans: &mut [FanRow],
     fan_plans: &[FanPlan],
@@ -179,10 +210,15 @@ pub(crate) fn show_fans<C: Controller>(
     requires fans { length fan_plans.now ≡ length fans.old }
     ensures { fans.new ≡ numbered (fan_row strict held.now bank.now plans.now rows.now fan_plans.now) 0 fans.old }
 {
+    let mut last = Command {
+        holder: None,
+        duty: Milli(100_000),
+    };
     for fan in 0..fans.len() {
-        let duty = duty(fan_plans[fan].holder, held, bank, plans, rows, strict);
+        let holder = fan_plans[fan].holder;
+        last = command_of(last, holder, held, bank, plans, rows, strict);
         let row = &mut fans[fan];
-        row.duty = Some(duty);
+        row.duty = Some(last.duty);
     }
 }
 

@@ -76,7 +76,7 @@ impl<C: Controller> Zones<C> {
         requires { All (λ seen. seen ≡ unloaded seen.kind) (map C.seen bank.items) }
         ensures { IfOk result (λ zones. zones ≡ no_zones (map C.seen bank.items)) }
     {
-        let bank = Bank::new(bank);
+        let bank = Bank::new(alloc, bank)?;
         let boxes = bank.len();
         Ok(Zones {
             bank,

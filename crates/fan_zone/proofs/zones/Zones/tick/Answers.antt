@@ -119,7 +119,8 @@ invariant_of-self g c =
           old.fan_plans;
       fan_rows = fans;
     }) in
-    let sound = subst family (sym ages) (sound_aged old c.step_fans.new.bank rows fans c.self.invariant.0 seats c.step_fans.ensures.small typed spare zones fan) in
+    let sound =
+    subst family (sym ages) (sound_aged old c.step_fans.new.bank rows fans c.self.invariant.0 seats c.step_fans.ensures.small typed spare zones fan) in
     let boxes : length c.step_fans.new.bank ≡ length i.bank =
     ap length c.step_fans.ensures.state ∙ (length-pass (fan_sample c.args.sensors.now.slots c.args.now c.deref-5.result.now) c.deref-4.result.now
     c.step_thermals.new.bank
