@@ -95,6 +95,7 @@ fn apply<L: Ledger, C: Controller>(
 }
 
 // Does what a command asks for.
+#[inline(always)]
 #[tactic(auto, using(crate::proofs::RunsLemmas::silent_answers, crate::proofs::RunsLemmas::refused_answers))]
 fn run_command<L: Ledger, C: Controller>(
     alloc: Global,
@@ -120,6 +121,7 @@ fn run_command<L: Ledger, C: Controller>(
 }
 
 // Takes a line that asks for no block.
+#[inline(always)]
 fn take_line<L: Ledger, C: Controller>(
     alloc: Global,
     core: &mut Core<L, C>,
@@ -186,6 +188,7 @@ impl<L: Ledger, C: Controller> Run<L, C> {
     }
 
     // Gathers what is printed of an item, or notes what is still to be done of it, and counts it.
+    #[inline(always)]
     fn count_item(&mut self, origin: Origin, effect: Effect) -> Result<(), OutOfMemory>
         requires few { self.old.number < 2 ^ 63 }
         requires none { self.old.pending ≡ Pending.Nothing }
@@ -208,6 +211,7 @@ impl<L: Ledger, C: Controller> Run<L, C> {
     }
 
     // Does what an item asks for; at the end there is none.
+    #[inline(always)]
     fn answer<M: PatternMaker>(
         &mut self,
         alloc: Global,

@@ -211,6 +211,7 @@ fn read_show(rest: &[u8]) -> Result<Command, ScriptFault>
 }
 
 // Reads a line that is no comment.
+#[inline(never)]
 #[tactic(auto, unfolding(crate::specs::Commands::words_of))]
 fn read_words(alloc: Global, line: &[u8]) -> Result<Command, ScriptFault>
     ensures { GivesCommand result (words_of line.now) }
@@ -230,6 +231,7 @@ fn read_words(alloc: Global, line: &[u8]) -> Result<Command, ScriptFault>
 
 impl Command {
     /// Reads the command of a line, without its newline. The line may hold any bytes.
+    #[inline(always)]
     #[tactic(auto, unfolding(crate::specs::Commands::command_of))]
     pub fn read(alloc: Global, line: &[u8]) -> Result<Command, ScriptFault>
         ensures { GivesCommand result (command_of line.now) }
