@@ -249,7 +249,8 @@ module _ (old : StateView) (step : Step) (new : SensesView) (still : is_tick ste
       let told = ap (list_any (concerns_zones [])) (sym (notes.stand past stood.senses).2) ∙ none in
       let kept = acting_stays [] step past then.watch.legal (told_apart [] step past told) in
       zones_stay old.zones old.senses.sensors new.sensors step past still kept
-      (subst (AllByRecursion (KeepsInputs old.senses.sensors new.sensors)) (sym (no_controls past (none_mapped (zone_now past) (zones (live_now past)) (sym stood.zones.zone_rows ∙ empty)))) tt)
+      (subst (AllByRecursion (KeepsInputs old.senses.sensors new.sensors))
+      (sym (no_controls past (none_mapped (zone_now past) (zones (live_now past)) (sym stood.zones.zone_rows ∙ empty)))) tt)
       stood.zones
 
   -- and where they may stay

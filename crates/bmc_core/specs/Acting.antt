@@ -47,8 +47,8 @@ asks_by changes parts.Passive = false
 abbrev pub asks_for_some : List Change → Item → Bool
 asks_for_some changes item = asks_by changes item.part
 
--- zones may stay as they are behind an event: by the last changes they have nothing to do with the live items that are gone and with those that are
--- new, where the controllers among the live items ask for sensors; without a zone there is no controller
+-- zones may stay as they are behind an event: its changes tell of no zone, no fan, no controller, and of no sensor that a live controller has as an
+-- input. Where there is no zone there is no controller, so that sensors do not count
 abbrev pub MayStay : ZonesView → WatchView → Type 0
 MayStay zones watch =
     (list_any (concerns_zones (live (view_items watch))) watch.changes ≡ false)

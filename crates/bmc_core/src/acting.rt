@@ -123,7 +123,7 @@ fn is_among(name: &Name, names: &[Name]) -> bool
     names.iter().any(|one| same_name(name, one))
 }
 
-// Whether a change is that a zone, a fan or a controller is gone or new.
+// Whether a change tells that a zone, a fan or a controller is gone or new.
 fn is_acting(change: &Change) -> bool
     ensures { result ≡ concerns_zones [] change.now }
 {
@@ -136,14 +136,14 @@ fn is_acting(change: &Change) -> bool
     }
 }
 
-// Whether one of some changes is.
+// Whether one of some changes tells that.
 fn some_act(changes: &[Change]) -> bool
     ensures { result ≡ list_any (concerns_zones []) changes.now }
 {
     changes.iter().any(|change| is_acting(change))
 }
 
-// Whether a change is that a sensor is gone or new which has one of these names.
+// Whether a change tells that a sensor with one of these names is gone or new.
 fn is_named(change: &Change, names: &[Name]) -> bool
     ensures { result ≡ is_named names.now change.now }
 {
@@ -156,14 +156,14 @@ fn is_named(change: &Change, names: &[Name]) -> bool
     }
 }
 
-// Whether one of some changes is.
+// Whether one of some changes tells that.
 fn some_named(changes: &[Change], names: &[Name]) -> bool
     ensures { result ≡ list_any (is_named names.now) changes.now }
 {
     changes.iter().any(|change| is_named(change, names))
 }
 
-// Whether an item is a controller with an input that is gone or new by these changes.
+// Whether an item is a controller, and one of its inputs is gone or new by these changes.
 fn asks_for_some(item: &Item, changes: &[Change]) -> bool
     ensures { result ≡ asks_for_some changes.now item.now }
 {
@@ -173,14 +173,14 @@ fn asks_for_some(item: &Item, changes: &[Change]) -> bool
     }
 }
 
-// Whether one of some items is.
+// Whether one of some items is such a controller.
 fn some_ask(items: &[Item], changes: &[Change]) -> bool
     ensures { result ≡ list_any (asks_for_some changes.now) items.now }
 {
     items.iter().any(|item| asks_for_some(item, changes))
 }
 
-// Whether one of some boards has such an item.
+// Whether one of some boards has such a controller.
 fn some_have_asking(boards: &[Shown], changes: &[Change]) -> bool
     ensures { result ≡ list_any (λ (board : BoardShown). list_any (asks_for_some changes.now) board.items.items) boards.now }
 {

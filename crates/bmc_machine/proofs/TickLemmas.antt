@@ -335,7 +335,8 @@ module _ (past : List Step) (sensors : LiveSensors) (view : ZonesView) (stand : 
         by (Some zone) is = ap (λ (row : ZoneRow). unwrap_or row.setpoint (milli (pos 0))) (zone_then zone (zone_lives zone is))
 
     blow_is : blow held ≡ fan_sample_now control past
-    blow_is = λ i. fan_sample_at (thermal_setpoint (role control held k i)) (input_of (role control held k i) (goods now (inputs control held k i))) (setpoint_is i)
+    blow_is = λ i.
+        fan_sample_at (thermal_setpoint (role control held k i)) (input_of (role control held k i) (goods now (inputs control held k i))) (setpoint_is i)
 
     -- its box after the tick
     box_then : box_at bank_then held.number ≡ box_now (Tick ∷ past) control
@@ -396,7 +397,8 @@ module _ (past : List Step) (sensors : LiveSensors) (view : ZonesView) (stand : 
         zone_same : held.zone ≡ unwrap_or (zone_of rows control.item.zone) 0
         zone_same =
             zone_is control held k
-            ∙ ap (λ (n : Option ℕ). unwrap_or n 0) (sym (number control held k).1 ∙ sym (number_is (zone_now (Tick ∷ past)) (zone_name (Tick ∷ past)) 0 control.item.zone all))
+            ∙ ap (λ (n : Option ℕ). unwrap_or n 0)
+            (sym (number control held k).1 ∙ sym (number_is (zone_now (Tick ∷ past)) (zone_name (Tick ∷ past)) 0 control.item.zone all))
             ∙ ap (λ (rows : List ZoneRow). unwrap_or (zone_of rows control.item.zone) 0) (sym rows_are)
 
         names : aged held ≡ held_of rows sensors control (seat_of (aged held))

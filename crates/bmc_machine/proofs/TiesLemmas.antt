@@ -49,7 +49,8 @@ later_empty [] back none = none
 later_empty (text ∷ front) back none = absurd (cc)
 
 -- where there is one for each item
-pub verdicts_answer : (origin : Origin) (number : ℕ) (past : List Step) (items : List Item) (verdicts others : List Verdict) → AreTied items verdicts → AreTied items others
+pub verdicts_answer : (origin : Origin) (number : ℕ) (past : List Step) (items : List Item) (verdicts others : List Verdict)
+    → AreTied items verdicts → AreTied items others
     → length verdicts ≡ length items → length others ≡ length items → large_texts verdicts ≡ [] → large_texts others ≡ []
     → answers origin number past verdicts items ≡ answers origin number past others items
 unfolding answers
@@ -58,7 +59,8 @@ verdicts_answer origin number past (item ∷ items) [] others tied also_tied eac
 verdicts_answer origin number past (item ∷ items) (verdict ∷ verdicts) [] tied also_tied each also_each small also_small = absurd (omega (arith, also_each))
 verdicts_answer origin number past (item ∷ items) (verdict ∷ verdicts) (other ∷ others) tied also_tied each also_each small also_small =
     ap (λ (it : Answer). and_then it (answers origin (number + 1) it.past verdicts items)) same
-    ∙ ap (and_then first) (verdicts_answer origin (number + 1) first.past items verdicts others tied.1 also_tied.1 (omega (arith, each)) (omega (arith, also_each))
+    ∙ ap (and_then first)
+    (verdicts_answer origin (number + 1) first.past items verdicts others tied.1 also_tied.1 (omega (arith, each)) (omega (arith, also_each))
     (later_empty (large_in verdict) (large_texts verdicts) small) (later_empty (large_in other) (large_texts others) also_small))
   where
     first : Answer

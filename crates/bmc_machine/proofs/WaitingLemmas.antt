@@ -1,6 +1,7 @@
 -- Steps that are no ticks. One that leaves the live items that act in zones, and the slots of their inputs, leaves zones, controllers and fans as they
 -- are; and no step but a tick changes what zones and fans show.
-use Rattle.std.proofs.Common.{◌≡◌, ℕ, ◌%◌, bytes_eq, List, [], ◌∷◌, ◌++◌, map, filter, Bool, true, false, cond, Option, Some, None, unwrap_or, refl, sym, ap, ap₂}
+use Rattle.std.proofs.Common.{◌≡◌, ℕ, ◌%◌, bytes_eq, List, [], ◌∷◌, ◌++◌, map, filter, Bool, true, false, cond}
+use Rattle.std.proofs.Common.{Option, Some, None, unwrap_or, refl, sym, ap, ap₂}
 use Rattle.std.proofs.Common.{◌∙◌, subst, flat_map}
 use Rattle.std.specs.Map.{lookup}
 use Rattle.std.specs.List.{AllByRecursion}

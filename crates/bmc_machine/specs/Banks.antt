@@ -24,7 +24,8 @@ pub record HasBank (bank : List Seen) : Type 0 where
   pub boxes : (kind : Kind) → most_controls kind ≤ count_by (λ (each : Kind). kind_eq each kind) (kinds_of bank)
 
 -- live items that zones can take, whatever they were before: there are no more zones, fans and controllers than the limits say; zones, fans and
--- controllers have ids of their own; controllers have valid settings and few inputs, and stand in one of the zones; and the numbers of zones are in their ranges
+-- controllers have ids of their own; they have valid settings and few inputs, and stand in one of the zones; and the numbers of zones are in
+-- their ranges
 pub record AreFit (live : List Item) : Type 0 where
   pub few_zones : length (zones live) ≤ most_zones
   pub few_fans : length (fans live) ≤ most_fans

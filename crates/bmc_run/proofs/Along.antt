@@ -154,8 +154,11 @@ ended_begins : (first : Answer) (left left_now : Option (List ℕ)) (taken : Lis
     → Consumes left left_now taken → IsAtEnd left_now → HasEnded first taken verdicts so_far → Begins first left verdicts (with_list so_far)
 ended_begins first None left_now taken verdicts so_far consumed at_end machine = tt
 ended_begins first (Some script) None taken verdicts so_far consumed at_end machine = absurd consumed
-ended_begins first (Some script) (Some rest) taken verdicts so_far consumed at_end machine = λ later.
-    ([], ap (out_after first (verdicts ++ later)) (taken_all script taken rest consumed at_end) ∙ ap with_list (machine.all later) ∙ sym (append-nil (with_list so_far)))
+ended_begins first (Some script) (Some rest) taken verdicts so_far consumed at_end machine = λ later. (
+  [],
+  ap (out_after first (verdicts ++ later)) (taken_all script taken rest consumed at_end)
+      ∙ ap with_list (machine.all later) ∙ sym (append-nil (with_list so_far)),
+)
 
 drop_more : (first : Answer) (script : Option (List ℕ)) (verdicts : List Verdict) (total more : List ℕ) → Begins first script verdicts (total ++ more)
     → Begins first script verdicts total
@@ -551,7 +554,8 @@ module _ {L C : Type 0} (first : Answer) where
           come : (ended : Bool) → IsTaken (Some item) ended (feed.waiting ++ came.piece) feed_now.waiting
               → HasCome first ended (along.taken ++ came.piece) feed_now.waiting (along.verdicts ++ takes.verdict ∷ []) run_now.number
               (with_item along.so_far moved.number takes.verdict item)
-          come true last = so_far_last first along.taken feed.waiting came.piece feed_now.waiting along.verdicts moved.number along.so_far takes.verdict item machine
+          come true last =
+              so_far_last first along.taken feed.waiting came.piece feed_now.waiting along.verdicts moved.number along.so_far takes.verdict item machine
               last takes.is_verdict.tied
           come false begins =
               subst (λ (number : ℕ). SoFar first (along.taken ++ came.piece) feed_now.waiting (along.verdicts ++ takes.verdict ∷ []) number
@@ -608,7 +612,8 @@ module _ {L C : Type 0} (first : Answer) where
       (subst (Begins first before.input.left along.verdicts) (sym (list_of before now maker maker_now feed run along none))
       (ended_begins first before.input.left now.input.left along.taken along.verdicts along.so_far along.consumed at_end along.machine))
       along.printed
-      (subst (λ (text : List ℕ). AppendsFront now.output.taken new.output.taken (text ++ entry_rows run.core.state.senses.watch.entries)) (text_is run none) front))
+      (subst (λ (text : List ℕ). AppendsFront now.output.taken new.output.taken (text ++ entry_rows run.core.state.senses.watch.entries))
+      (text_is run none) front))
       (stops_after first stop along.verdicts before new calls calls_now
       (along_count true before now new maker maker_now feed run (λ count. count ≤ longest_script) along same limit) cause)
 
@@ -622,7 +627,8 @@ module _ {L C : Type 0} (first : Answer) where
     tied = along_tied true before now maker maker_now feed run along (λ yes. at_end);
     large = along.large;
     text =
-        all_written first run.refused before.input.left now.input.left along.taken along.verdicts along.so_far before.output.taken new.output.taken along.consumed
+        all_written first run.refused before.input.left now.input.left along.taken along.verdicts along.so_far before.output.taken
+        new.output.taken along.consumed
         at_end along.machine along.refused
         (text ∙ ap (λ (text : List ℕ). added now.output.taken (text ++ entry_rows run.core.state.senses.watch.entries)) (text_is run none)
         ∙ ap (λ (told : Told). added told (gathered run ++ entry_rows run.core.state.senses.watch.entries)) along.printed.told

@@ -288,7 +288,8 @@ answered_item {L} {C} origin item effect old answered new maker maker_now same a
       let is = answers.answers (refused_line origin old.number) past stood in
       record {
         stands =
-            subst₂ (λ (pending : Pending) (core : CoreView). Stands (settled pending core) (answer (refused_line origin old.number) past answers.verdict item).past)
+            subst₂
+            (λ (pending : Pending) (core : CoreView). Stands (settled pending core) (answer (refused_line origin old.number) past answers.verdict item).past)
             (sym counts.pending) (sym counts.core) is.stands;
         text =
             counts_gathered origin effect answered new counts

@@ -27,6 +27,7 @@ returns-clause-slots g c =
 
 pub returns-clause-counted : goal.returns-clause-counted
 returns-clause-counted g c =
-    subst (λ (view : SensesView). TestsPlug (is_short c.answer.result) view.watch c.args.place c.args.bytes.now c.args.steps.now c.plug.new.steps) c.self.view_is
+    subst (λ (view : SensesView). TestsPlug (is_short c.answer.result) view.watch c.args.place c.args.bytes.now c.args.steps.now c.plug.new.steps)
+    c.self.view_is
     (subst (λ (short : Bool). TestsPlug short c.self.inside.watch c.args.place c.args.bytes.now c.args.steps.now c.plug.new.steps)
     (short_is c.plug.result c.answer.result c.answer.ensures) c.plug.ensures.counted)

@@ -37,4 +37,5 @@ returns-in-Err-clause-notes g c =
     c.self.view_is (read_outside old c.refuse-in-Err.new.self c.args.name.now _ c.in-Some.slot c.slot.result c.refuse-in-Err.result c.slot.ensures.sensor
     c.in-Some.is (λ within. absurd (let no = c.in-Err.ensures.range.1 within in cc)) c.refuse-in-Err.ensures.result
     (c.refuse-in-Err.ensures.left
-    ∙ ap (λ (sensors : LiveSensors). quiet_senses (record { watch = c.self.inside.watch; sensors = sensors; ticks = c.self.inside.ticks })) c.in-Err.ensures.same)))
+    ∙ ap (λ (sensors : LiveSensors). quiet_senses (record { watch = c.self.inside.watch; sensors = sensors; ticks = c.self.inside.ticks }))
+    c.in-Err.ensures.same)))

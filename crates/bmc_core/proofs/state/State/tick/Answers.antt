@@ -52,7 +52,8 @@ pub returns-clause-applies : goal.returns-clause-applies
 returns-clause-applies g c =
     let new : StateView = record { senses = c.tell_tick.new.self; zones = c.tick.new.self; strict = c.self.inside.strict } in
     subst (λ (state : StateView). StateApplies state Tick (Ok tt) new) c.self.view_is
-    (subst (StateApplies (record { senses = c.self.inside.senses; zones = c.self.inside.zones; strict = c.self.inside.strict }) Tick (Ok tt)) (sym (exactly g c))
+    (subst (StateApplies (record { senses = c.self.inside.senses; zones = c.self.inside.zones; strict = c.self.inside.strict }) Tick (Ok tt))
+    (sym (exactly g c))
     (tick_applies _))
 
 pub returns-clause-failsafe : goal.returns-clause-failsafe
