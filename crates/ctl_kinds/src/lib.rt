@@ -4,6 +4,7 @@
 mod blank;
 mod pid;
 mod pid_parts;
+mod small;
 mod stepwise;
 #[cfg(test)]
 mod tests;

@@ -8,6 +8,7 @@ ghost use Rattle.ctl_face.specs.Pid.{pace, pid_step, proportional};
 ghost use Rattle.ctl_face.specs.Pid.{slewed, with_fall, with_rise};
 ghost use Rattle.ctl_face.specs.Ranges.{IsMilli, IsValidPid, IsValidSample, IsWithin};
 
+use crate::small::small_step;
 use crate::wide::{Micro, Wide};
 use bmc_base::Milli;
 use ctl_face::{CtlState, PidClass, PidSetting, Sample};
@@ -25,7 +26,7 @@ fn pace(class: PidClass) -> u8
 }
 
 // How far the input is below the setpoint.
-fn error_of(sample: Sample) -> Milli
+pub(crate) fn error_of(sample: Sample) -> Milli
     requires { IsValidSample sample }
     ensures { result.0 ≡ error_of sample }
 {
@@ -135,7 +136,7 @@ fn with_rise(setting: &PidSetting, before: Milli, output: Milli) -> Milli
 }
 
 // Falls and then rises are slewed, where an output was given before.
-fn slewed(setting: &PidSetting, before: Option<i64>, output: Milli) -> Milli
+pub(crate) fn slewed(setting: &PidSetting, before: Option<i64>, output: Milli) -> Milli
     requires valid { IsValidPid setting.now }
     requires before { ForSome before IsMilli }
     requires output { IsMilli output.0 }
@@ -152,7 +153,7 @@ fn slewed(setting: &PidSetting, before: Option<i64>, output: Milli) -> Milli
 }
 
 // Whether falls or rises are slewed.
-fn has_slew(setting: &PidSetting) -> bool
+pub(crate) fn has_slew(setting: &PidSetting) -> bool
     ensures { result ≡ has_slew setting.now }
 {
     setting.slew_neg.0 != 0 || setting.slew_pos.0 != 0
@@ -173,8 +174,9 @@ fn integral_behind(setting: &PidSetting, output: Milli, p: Wide, i: Milli) -> Mi
     }
 }
 
-// The state after one step.
-pub(crate) fn pid_step(setting: &PidSetting, old: CtlState, sample: Sample) -> CtlState
+// The state after one step, in 128 bits.
+#[inline(never)]
+fn wide_step(setting: &PidSetting, old: CtlState, sample: Sample) -> CtlState
     requires setting { IsValidPid setting.now }
     requires output { ForSome old.output IsMilli }
     requires sample { IsValidSample sample }
@@ -194,5 +196,20 @@ pub(crate) fn pid_step(setting: &PidSetting, old: CtlState, sample: Sample) -> C
         error: Some(error.0),
         base: old.base,
         output: Some(output.0),
+    }
+}
+
+// The state after one step.
+pub(crate) fn pid_step(setting: &PidSetting, old: CtlState, sample: Sample) -> CtlState
+    requires setting { IsValidPid setting.now }
+    requires output { ForSome old.output IsMilli }
+    requires sample { IsValidSample sample }
+    ensures state { result ≡ pid_step setting.now old sample }
+    ensures given { IsSome result.output }
+    ensures small { ForSome result.output IsMilli }
+{
+    match small_step(setting, old, sample) {
+        Some(state) => state,
+        None => wide_step(setting, old, sample),
     }
 }
