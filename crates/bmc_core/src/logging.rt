@@ -30,6 +30,7 @@ fn class_of(change: &Change) -> Option<Class>
 }
 
 // Notes a change at a tick count, if it is logged.
+#[inline(never)]
 fn note_change(log: &mut Log, tick: u64, change: &Change)
     ensures { Logs log.old tick (change.now ∷ []) log.new }
 {
@@ -39,6 +40,7 @@ fn note_change(log: &mut Log, tick: u64, change: &Change)
 }
 
 /// Notes changes in turn, all at one tick count. It takes no memory.
+#[inline(always)]
 pub(crate) fn note_changes(log: &mut Log, tick: u64, changes: &[Change])
     ensures { Logs log.old tick changes.now log.new }
 {
@@ -59,6 +61,7 @@ pub(crate) fn plug_place<L: Ledger>(act: &Act<'_, L>) -> Option<Place>
 
 /// Notes what came of an act, at the tick count after it: what it changed, if it was done, and that it was refused, if it was a
 /// plug, at this place. It takes no memory.
+#[inline(always)]
 pub(crate) fn note_answer(
     log: &mut Log,
     tick: u64,

@@ -155,6 +155,7 @@ impl<L: Ledger> Senses<L> {
     }
 
     /// Takes a good reading of a sensor.
+    #[inline(always)]
     pub(crate) fn read(&mut self, name: &Name, raw: i64) -> Result<(), CoreFault>
         ensures notes { Notes self.old (Read name.now raw) result self.new }
         ensures names { self.new.sensors.names ≡ self.old.sensors.names }

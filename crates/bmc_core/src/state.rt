@@ -69,6 +69,7 @@ impl<L: Ledger, C: Controller> State<L, C> {
     }
 
     // Takes a configuration.
+    #[inline(never)]
     fn configure(
         &mut self,
         alloc: Global,
@@ -88,6 +89,7 @@ impl<L: Ledger, C: Controller> State<L, C> {
     }
 
     // Takes a FRU that appeared.
+    #[inline(never)]
     fn plug(
         &mut self,
         alloc: Global,
@@ -108,6 +110,7 @@ impl<L: Ledger, C: Controller> State<L, C> {
     }
 
     // Takes away the FRU at a place.
+    #[inline(never)]
     fn unplug(&mut self, alloc: Global, place: Place, steps: &mut Steps<L>) -> Result<(), CoreFault>
         ensures applies { StateApplies self.old (Unplug place) result self.new }
         ensures counted { IsCounted result self.old.senses (Unplug place) steps.old steps.new }
@@ -122,6 +125,7 @@ impl<L: Ledger, C: Controller> State<L, C> {
     }
 
     // Takes a good reading of a sensor.
+    #[inline(always)]
     fn read(&mut self, name: &Name, raw: i64) -> Result<(), CoreFault>
         ensures { StateApplies self.old (Read name.now raw) result self.new }
     {

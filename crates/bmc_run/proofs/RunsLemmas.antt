@@ -1,6 +1,6 @@
 -- What a run does with an item is what the machine answers.
 use Rattle.std.proofs.Common.{◌≡◌, ℕ, List, [], ◌∷◌, ◌++◌, Option, Some, None, Ok, Err, refl, ap, ap₂, sym, subst, ◌∙◌, string_bytes}
-use Rattle.std.proofs.Common.{append-nil, append_assoc, arith, subst₂, zero, suc}
+use Rattle.std.proofs.Common.{true, append-nil, append_assoc, arith, subst₂, zero, suc}
 use Rattle.std.specs.Prelude.{⊤, ◌+◌, ◌≢◌, Result}
 use Rattle.std.specs.List.{flat_map}
 use Rattle.bmc_base.specs.Counts.{raised}
@@ -13,8 +13,10 @@ use Rattle.cfg_json.specs.Verdicts.{Verdict, Accepted, large_in, verdict_of}
 use Rattle.cfg_json.specs.declared.config_fault.ConfigFault.{ConfigFault}
 use Rattle.cfg_json.specs.declared.config_fault.ConfigFault.TheVariants as faults
 use Rattle.cfg_json.proofs.VerdictsLemmas.{gives_ties}
-use Rattle.bmc_script.specs.Commands.{command_of, GivesCommand}
+use Rattle.bmc_script.specs.Commands.{command_of, is_blank, GivesCommand}
+use Rattle.bmc_script.proofs.CommandsLemmas.{blank_line}
 use Rattle.bmc_script.specs.declared.command.Command.{Command}
+use Rattle.bmc_script.specs.declared.command.Command.TheVariants as commands
 use Rattle.bmc_script.specs.declared.command.ScriptFault.{ScriptFault}
 use Rattle.bmc_script.specs.declared.command.ScriptFault.TheVariants as lines
 use Rattle.bmc_report.specs.Refusals.{refused_line}
@@ -131,6 +133,11 @@ pub command_answers : (old new : CoreView) (line : List ℕ) (command : Command)
     → Answers (λ label past. answer label past Accepted (Line line)) effect old new
 command_answers old new line command effect is =
     renamed (λ label past. answer_command label past (Ok command)) _ effect old new (λ label past. ap (answer_command label past) (sym is))
+
+-- a blank line asks for nothing
+pub blank_answers : (view : CoreView) (line : List ℕ) → is_blank line ≡ true
+    → Answers (λ label past. answer label past Accepted (Line line)) Nothing view view
+blank_answers view line is = command_answers view view line commands.Nothing Nothing (blank_line line is) (silent_answers view)
 
 -- ---- verdicts
 

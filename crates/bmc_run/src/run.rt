@@ -18,7 +18,7 @@ use bmc_base::{Ledger, OutOfMemory, Steps};
 use bmc_core::{Act, Core, CoreFault};
 use bmc_io::Whole;
 use bmc_report::{Origin, Refusal, Topic, push_refused_line};
-use bmc_script::Command;
+use bmc_script::{Command, is_blank};
 use bmc_text::{Items, NextItem};
 use cfg_json::Config;
 use ctl_face::Controller;
@@ -120,9 +120,9 @@ fn run_command<L: Ledger, C: Controller>(
     }
 }
 
-// Takes a line that asks for no block.
-#[inline(always)]
-fn take_line<L: Ledger, C: Controller>(
+// Takes a line that may have a command, and asks for no block.
+#[inline(never)]
+fn take_command<L: Ledger, C: Controller>(
     alloc: Global,
     core: &mut Core<L, C>,
     line: &[u8],
@@ -138,6 +138,23 @@ fn take_line<L: Ledger, C: Controller>(
             Ok(Effect::Refused(refusal))
         }
     }
+}
+
+// Takes a line that asks for no block.
+#[inline(always)]
+fn take_line<L: Ledger, C: Controller>(
+    alloc: Global,
+    core: &mut Core<L, C>,
+    line: &[u8],
+    steps: &mut Steps<L>,
+) -> Result<Effect, OutOfMemory>
+    ensures { IfOk result (λ effect. Answers (λ label past. answer label past Accepted (items.Line line.now)) effect core.old core.new) }
+{
+    // Told apart here, since a comment then costs no call.
+    if is_blank(line) {
+        return Ok(Effect::Nothing);
+    }
+    take_command(alloc, core, line, steps)
 }
 
 // Takes the block of a configuration.
@@ -236,6 +253,7 @@ impl<L: Ledger, C: Controller> Run<L, C> {
 
     /// Takes what came of the script: gathers what is printed of it, or notes what is still to be done of it, and counts it.
     /// At the end nothing changes.
+    #[inline(always)]
     pub fn take<M: PatternMaker>(
         &mut self,
         alloc: Global,

@@ -1,12 +1,13 @@
 -- The first word of a line, and what is answered of the line.
-use Rattle.std.proofs.Common.{◌≡◌, ◌≢◌, ◌∙◌, refl, sym, ap, ℕ, ◌≤◌, List, [], ◌∷◌, length, get_or, drop, arith}
+use Rattle.std.proofs.Common.{true, ◌≡◌, ◌≢◌, ◌∙◌, refl, sym, ap, ℕ, ◌≤◌, List, [], ◌∷◌, length, get_or, drop, arith}
 use Rattle.std.specs.Prelude.{codes, Result, Ok, Err}
 use Rattle.std.specs.Option.{unwrap_or}
 use Rattle.std.proofs.lemmas.Bool.Decides.{nat_tests}
 use Rattle.std.proofs.lemmas.Slice.Eq.{bytes_eq-Decides}
 use Rattle.bmc_script.proofs.NamesLemmas.{parts_at}
-use Rattle.bmc_script.specs.Commands.{GivesCommand, first_word, verb_command, words_of, command_of, read_of}
+use Rattle.bmc_script.specs.Commands.{GivesCommand, is_blank, first_word, verb_command, words_of, command_of, read_of}
 use Rattle.bmc_script.specs.declared.command.Command.{Command}
+use Rattle.bmc_script.specs.declared.command.Command.TheVariants.{Nothing}
 use Rattle.bmc_script.specs.declared.command.ScriptFault.{ScriptFault}
 use Rattle.bmc_script.specs.declared.command.ScriptFault.TheVariants.{UnknownCommand, BadArguments, PlaceRange, TickLimit, BadHex, OutOfMemory}
 
@@ -19,6 +20,12 @@ as_read (Err PlaceRange) read is = is
 as_read (Err TickLimit) read is = is
 as_read (Err BadHex) read is = is
 as_read (Err OutOfMemory) read is = tt
+
+-- a blank line asks for nothing
+pub blank_line : (line : List ℕ) → is_blank line ≡ true → command_of line ≡ Ok Nothing
+unfolding command_of
+blank_line [] is = refl
+blank_line (first ∷ rest) is = rw is refl
 
 -- five bytes or more are a list of five, and the rest
 pub five_bytes : (bytes : List ℕ) → 5 ≤ length bytes

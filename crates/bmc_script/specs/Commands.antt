@@ -1,5 +1,5 @@
 -- The command of a line of a script.
-use Rattle.std.specs.Prelude.{ℕ, ◌≡◌, ⊤, ◌==◌, nat_lt, ◌||◌, if◌then◌else◌, List, [], ◌∷◌, length, reverse, codes, bytes_eq}
+use Rattle.std.specs.Prelude.{ℕ, ◌≡◌, ⊤, Bool, true, ◌==◌, nat_lt, ◌||◌, if◌then◌else◌, List, [], ◌∷◌, length, reverse, codes, bytes_eq}
 use Rattle.std.specs.Prelude.{Option, Some, None, option_map, Result, Ok, Err}
 use Rattle.std.specs.Str.{is_utf8}
 use Rattle.std.specs.List.{list_any}
@@ -128,6 +128,11 @@ words_of line = verb_command (first_word line).0 (first_word line).1
 -- what a comment begins with, `#`
 abbrev pub comment_mark : ℕ
 comment_mark = 35
+
+-- whether a line asks for nothing: it is empty, or a comment
+abbrev pub is_blank : List ℕ → Bool
+is_blank [] = true
+is_blank (first ∷ rest) = first == comment_mark
 
 -- the command of a line, or the first rule that it breaks: an empty line and a comment do nothing
 unfoldable pub command_of : List ℕ → Result Command ScriptFault

@@ -1,7 +1,7 @@
 ghost use Rattle.std.specs.Prelude.{◌≡◌, ◌<◌, ◌==◌, length, IfSome, option_map, position};
 ghost use Rattle.bmc_text.specs.Words.{split_space};
 ghost use Rattle.bmc_script.specs.Commands.{GivesCommand, command_of, first_word, words_of, plug_of, unplug_of, config_of, place_named};
-ghost use Rattle.bmc_script.specs.Commands.{split_last_space, name_in, read_of, lose_of, ticks_of, topic_of, show_of};
+ghost use Rattle.bmc_script.specs.Commands.{is_blank, split_last_space, name_in, read_of, lose_of, ticks_of, topic_of, show_of};
 
 use bmc_base::{Bytes, Name, Place};
 use bmc_report::Topic;
@@ -227,6 +227,15 @@ fn read_words(alloc: Global, line: &[u8]) -> Result<Command, ScriptFault>
         b"show" => read_show(rest),
         _ => Err(ScriptFault::UnknownCommand),
     }
+}
+
+/// Whether a line, without its newline, asks for nothing: it is empty, or a comment, which begins with `#`. [`Command::read`]
+/// answers [`Command::Nothing`] of such a line.
+#[inline(always)]
+pub fn is_blank(line: &[u8]) -> bool
+    ensures { result ≡ is_blank line.now }
+{
+    matches!(line, [] | [b'#', ..])
 }
 
 impl Command {

@@ -6,5 +6,5 @@ mod examples;
 #[cfg(test)]
 mod tests;
 
-pub use command::{Command, ScriptFault};
+pub use command::{Command, ScriptFault, is_blank};
 pub use examples::{commands_of_lines, commands_of_sensor_lines, commands_of_tick_lines};

@@ -1,4 +1,4 @@
-use crate::Command;
+use crate::{Command, is_blank};
 use bmc_base::Place;
 use std::alloc::Global;
 use std::fmt::Write;
@@ -553,6 +553,7 @@ fn assert_rows(rt: &impl Abort, alloc: Global, rows: &str) -> Result<(), Fail> {
         let (words, line) = row.split_once(": ").unwrap_or((row, ""));
         let described = described(alloc, line.as_bytes())?;
         assert_eq!(rt; described.as_str(), words, "{line:?}");
+        assert_eq!(rt; is_blank(line.as_bytes()), words == "nothing", "{line:?}");
     }
     Ok(())
 }
