@@ -1,12 +1,10 @@
 -- What a tick leaves of a state.
-use Rattle.std.proofs.Common.{◌≡◌, ◌∙◌, ℕ, List, [], ◌∷◌, ◌++◌, Bool, true, Ok, refl, ap, ap₂, sym, subst, map, cond, length, arith, ◌≤◌}
-use Rattle.std.proofs.lemmas.List.{length-map}
+use Rattle.std.proofs.Common.{◌≡◌, ◌∙◌, ℕ, List, [], ◌∷◌, ◌++◌, Bool, true, Ok, refl, ap, ap₂, sym, subst, map, cond}
 use Rattle.std.specs.List.{AllByRecursion, flat_map, zip}
 use Rattle.bmc_base.specs.Counts.{raised}
 use Rattle.cfg_json.specs.declared.item.Item.{Item}
 use Rattle.bmc_report.specs.declared.change.Change.{Change}
 use Rattle.fan_zone.specs.Live.{LiveFan, LiveZone, fans, zones}
-use Rattle.fan_zone.specs.Sound.{most_fans, most_zones}
 use Rattle.fan_zone.specs.Ticks.{ZonesView, ticked}
 use Rattle.fan_zone.specs.declared.rows.FanRow.{FanRow}
 use Rattle.fan_zone.specs.declared.rows.ZoneRow.{ZoneRow}
@@ -19,7 +17,6 @@ use Rattle.bmc_machine.specs.Turns.{fan_now, next_tick, zone_now}
 use Rattle.bmc_machine.specs.Zones.{ZonesStand}
 use Rattle.bmc_machine.proofs.BankLemmas.{bank_kept_by_tick}
 use Rattle.bmc_machine.proofs.IdleLemmas.{live_same}
-use Rattle.bmc_machine.proofs.LiveLimitLemmas.{few_fans, few_zones}
 use Rattle.bmc_machine.proofs.SinceLemmas.{fan_name, zone_name}
 use Rattle.bmc_machine.proofs.TickedLemmas.{changes_ticked, fans_there, zones_there, zones_tick}
 use Rattle.bmc_watch.specs.Panels.{PanelView, duties_of, modes_of, panel_changes, panel_of, row_duty, row_mode}
@@ -122,23 +119,6 @@ state_ticked state is = record {
   stands = (ticked_stands state is.past is.stands).0;
   enough = bank_kept_by_tick state.senses.sensors.slots (raised state.senses.ticks 1) state.strict state.zones is.enough;
 }
-
--- ---- a state's rows are few
-
-few_rows : {X R : Type 0} (row : X → R) (all : List X) (rows : List R) (most : ℕ) → rows ≡ map row all → length all ≤ most → length rows ≤ most
-few_rows {X} {R} row all rows most are few =
-    let same : length rows ≡ length all = ap (λ (rows : List R). length rows) are ∙ length-map all row in
-    omega (arith, same, few)
-
-pub few_zone_rows : (state : StateView) → IsState state → length state.zones.zone_rows ≤ most_zones
-few_zone_rows state is =
-    few_rows (zone_now is.past) (zones (live_now is.past)) state.zones.zone_rows most_zones is.stands.zones.zone_rows
-    (few_zones is.past is.stands.senses.watch.legal)
-
-pub few_fan_rows : (state : StateView) → IsState state → length state.zones.fan_rows ≤ most_fans
-few_fan_rows state is =
-    few_rows (fan_now is.past) (fans (live_now is.past)) state.zones.fan_rows most_fans is.stands.zones.fan_rows
-    (few_fans is.past is.stands.senses.watch.legal)
 
 -- ---- the tick that is counted, passed on to the zones, and told
 

@@ -1,5 +1,5 @@
 -- What the command does, by its parts.
-use Rattle.std.proofs.Common.{◌≡◌, ◌∙◌, ℕ, List, [], ◌∷◌, Option, Some, None, Bool, true, false, inl, inr, refl, ap, sym, subst, append-nil, string_bytes}
+use Rattle.std.proofs.Common.{◌≡◌, ◌∙◌, ℕ, List, [], Option, Some, None, Bool, true, false, inl, inr, refl, ap, sym, subst, append-nil, string_bytes}
 use Rattle.std.specs.Prelude.{IsErrOf, Result, Ok, Err, MatchBool}
 use Rattle.bmc_io.specs.Files.{Folder}
 use Rattle.bmc_io.specs.Told.{Told}
@@ -26,7 +26,7 @@ use Rattle.bmc_run.specs.declared.stop.Stop.TheVariants as stops
 use Rattle.bmc_replay.specs.Files.{HasTaken, StopsAtFile, ReadsFiles, file_items}
 use Rattle.bmc_replay.proofs.FilesLemmas.{reads_nothing}
 use Rattle.bmc_replay.proofs.SampleLemmas.{no_ties}
-use Rattle.bmc_replay.specs.Commands.{ComesToScript, RunsFiles, RunsSample, RunsSettings, ReplaysWords, RefusesWords, Obeys, EndsUnsettled, StopsBefore}
+use Rattle.bmc_replay.specs.Commands.{ComesToScript, RunsFiles, RunsSettings, ReplaysWords, RefusesWords, Obeys, EndsUnsettled}
 use Rattle.bmc_replay.specs.Commands.{options_of, sample_of}
 use Rattle.bmc_replay.specs.declared.status.Status.{Status}
 use Rattle.bmc_replay.specs.declared.status.Status.TheVariants.{OutOfMemory}

@@ -1,7 +1,7 @@
 -- Files that are taken, one after another.
-use Rattle.std.proofs.Common.{◌≡◌, ◌<◌, ◌≤◌, ◌+◌, ℕ, suc, List, [], ◌∷◌, ◌++◌, length, Bool, true, false, Option, Some, None, Ok, Err, refl, ap, ap₂, sym, ◌∙◌}
-use Rattle.std.proofs.Common.{subst, subst₂, arith, append_assoc, append-nil, drop, get_or, length-append, map, option_map, string_bytes, filter_map, take}
-use Rattle.std.specs.Prelude.{IfSome, IsSomeAnd, if◌then◌else◌}
+use Rattle.std.proofs.Common.{◌≡◌, ◌<◌, ◌≤◌, ◌+◌, ℕ, suc, List, [], ◌∷◌, ◌++◌, length, Bool, Option, Some, None, Ok, Err, refl, ap, ap₂, sym, ◌∙◌}
+use Rattle.std.proofs.Common.{subst, subst₂, arith, append_assoc, append-nil, drop, get_or, length-append, map, option_map, string_bytes, take}
+use Rattle.std.specs.Prelude.{IsSomeAnd, if◌then◌else◌}
 use Rattle.std.specs.List.{Contains, cons_option}
 use Rattle.std.proofs.Math.Seq.{drop-cons}
 use Rattle.std.proofs.lemmas.Bool.{le-ltb, lt-ltb}
@@ -23,15 +23,14 @@ use Rattle.bmc_report.specs.declared.refusal.Origin.TheVariants.{File}
 use Rattle.pat_gate.specs.Makers.{Maker}
 use Rattle.cfg_json.specs.Verdicts.{Verdict, large_in}
 use Rattle.bmc_machine.specs.Histories.{Options, Step, begun}
-use Rattle.bmc_machine.specs.Ties.{AreTied, IsTied, large_texts}
-use Rattle.bmc_machine.specs.Answers.{Answer, and_then, answer, answers, answer_files, first_verdict, later_verdicts, silent}
+use Rattle.bmc_machine.specs.Ties.{AreTied, large_texts}
+use Rattle.bmc_machine.specs.Answers.{Answer, and_then, answer, answers, answer_files, silent}
 use Rattle.bmc_run.specs.Gathering.{Gathers, Printed}
 use Rattle.bmc_run.specs.Runs.{Follows, IsAfter, IsReady, LeavesItem, TakesItem, asked, file_item, settled}
 use Rattle.bmc_run.specs.Statuses.{WhereTold}
 use Rattle.bmc_run.specs.declared.run.Run.{Run}
 use Rattle.bmc_run.specs.declared.run.Pending.{Pending}
 use Rattle.bmc_run.specs.declared.run.Pending.TheVariants.{Nothing}
-use Rattle.bmc_run.proofs.GatheringLemmas.{gathers_nothing}
 use Rattle.bmc_core.specs.Cores.{Stands}
 use Rattle.bmc_run.proofs.Along.{large_more, printed_moved, printed_more}
 use Rattle.bmc_run.proofs.SoFar.{and_then-assoc, and_then-silent}

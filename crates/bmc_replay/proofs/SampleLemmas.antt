@@ -19,7 +19,7 @@ use Rattle.bmc_run.specs.Outside.{Outside}
 use Rattle.bmc_run.specs.Statuses.{Replays, WhereTold, Writes}
 use Rattle.bmc_run.specs.declared.stop.Stop.{Stop}
 use Rattle.bmc_run.specs.declared.stop.Stop.TheVariants as stops
-use Rattle.bmc_replay.specs.Commands.{CountsSample, RunsSample, alone, counted_of, refusals_in, sample_of, summary, summary_of}
+use Rattle.bmc_replay.specs.Commands.{CountsSample, RunsSample, alone, counted_of, sample_of, summary, summary_of}
 use Rattle.bmc_replay.specs.declared.sample.Counted.{Counted}
 
 pub no_ties : (items : List Item) → AreTied items []

@@ -1,5 +1,5 @@
 -- The configuration files of a run.
-use Rattle.std.specs.Prelude.{ℕ, ◌≡◌, ◌+◌, ◌++◌, nat_lt, if◌then◌else◌, ⊤, List, [], ◌∷◌, filter_map, length, Option, Some, None, option_map}
+use Rattle.std.specs.Prelude.{ℕ, ◌≡◌, ◌+◌, ◌++◌, nat_lt, if◌then◌else◌, ⊤, List, [], ◌∷◌, filter_map, length, Option, Some, option_map}
 use Rattle.std.specs.List.{Contains}
 use Rattle.bmc_base.specs.Calls.{Calls, Fails}
 use Rattle.bmc_io.specs.Files.{Folder, bytes_of}

@@ -1,5 +1,5 @@
 -- A run of the machine over the outside, so far.
-use Rattle.std.proofs.Common.{◌≡◌, ◌<◌, ◌≤◌, ◌+◌, ℕ, List, [], ◌∷◌, ◌++◌, length, Bool, true, false, ◌||◌, Option, Some, None, Ok, Err, refl, ap, sym, ◌∙◌}
+use Rattle.std.proofs.Common.{◌≡◌, ◌<◌, ◌≤◌, ◌+◌, ℕ, List, [], ◌∷◌, ◌++◌, length, Bool, true, false, Option, Some, None, Ok, Err, refl, ap, sym, ◌∙◌}
 use Rattle.std.proofs.Common.{subst, subst₂, arith, append_assoc, append-nil, length-append, string_bytes}
 use Rattle.std.specs.Io.KnownBytes.{Consumes, IsAtEnd}
 use Rattle.std.proofs.KnownBytes.{Consumes-nil, Consumes-trans}
@@ -8,7 +8,7 @@ use Rattle.bmc_base.specs.Counts.{raised}
 use Rattle.bmc_io.specs.Told.{Told, added}
 use Rattle.bmc_io.specs.Sources.{Input}
 use Rattle.bmc_io.specs.Sinks.{Output, AppendsFront}
-use Rattle.bmc_io.proofs.ToldLemmas.{added_none, added_more}
+use Rattle.bmc_io.proofs.ToldLemmas.{added_more}
 use Rattle.bmc_io.proofs.Fronts.{front_none, front_after, front_so_far, front_all}
 use Rattle.bmc_text.specs.Items.{Item, items_of}
 use Rattle.bmc_text.specs.Feeds.{ItemFeed, Reads, longest_script}
@@ -38,7 +38,7 @@ use Rattle.bmc_core.specs.Lists.{entry_rows}
 use Rattle.bmc_run.specs.Gathering.{Gathers, Printed}
 use Rattle.bmc_run.specs.Outside.{Outside, outside}
 use Rattle.bmc_run.specs.Stops.{GetsNothing, StopsShort, StopsAt}
-use Rattle.bmc_run.specs.Statuses.{Replays, WhereTold, Writes, WritesAll, WritesFront, Reaches, Takes, WritesWhole, WriteCause, stop_of}
+use Rattle.bmc_run.specs.Statuses.{Replays, WhereTold, Writes, WritesFront, Reaches, Takes, WritesWhole, WriteCause, stop_of}
 use Rattle.bmc_run.specs.Progress.{SoFar, HasEnded, HasCome, Along}
 use Rattle.bmc_run.proofs.SoFar.{with_item, so_far_none, so_far_more, so_far_last, so_far_end, so_far_whole}
 use Rattle.bmc_core.proofs.ListsLemmas.{lists_are}

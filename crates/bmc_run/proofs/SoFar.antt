@@ -1,5 +1,5 @@
 -- The answer of the machine so far, by one item more.
-use Rattle.std.proofs.Common.{◌≡◌, ℕ, ◌+◌, List, [], ◌∷◌, ◌++◌, Bool, true, false, ◌||◌, suc, arith, length, refl, ap, ap₂, subst, subst₂, sym}
+use Rattle.std.proofs.Common.{◌≡◌, ℕ, ◌+◌, List, [], ◌∷◌, ◌++◌, Bool, suc, arith, length, refl, ap, ap₂, subst, subst₂, sym}
 use Rattle.std.proofs.Common.{◌∙◌, append_assoc, append-nil, length-append}
 use Rattle.bmc_text.specs.Items.{Item, cut_most, cut, items_of, whole_items}
 use Rattle.bmc_text.specs.Lines.{AreNone}

@@ -1,8 +1,7 @@
 -- A file is taken behind those before it, or the run stops there.
-use Rattle.std.proofs.Common.{◌≡◌, ◌∷◌, refl}
+use Rattle.std.proofs.Common.{◌∷◌, refl}
 use Rattle.std.proofs.lemmas.Result.{err_from_is_err_and}
 use Rattle.bmc_run.proofs.GatheringLemmas.{gathers_flushed}
-use Rattle.bmc_run.specs.declared.run.Run.{Run}
 use Rattle.bmc_replay.proofs.FilesLemmas.{stops_unread, stops_untaken, stops_unwritten, taken_more, taken_moved}
 use Rattle.bmc_replay.proofs.files.take_file.Goals as goal
 

@@ -1,5 +1,5 @@
 -- Files are taken one after another.
-use Rattle.std.proofs.Common.{◌≡◌, ◌∙◌, ◌+◌, ◌<◌, ◌^◌, ◌∷◌, ◌++◌, Bor, List, ℕ, Option, [], arith, drop, get_or, length, map, refl, subst, suc, sym, take}
+use Rattle.std.proofs.Common.{◌∙◌, ◌+◌, ◌∷◌, ◌++◌, Bor, List, ℕ, Option, [], arith, drop, get_or, map, refl, subst, suc, sym, take}
 use Rattle.std.proofs.lemmas.Result.{err_from_is_err_and}
 use Rattle.bmc_replay.specs.Files.{HasTaken, StopsAtFile}
 use Rattle.bmc_replay.proofs.FilesLemmas.{cause_behind, names_all, names_contain, names_more, names_split, reads_nothing, reads_on}

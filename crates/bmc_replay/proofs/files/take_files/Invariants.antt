@@ -1,4 +1,4 @@
-use Rattle.std.proofs.Common.{◌≡◌, ◌+◌, List, ℕ, [], map, take}
+use Rattle.std.proofs.Common.{◌≡◌, ◌+◌, [], map, take}
 use Rattle.bmc_io.specs.Told.{Told}
 use Rattle.pat_gate.specs.Makers.{Maker}
 use Rattle.bmc_machine.specs.Histories.{Options}

@@ -1,5 +1,5 @@
 -- Files are taken, and then the script.
-use Rattle.std.proofs.Common.{◌≡◌, inl, map, refl}
+use Rattle.std.proofs.Common.{inl, map, refl}
 use Rattle.std.proofs.lemmas.Result.{err_from_is_err_and}
 use Rattle.bmc_replay.proofs.CommandsLemmas.{files_then_script}
 use Rattle.bmc_replay.proofs.FilesLemmas.{taken_none}

@@ -1,5 +1,5 @@
 -- What settings ask for is run, or there is no memory for it.
-use Rattle.std.proofs.Common.{◌≡◌, refl}
+use Rattle.std.proofs.Common.{refl}
 use Rattle.std.proofs.lemmas.Result.{err_from_is_err_and}
 use Rattle.bmc_words.specs.Settings.{view_of}
 use Rattle.bmc_run.specs.Outside.{outside}

@@ -1,5 +1,5 @@
 -- A sample is counted, or not for want of memory.
-use Rattle.std.proofs.Common.{◌≡◌, ◌∙◌, Some, ap}
+use Rattle.std.proofs.Common.{◌∙◌, Some, ap}
 use Rattle.std.proofs.lemmas.Result.{err_from_is_err_and}
 use Rattle.bmc_base.specs.Calls.{no_calls}
 use Rattle.bmc_io.specs.MemSource.{MemoryInput}

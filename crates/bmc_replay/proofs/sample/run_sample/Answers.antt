@@ -1,5 +1,4 @@
 -- A sample is told, or not.
-use Rattle.std.proofs.Common.{◌≡◌, ◌∙◌}
 use Rattle.std.proofs.lemmas.Result.{err_from_is_err_and}
 use Rattle.bmc_replay.proofs.SampleLemmas.{tells_all, tells_front, tells_nothing}
 use Rattle.bmc_replay.proofs.sample.run_sample.Goals as goal

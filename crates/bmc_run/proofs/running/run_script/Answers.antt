@@ -1,4 +1,3 @@
-use Rattle.std.proofs.Common.{◌≡◌}
 use Rattle.std.proofs.lemmas.Result.{err_from_is_err_and}
 use Rattle.bmc_run.proofs.Along.{never_begun}
 use Rattle.bmc_run.proofs.running.run_script.Goals as goal

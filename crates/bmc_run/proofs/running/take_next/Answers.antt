@@ -1,11 +1,9 @@
-use Rattle.std.proofs.Common.{◌≡◌, ◌∙◌, false, Err, sym, refl}
+use Rattle.std.proofs.Common.{◌∙◌, refl}
 use Rattle.std.proofs.lemmas.Result.{err_from_is_err_and}
-use Rattle.bmc_io.specs.Sources.{Input}
-use Rattle.bmc_io.specs.Sinks.{Output}
 use Rattle.bmc_text.specs.NextItems.{item_next}
-use Rattle.bmc_run.specs.Outside.{Outside, outside}
+use Rattle.bmc_run.specs.Outside.{outside}
 use Rattle.bmc_run.proofs.Along.{along_stops, along_leaves, along_unwritten, along_next, along_told, spends_item, counted_next, told_none, told_number}
-use Rattle.bmc_run.proofs.ReasonsLemmas.{reason_behind, reason_written}
+use Rattle.bmc_run.proofs.ReasonsLemmas.{reason_written}
 use Rattle.bmc_run.proofs.running.take_next.Goals as goal
 
 pub returns-in_err-next-clause-stops : goal.returns-in_err-next-clause-stops

@@ -1,4 +1,4 @@
-use Rattle.std.proofs.Common.{◌≡◌, true, arith, ap, refl, length}
+use Rattle.std.proofs.Common.{true, arith, ap, refl, length}
 use Rattle.std.proofs.lemmas.Result.{err_from_is_err_and}
 use Rattle.bmc_text.specs.Feeds.{ItemFeed}
 use Rattle.bmc_run.specs.Outside.{outside}

@@ -1,5 +1,5 @@
 -- A file is taken, and nothing is still to be done of it.
-use Rattle.std.proofs.Common.{◌≡◌, ◌∙◌}
+use Rattle.std.proofs.Common.{◌∙◌}
 use Rattle.std.proofs.lemmas.Result.{on_ok_weaker}
 use Rattle.bmc_watch.proofs.EventsLemmas.{on_err}
 use Rattle.bmc_run.proofs.RunsLemmas.{left_with}
