@@ -34,11 +34,20 @@ impl FieldText {
         ensures found { IfSome result (λ t. t ≡ text.now) }
         ensures none { IfNone result (longest_text < length text.now) }
     {
-        let mut held = ArrayString::new();
-        match held.try_push_str(text) {
-            Ok(()) => Some(FieldText { text: held }),
-            Err(_) => None,
+        if text.len() > LONGEST_TEXT {
+            return None;
         }
+        Some(FieldText::of(text))
+    }
+
+    // Returns a text that is short enough.
+    pub(crate) fn of(text: &str) -> FieldText
+        requires { length text.now ≤ longest_text }
+        ensures { result ≡ text.now }
+    {
+        let mut held = FieldText::empty();
+        held.push_str(text);
+        held
     }
 
     // Returns an empty text.
@@ -54,9 +63,7 @@ impl FieldText {
     pub fn copied(&self) -> FieldText
         ensures { result ≡ self.now }
     {
-        let mut text = ArrayString::new();
-        text.push_str(self.text.as_str());
-        FieldText { text }
+        FieldText::of(self.as_str())
     }
 
     // Appends a text.
@@ -144,7 +151,9 @@ impl FieldList {
         ensures err { OnErr result (self.new ≡ self.old) }
     {
         let _ = alloc;
-        self.fields.push(item)?;
+        // A push that can fail hands its item back, which costs copies of it.
+        self.fields.reserve(1)?;
+        self.fields.push_reserved(item);
         Ok(())
     }
 

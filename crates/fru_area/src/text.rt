@@ -49,7 +49,7 @@ fn binary_text(bytes: &[u8]) -> FieldText
     let digits = &mut buffer[..2 * bytes.len()];
     hex::encode_to_slice(bytes, digits).unwrap();
     let text = str::from_utf8(digits).unwrap();
-    FieldText::new(text).unwrap()
+    FieldText::of(text)
 }
 
 // Returns BCD plus, two characters a byte.
@@ -65,21 +65,16 @@ fn bcd_text(bytes: &[u8]) -> FieldText
     text
 }
 
+// The characters of BCD plus, by nibble.
+const BCD_PLUS: [u8; 16] = *b"0123456789 -.:,_";
+
 // Returns the character of a nibble of BCD plus.
 fn bcd_char(nibble: u8) -> u8
     requires { nibble < 16 }
     ensures exact { result ≡ bcd_char nibble }
     ensures ascii { result < 0x80 }
 {
-    match nibble {
-        0..=9 => b'0' + nibble,
-        10 => b' ',
-        11 => b'-',
-        12 => b'.',
-        13 => b':',
-        14 => b',',
-        _ => b'_',
-    }
+    BCD_PLUS[nibble as usize]
 }
 
 // Returns 6-bit ASCII: three bytes hold four characters.
@@ -129,23 +124,22 @@ fn latin_text(bytes: &[u8]) -> FieldText
     requires { length bytes.now ≤ longest_field }
     ensures { result ≡ latin_text bytes.now }
 {
-    match ascii_text(bytes) {
-        Some(text) => text,
+    match ascii(bytes) {
+        Some(text) => FieldText::of(text),
         None => wide_text(bytes),
     }
 }
 
-// Returns Latin 1 that is ASCII, which is text as it stands.
+// Borrows Latin 1 that is ASCII, which is text as it stands.
 #[tactic(auto, using(crate::proofs::TextsLemmas::latin_ascii))]
-fn ascii_text(bytes: &[u8]) -> Option<FieldText>
-    requires { length bytes.now ≤ longest_field }
-    ensures { IfSome result (λ text. text ≡ latin_text bytes.now) }
+fn ascii(bytes: &[u8]) -> Option<&str>
+    ensures text { IfSome result (λ text. text.now ≡ latin_text bytes.now) }
+    ensures size { IfSome result (λ text. length text.now ≡ length bytes.now) }
 {
     if !bytes.is_ascii() {
         return None;
     }
-    let text = str::from_utf8(bytes).ok()?;
-    FieldText::new(text)
+    str::from_utf8(bytes).ok()
 }
 
 // Returns Latin 1, of which each character takes one byte or two.
