@@ -1,5 +1,5 @@
 -- What a text begins with, by the places of its bytes.
-use Rattle.std.specs.Prelude.{ℕ, ◌≡◌, ◌≤◌, List, [], ◌∷◌, ◌++◌, length, take, drop, map, Some, IsCharBoundary}
+use Rattle.std.specs.Prelude.{ℕ, ◌≡◌, ◌≤◌, ⊤, List, [], ◌∷◌, ◌++◌, length, take, drop, map, Some, IsCharBoundary}
 use Rattle.tmpl.specs.Operations.{operations_of}
 use Rattle.tmpl.specs.Templates.{Plain, Substitution, pieces_of}
 use Rattle.tmpl.specs.declared.lead.Marks.{Marks}
@@ -23,7 +23,7 @@ pub record IsMarked (text : List ℕ) (marks : Marks) : Type 0 where
 
 -- what is known of a text is so
 abbrev pub IsLead : List ℕ → Lead → Type 0
-IsLead text Unread = pieces_of text ≡ pieces_of text
+IsLead text Unread = ⊤
 IsLead text Whole = pieces_of text ≡ map Plain text ++ pieces_of []
 IsLead text (Marked marks) = IsMarked text marks
 
