@@ -36,7 +36,9 @@ impl ItemList {
         ensures err { OnErr result (self.new ≡ self.old) }
     {
         let _ = alloc;
-        self.items.push(item)?;
+        // A push that can fail hands its item back, which costs copies of it.
+        self.items.reserve(1)?;
+        self.items.push_reserved(item);
         Ok(())
     }
 

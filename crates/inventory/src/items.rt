@@ -186,7 +186,9 @@ pub(crate) fn append_items(
     for (position, expose) in exposes.iter().enumerate() {
         let number = position_of(position)?;
         if let Some(item) = render_item(alloc, board, number, expose, fru)? {
-            items.push(item)?;
+            // A push that can fail hands its item back, which costs copies of it.
+            items.reserve(1)?;
+            items.push_reserved(item);
         }
     }
     Ok(())
