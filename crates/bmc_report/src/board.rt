@@ -1,21 +1,25 @@
-ghost use Rattle.std.specs.Prelude.{◌≡◌, ◌++◌, OnOk, string_bytes};
+ghost use Rattle.std.specs.Prelude.{◌≡◌, ◌≤◌, ◌+◌, ◌++◌, OnOk, length, string_bytes};
 ghost use Rattle.bmc_report.specs.Boards.{at_text, board_text};
 
-use crate::decimal::push_decimal;
-use crate::place::push_place;
 use crate::quoted::push_quoted;
+use arrayvec::ArrayString;
 use bmc_base::{Name, OutOfMemory, Place};
 
-// Appends where a board is, if it was found by a FRU at a place.
+// The most bytes of an index and a place, where each number may take 40.
+const LONGEST_END: usize = 128;
+
+// Puts where a board is behind its index, if it was found by a FRU at a place.
 #[tactic(auto, using(std::proofs::Common::append_assoc))]
-fn push_at(out: &mut String, place: Option<Place>) -> Result<(), OutOfMemory>
-    ensures { OnOk result (string_bytes out.new ≡ string_bytes out.old ++ at_text place) }
+fn add_at(end: &mut ArrayString<LONGEST_END>, place: Option<Place>)
+    requires { length end.old.bytes ≤ 41 }
+    ensures { end.new.bytes ≡ end.old.bytes ++ at_text place }
 {
     if let Some(place) = place {
-        out.push_str(" at ")?;
-        push_place(out, place)?;
+        end.push_str(" at ");
+        end.push_str(itoa::Buffer::new().format(place.bus()));
+        end.push_str(" ");
+        end.push_str(itoa::Buffer::new().format(place.address()));
     }
-    Ok(())
 }
 
 // Appends which board it is: the name of its configuration, its index, and its place.
@@ -29,7 +33,10 @@ pub(crate) fn push_board(
     ensures { OnOk result (string_bytes out.new ≡ string_bytes out.old ++ board_text name.now index place) }
 {
     push_quoted(out, name.as_str())?;
-    out.push(' ')?;
-    push_decimal(out, u64::from(index))?;
-    push_at(out, place)
+    let mut end = ArrayString::new();
+    end.push_str(" ");
+    end.push_str(itoa::Buffer::new().format(index));
+    add_at(&mut end, place);
+    out.push_str(end.as_str())?;
+    Ok(())
 }

@@ -1,4 +1,4 @@
-ghost use Rattle.std.specs.Prelude.{◌≡◌};
+ghost use Rattle.std.specs.Prelude.{◌≡◌, ◌≤◌, length};
 ghost use Rattle.bmc_report.specs.Changes.{kind_text};
 
 /// The kinds of items that may be live.
@@ -18,7 +18,8 @@ impl LiveKind {
     // The word that is printed of a kind.
     #[tactic(auto, unfolding(crate::specs::Changes::kind_text))]
     pub(crate) fn word(self) -> &'static str
-        ensures { result.now ≡ kind_text self }
+        ensures text { result.now ≡ kind_text self }
+        ensures short { length result.now ≤ 10 }
     {
         match self {
             LiveKind::Sensor => "sensor",

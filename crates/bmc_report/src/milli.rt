@@ -1,15 +1,57 @@
-ghost use Rattle.std.specs.Prelude.{◌≡◌, ◌++◌, OnOk, string_bytes};
-ghost use Rattle.bmc_base.specs.Milli.{milli_text};
+ghost use Rattle.std.specs.Prelude.{◌≡◌, ◌≤◌, ◌<◌, ◌+◌, ◌++◌, OnOk, codes, decimal, length, string_bytes};
+ghost use Rattle.bmc_base.specs.Milli.{milli_text, size_text};
 ghost use Rattle.bmc_report.specs.Values.{value_text};
 
+use arrayvec::ArrayString;
 use bmc_base::{Milli, OutOfMemory};
-use std::fmt::Write;
+
+// The most bytes of a number of thousandths, where its whole part may take 40.
+const LONGEST_NUMBER: usize = 48;
+
+// Returns the digit of a number below ten.
+#[tactic(auto, using(std::proofs::lemmas::Fmt::decimal_digit))]
+fn digit(value: u64) -> &'static str
+    requires { value < 10 }
+    ensures text { result.now ≡ decimal value }
+    ensures short { length result.now ≤ 1 }
+{
+    match value {
+        0 => "0",
+        1 => "1",
+        2 => "2",
+        3 => "3",
+        4 => "4",
+        5 => "5",
+        6 => "6",
+        7 => "7",
+        8 => "8",
+        _ => "9",
+    }
+}
+
+// Puts a number of thousandths without its sign behind what is there.
+#[tactic(auto, using(std::proofs::Common::append_assoc))]
+fn add_size(text: &mut ArrayString<LONGEST_NUMBER>, size: u64)
+    requires { length text.old.bytes ≤ 1 }
+    ensures { text.new.bytes ≡ text.old.bytes ++ size_text size }
+{
+    text.push_str(itoa::Buffer::new().format(size / 1000));
+    text.push_str(".");
+    text.push_str(digit(size / 100 % 10));
+    text.push_str(digit(size / 10 % 10));
+    text.push_str(digit(size % 10));
+}
 
 // Appends a number of thousandths.
 pub(crate) fn push_milli(out: &mut String, value: Milli) -> Result<(), OutOfMemory>
     ensures { OnOk result (string_bytes out.new ≡ string_bytes out.old ++ milli_text value.0) }
 {
-    write!(out, "{value}")?;
+    let mut text = ArrayString::new();
+    if value.0 < 0 {
+        text.push_str("-");
+    }
+    add_size(&mut text, value.0.unsigned_abs());
+    out.push_str(text.as_str())?;
     Ok(())
 }
 

@@ -1,7 +1,7 @@
-ghost use Rattle.std.specs.Prelude.{◌≡◌, ◌++◌, OnOk, IfOk, string_bytes};
+ghost use Rattle.std.specs.Prelude.{◌≡◌, ◌≤◌, ◌+◌, ◌++◌, OnOk, IfOk, length, string_bytes};
 ghost use Rattle.bmc_report.specs.Refusals.{area_text, refusal_name, area_of, area_ending, refusal_text, origin_text, refused_line};
 
-use crate::decimal::push_decimal;
+use arrayvec::ArrayString;
 use bmc_base::{OutOfMemory, Text};
 use fru_area::Area;
 use std::alloc::Global;
@@ -100,7 +100,8 @@ impl Refusal {
     // The name, without the area.
     #[tactic(auto, unfolding(crate::specs::Refusals::refusal_name))]
     fn name(self) -> &'static str
-        ensures { result.now ≡ refusal_name self }
+        ensures text { result.now ≡ refusal_name self }
+        ensures short { length result.now ≤ 16 }
     {
         match self {
             Refusal::LineTooLong => "LineTooLong",
@@ -167,7 +168,8 @@ impl Refusal {
 // The name of an area.
 #[tactic(auto, unfolding(crate::specs::Refusals::area_text))]
 fn area_name(area: Area) -> &'static str
-    ensures { result.now ≡ area_text area }
+    ensures text { result.now ≡ area_text area }
+    ensures short { length result.now ≤ 7 }
 {
     match area {
         Area::Chassis => "Chassis",
@@ -210,7 +212,8 @@ pub enum Origin {
 impl Origin {
     // The word that is printed before the number.
     fn word(self) -> &'static str
-        ensures { result.now ≡ origin_text self }
+        ensures text { result.now ≡ origin_text self }
+        ensures short { length result.now ≤ 5 }
     {
         match self {
             Origin::File => "file ",
@@ -219,9 +222,24 @@ impl Origin {
     }
 }
 
+// The most bytes of the line of a refusal, where a number may take 40.
+const LONGEST_LINE: usize = 80;
+
+// Puts the area that breaks a rule behind its name.
+fn add_area(line: &mut ArrayString<LONGEST_LINE>, area: Option<Area>)
+    requires { length line.old.bytes + 8 ≤ 80 }
+    ensures text { line.new.bytes ≡ line.old.bytes ++ area_ending area }
+    ensures size { length line.new.bytes ≤ length line.old.bytes + 8 }
+{
+    if let Some(area) = area {
+        line.push_str(" ");
+        line.push_str(area_name(area));
+    }
+}
+
 /// Appends the line that is printed of a refused file or line. `number` counts the files, or the lines of the script,
 /// from 1.
-#[tactic(auto, using(std::proofs::Common::append_assoc))]
+#[tactic(auto, using(std::proofs::Common::append_assoc), unfolding(crate::specs::Refusals::refusal_text))]
 pub fn push_refused_line(
     out: &mut String,
     origin: Origin,
@@ -230,11 +248,15 @@ pub fn push_refused_line(
 ) -> Result<(), OutOfMemory>
     ensures { OnOk result (string_bytes out.new ≡ string_bytes out.old ++ refused_line origin number refusal) }
 {
-    out.push_str(origin.word())?;
-    push_decimal(out, number)?;
-    out.push_str(" refused ")?;
-    push_refusal(out, refusal)?;
-    out.push('\n')?;
+    // The line is short, so it is put together first and appended at once.
+    let mut line = ArrayString::<LONGEST_LINE>::new();
+    line.push_str(origin.word());
+    line.push_str(itoa::Buffer::new().format(number));
+    line.push_str(" refused ");
+    line.push_str(refusal.name());
+    add_area(&mut line, refusal.area());
+    line.push_str("\n");
+    out.push_str(line.as_str())?;
     Ok(())
 }
 
