@@ -16,7 +16,7 @@ use Rattle.fan_zone.specs.Ticks.{ZonesView, no_zones}
 use Rattle.fan_zone.proofs.Numbered.{all_tail}
 use Rattle.bmc_machine.specs.Banks.{HasBank}
 use Rattle.bmc_machine.specs.Boards.{board_keys, boards}
-use Rattle.bmc_machine.specs.Histories.{Step, Options, Start, begun, default_log_cap, is_strict, standing}
+use Rattle.bmc_machine.specs.Histories.{Step, Options, Start, begun, is_strict, standing}
 use Rattle.bmc_machine.specs.Logs.{entries}
 use Rattle.bmc_machine.specs.Indexes.{boards_now, items_now, live_now}
 use Rattle.bmc_machine.specs.Refusals.{IsLegal}
@@ -90,7 +90,7 @@ stands_begun strict senses bank zones stood stated are options same = record {
 pub state_begun : (strict : Bool) (senses : SensesView) (bank : List Seen) (zones : ZonesView) → SensesStand senses [] → IsStated bank
     → zones ≡ no_zones bank → IsState (record { senses = senses; zones = zones; strict = strict })
 state_begun strict senses bank zones stood stated are =
-    let options : Options = record { strict = strict; log_cap = default_log_cap } in
+    let options : Options = record { strict = strict; log_cap = 1 } in
     record {
       past = begun options;
       stands = stands_begun strict senses bank zones stood stated are options refl;

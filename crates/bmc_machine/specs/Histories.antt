@@ -85,9 +85,9 @@ asks_strict Tick = false
 abbrev pub is_strict : List Step → Bool
 is_strict past = list_any asks_strict past
 
--- how many errors the log keeps where the run was not told
-abbrev pub default_log_cap : ℕ
-default_log_cap = 200
+-- how many errors the log keeps where no run was started
+abbrev pub unstarted_log_cap : ℕ
+unstarted_log_cap = 200
 
 -- how many it keeps after a step, where it kept so many before
 abbrev pub cap_after : Step → ℕ → ℕ
@@ -102,7 +102,7 @@ cap_after Tick cap = cap
 
 -- how many errors the log keeps after a history
 abbrev pub log_cap : List Step → ℕ
-log_cap [] = default_log_cap
+log_cap [] = unstarted_log_cap
 log_cap (step ∷ past) = cap_after step (log_cap past)
 
 -- the history of a run that was started, and nothing more
