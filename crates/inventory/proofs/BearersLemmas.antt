@@ -30,7 +30,7 @@ id_at item = item.id
 -- ---- bearers
 
 -- the items of a family that have a name bear it
-name_bears : (family : Family) (name : List ℕ) (item : Item) → bears (name_tag family name) item ≡ has_name family name item
+pub name_bears : (family : Family) (name : List ℕ) (item : Item) → bears (name_tag family name) item ≡ has_name family name item
 name_bears family name item = by item.part refl family
   where
     by : (part : ItemPart) → item.part ≡ part → (family : Family) → bears (name_tag family name) item ≡ has_name family name item

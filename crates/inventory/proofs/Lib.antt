@@ -34,3 +34,4 @@ pub mod StepLemmas
 pub mod SoundLemmas
 pub mod ComingLemmas
 pub mod CallersLemmas
+pub mod OwnNamesLemmas

@@ -1,5 +1,5 @@
 -- What holds inside a stock.
-use Rattle.std.proofs.Common.{◌≡◌, ◌∙◌, ◌||◌, ◌&&◌, not, Bool, List, [], map, None, refl, sym, ap, subst}
+use Rattle.std.proofs.Common.{◌≡◌, ◌∙◌, ◌||◌, ◌&&◌, not, Bool, true, List, [], map, None, refl, sym, ap, subst}
 use Rattle.std.specs.Prelude.{filter_map}
 use Rattle.std.specs.Option.{option_or}
 use Rattle.std.specs.Global.{Vec}
@@ -21,6 +21,7 @@ use Rattle.inventory.specs.declared.tags.Notes.{Notes}
 use Rattle.inventory.proofs.FollowsLemmas.{behind_is}
 use Rattle.inventory.proofs.ShownLemmas.{id_of, shown_by_id}
 use Rattle.inventory.proofs.NotesLemmas.{noted_alike}
+use Rattle.inventory.proofs.OwnNamesLemmas.{no_tags_own}
 use Rattle.inventory.proofs.StepLemmas.{borne_next, gone_are, gone_lists, new_are, new_lists}
 
 no_shown : AreShown []
@@ -32,12 +33,14 @@ unfolding IsStrictlySortedBy
 no_kept tag = record { order = tt; each = λ id. refl }
 
 -- there are no items
-pub none_sound : {S : Type 0} (boards : Vec Shown) (tags : IndexMap Tag (List ItemId) S) → boards.items ≡ [] → tags.entries ≡ [] → IsSound boards tags None
+pub none_sound : {S : Type 0} (boards : Vec Shown) (tags : IndexMap Tag (List ItemId) S) → boards.items ≡ [] → tags.entries ≡ []
+    → IsSound boards tags None true
 none_sound boards tags no_boards no_tags = record {
   shown = subst AreShown (sym no_boards) no_shown;
   kept = subst (λ (boards : List Shown). AreKept tags.entries boards) (sym no_boards)
       (subst (λ (entries : List (Tag × List ItemId)). AreKept entries []) (sym no_tags) no_kept);
   ready = tt;
+  names = λ _. no_tags_own tags.entries no_tags;
 }
 
 -- ---- what is staged

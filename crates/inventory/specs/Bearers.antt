@@ -108,6 +108,26 @@ abbrev pub is_empty : List ItemId → Bool
 is_empty [] = true
 is_empty (id ∷ ids) = false
 
+-- whether there are several ids
+abbrev pub are_several : List ItemId → Bool
+are_several [] = false
+are_several (id ∷ ids) = not (is_empty ids)
+
+-- whether several of the ids under a tag bear one name, which the controllers in a zone do not
+abbrev pub share_name : Role → List ItemId → Bool
+share_name Sensor ids = are_several ids
+share_name Zone ids = are_several ids
+share_name Fan ids = are_several ids
+share_name Member ids = false
+
+-- no name in a family is borne by several
+abbrev pub HaveOwnNames : (Tag → List ItemId) → Type 0
+HaveOwnNames ids = (tag : Tag) → share_name tag.role (ids tag) ≡ false
+
+-- whether ids that are noted for some tags bear one name
+abbrev pub some_share : List (Tag × List ItemId) → Bool
+some_share tags = list_any (λ (entry : Tag × List ItemId). share_name entry.0.role entry.1) tags
+
 -- the ids that are live of those that bear a name, and of those that are in a zone, where these bear its name
 abbrev pub live_by : Role → List ItemId → List ItemId → List ItemId
 live_by Sensor ids bearers = take 1 ids

@@ -1,10 +1,10 @@
 -- What the boards of one moment expose: their items, and which of them are live.
-use Rattle.std.specs.Prelude.{ℕ, ◌≤◌, Bool, true, false, ⊤, not, ◌==◌, ◌&&◌, ◌||◌, bytes_eq, List, [], ◌∷◌, length, filter, filter_map, find}
+use Rattle.std.specs.Prelude.{ℕ, ◌≡◌, ◌≤◌, Bool, true, false, ⊤, not, ◌==◌, ◌&&◌, ◌||◌, bytes_eq, List, [], ◌∷◌, length, filter, filter_map, find}
 use Rattle.std.specs.Prelude.{Option, Some, None, is_some}
 use Rattle.std.specs.Prelude.{option_map}
 use Rattle.std.specs.Prelude.{option_and_then, slice_get}
 use Rattle.std.specs.Option.{option_eq, unwrap_or}
-use Rattle.std.specs.List.{flat_map, list_any, enumerate_from}
+use Rattle.std.specs.List.{All, flat_map, list_any, enumerate_from}
 use Rattle.bmc_base.specs.Places.{Place, place_eq, last_bus, last_address}
 use Rattle.sensor_core.specs.Settings.{IsValidSetting}
 use Rattle.fru_area.specs.declared.field.Field.{Field}
@@ -174,6 +174,14 @@ has_zone items item = unwrap_or (option_map (λ zone. is_some (holder items fami
 -- an item is live where it holds its name; a controller is where the name of its zone is held; others never are
 abbrev pub is_live : List Item → Item → Bool
 is_live items item = holds_name items item || has_zone items item
+
+-- whether an item bears a name in a family, which sensors, zones and fans do
+abbrev pub bears_name : ItemPart → Bool
+bears_name part = is_some (family_of part)
+
+-- each of these items that bears a name in a family is live among the items
+abbrev pub AreNamedLive : List Item → List Item → Type 0
+AreNamedLive items these = All (λ (item : Item). bears_name item.part ≡ true → is_live items item ≡ true) these
 
 -- the items that are live
 unfoldable pub live : List Item → List Item

@@ -1,10 +1,10 @@
 -- What holds inside a stock.
-use Rattle.std.specs.Prelude.{◌+◌, ◌≤◌, ⊤, Bool, List, length, Option, Some, None, option_map}
+use Rattle.std.specs.Prelude.{◌≡◌, ◌+◌, ◌≤◌, ⊤, Bool, true, List, length, Option, Some, None, option_map}
 use Rattle.std.specs.Global.{Vec}
 use Rattle.std.specs.Vec.{vec_len, vec_capacity}
 use Rattle.indexmap.specs.IndexMap.{IndexMap, spare}
 use Rattle.cfg_json.specs.declared.item.ItemId.{ItemId}
-use Rattle.inventory.specs.Bearers.{ids_in, is_bearer, AreBorne, Lists}
+use Rattle.inventory.specs.Bearers.{ids_in, ids_over, is_bearer, AreBorne, HaveOwnNames, Lists}
 use Rattle.inventory.specs.Follows.{Stock}
 use Rattle.inventory.specs.Leads.{AreFirst}
 use Rattle.inventory.specs.Shown.{items_of, boards_after, AreShown}
@@ -37,13 +37,15 @@ pub record IsReady {S : Type 0} (boards : Vec Shown) (tags : IndexMap Tag (List 
   pub room_tags : length staged.tags.entries ≤ spare tags
   pub shown : AreShown (boards_behind boards.items staged)
   pub borne : AreBorne staged.tags.entries tags.entries (is_bearer (items_of (boards_behind boards.items staged)))
+  pub names : staged.own_names ≡ true → HaveOwnNames (ids_over staged.tags.entries tags.entries)
 
 abbrev pub IsReadyIf : {S : Type 0} → Vec Shown → IndexMap Tag (List ItemId) S → Option Staged → Type 0
 IsReadyIf boards tags None = ⊤
 IsReadyIf boards tags (Some staged) = IsReady boards tags staged
 
--- what holds inside a stock
-pub record IsSound {S : Type 0} (boards : Vec Shown) (tags : IndexMap Tag (List ItemId) S) (staged : Option Staged) : Type 0 where
+-- what holds inside a stock; where it says that names are the items' own, no name in a family is borne by several
+pub record IsSound {S : Type 0} (boards : Vec Shown) (tags : IndexMap Tag (List ItemId) S) (staged : Option Staged) (own_names : Bool) : Type 0 where
   pub shown : AreShown boards.items
   pub kept : AreKept tags.entries boards.items
   pub ready : IsReadyIf boards tags staged
+  pub names : own_names ≡ true → HaveOwnNames (ids_in tags.entries)

@@ -4,7 +4,7 @@ ghost use Rattle.std.specs.List.{list_any, prefix_len};
 ghost use Rattle.std.specs.List.Sorted.{IsStrictlySortedBy};
 ghost use Rattle.std.specs.Ordering.{is_lt};
 ghost use Rattle.cfg_json.specs.declared.item.ItemId.{ItemId};
-ghost use Rattle.inventory.specs.Bearers.{but_id, ids_or_none, is_id, or_id, Lists};
+ghost use Rattle.inventory.specs.Bearers.{are_several, but_id, ids_or_none, is_id, or_id, Lists};
 ghost use Rattle.inventory.specs.Items.{id_eq};
 ghost use Rattle.inventory.specs.Leads.{ListsMore};
 ghost use Rattle.inventory.specs.Orders.{id_cmp};
@@ -195,6 +195,16 @@ impl Ids {
         ensures { result ≡ (length self.now == 0) }
     {
         self.first.is_none() && self.rest.is_empty()
+    }
+
+    /// Whether there are several.
+    pub(crate) fn are_several(&self) -> bool
+        ensures { result ≡ are_several self.now }
+    {
+        match self.first {
+            Some(_) => !self.rest.is_empty(),
+            None => self.rest.len() > 1,
+        }
     }
 
     /// Returns the first id, if there is one.

@@ -1,4 +1,4 @@
-ghost use Rattle.std.specs.Prelude.{◌≡◌, ◌≤◌, ◌++◌, ◌&&◌, ◌||◌, not, ⊤, Bool, List, [], filter_map, length, option_map, option_to_list, None, Some};
+ghost use Rattle.std.specs.Prelude.{◌≡◌, ◌≤◌, ◌++◌, ◌&&◌, ◌||◌, not, ⊤, Bool, List, [], filter_map, length, option_map, option_to_list, true, None, Some};
 ghost use Rattle.std.specs.Prelude.{IfOk, OnOk, OnErr, IsSomeAnd};
 ghost use Rattle.std.specs.List.{All};
 ghost use Rattle.std.specs.Option.{option_or};
@@ -7,7 +7,7 @@ ghost use Rattle.cfg_json.specs.declared.item.Item.{Item};
 ghost use Rattle.cfg_json.specs.declared.item.ItemId.{ItemId};
 ghost use Rattle.inventory.specs.Bearers.{ids_in, ids_over, is_bearer, leads, touched, AreBorne, Lists};
 ghost use Rattle.inventory.specs.Follows.{item_of, kept_with, on, AreKeysAscending, Follows};
-ghost use Rattle.inventory.specs.Items.{entry_fields, holder, is_item, is_live, items_less, live, IsValidItem};
+ghost use Rattle.inventory.specs.Items.{entry_fields, holder, is_item, is_live, items_less, live, AreNamedLive, IsValidItem};
 ghost use Rattle.inventory.specs.Leads.{AreInOrder};
 ghost use Rattle.inventory.specs.Naming.{naming_items};
 ghost use Rattle.inventory.specs.Shown.{items_of, AreShown};
@@ -19,7 +19,7 @@ use crate::ids::is_same;
 use crate::leads::{copy_items, find_leads};
 use crate::shown::{Shown, insert_boards, item_at, remove_boards};
 use crate::tag::name_tag;
-use crate::tags::{Notes, Tags, first_of, forget_boards, keep_noted, note_boards};
+use crate::tags::{Notes, Tags, first_of, forget_boards, keep_noted, note_boards, stay_own};
 use crate::{BoardKey, Difference, Family, IndexKeep, ItemList, Moment};
 use bmc_base::{Ledger, Name, OutOfMemory};
 use cfg_json::{Config, Item, ItemId, ItemPart, Shelf};
@@ -27,22 +27,26 @@ use indexmap::IndexMap;
 use std::alloc::Global;
 use std::marker::Model;
 
-// What is staged: the boards that go, those that come, and for each tag of their items the ids that are kept for it then.
+// What is staged: the boards that go, those that come, for each tag of their items the ids that are kept for it then, and
+// whether it is known that no two items share a name in a family then.
 #[derive(Drop)]
 struct Staged {
     gone: Vec<BoardKey>,
     new: Vec<Shown>,
     tags: Tags,
+    own_names: bool,
 }
 
 /// What the naming boards of one moment expose, and which of it is live. Boards that go and come are staged, so that taking
 /// them over takes no memory. What either takes follows the items of these boards, those that
 /// bear their names, and the controllers in the zones whose names become held or free or that these boards have controllers in.
+/// Beside them stands whether it is known that no two items share a name in a family.
 #[derive(Drop)]
 pub struct Stock {
     boards: Vec<Shown>,
     tags: Tags,
     staged: Option<Staged>,
+    own_names: bool,
 }
 
 impl Model for Stock {
@@ -53,7 +57,7 @@ impl Model for Stock {
 
     ghost view = { λ s. stock_of s.boards s.staged };
 
-    ghost invariant = { λ s. IsSound s.boards s.tags s.staged };
+    ghost invariant = { λ s. IsSound s.boards s.tags s.staged s.own_names };
 }
 
 /// The live items that go and those that come, by board and expose.
@@ -128,6 +132,7 @@ impl Stock {
             boards: Vec::new(alloc),
             tags: IndexMap::new(alloc),
             staged: None,
+            own_names: true,
         })
     }
 
@@ -167,7 +172,13 @@ impl Stock {
         let Notes { over: tags, .. } = notes;
         self.tags.reserve(tags.len())?;
         self.boards.reserve(new.len())?;
-        self.staged = Some(Staged { gone, new, tags });
+        let own_names = stay_own(self.own_names, &tags);
+        self.staged = Some(Staged {
+            gone,
+            new,
+            tags,
+            own_names,
+        });
         Ok(items)
     }
 
@@ -178,10 +189,18 @@ impl Stock {
         ensures staged { self.new.staged ≡ None }
     {
         match self.staged.take() {
-            Some(Staged { gone, new, tags }) => {
+            Some(
+                Staged {
+                    gone,
+                    new,
+                    tags,
+                    own_names,
+                },
+            ) => {
                 remove_boards(&mut self.boards, &gone);
                 insert_boards(&mut self.boards, new);
                 keep_noted(&mut self.tags, tags);
+                self.own_names = own_names || self.tags.is_empty();
             }
             None => unreachable!(),
         }
@@ -192,6 +211,14 @@ impl Stock {
         ensures { items_of result.now ≡ self.now.items }
     {
         &self.boards
+    }
+
+    /// Whether it is known that no two items share a name in a family, so that each sensor, zone and fan is live. No name is
+    /// looked up.
+    pub fn have_own_names(&self) -> bool
+        ensures { result ≡ true → AreNamedLive self.now.items self.now.items }
+    {
+        self.own_names
     }
 
     // Returns the id of the item that holds a name in a family, if one does. The name is looked up once, and no item.

@@ -1,7 +1,7 @@
 ghost use Rattle.std.specs.Prelude.{◌≡◌, ◌+◌, ◌<◌, ◌≤◌, ◌∷◌, [], not, ◌&&◌, ◌||◌, Bool, length, slice_get, if◌then◌else◌, IfOk, OnOk};
 ghost use Rattle.indexmap.specs.IndexMap.{spare};
 ghost use Rattle.cfg_json.specs.declared.item.ItemId.{ItemId};
-ghost use Rattle.inventory.specs.Bearers.{ids_in, ids_or_none, ids_over, is_bearer, noted_by, tag_eq, Lists};
+ghost use Rattle.inventory.specs.Bearers.{ids_in, ids_or_none, ids_over, is_bearer, noted_by, share_name, some_share, tag_eq, Lists};
 ghost use Rattle.inventory.specs.Follows.{on};
 ghost use Rattle.inventory.specs.Items.{id_eq};
 ghost use Rattle.inventory.specs.Shown.{items_of, AreShown};
@@ -11,7 +11,7 @@ ghost use Rattle.inventory.specs.declared.tag.Tag.{Tag};
 use crate::BoardKey;
 use crate::ids::Ids;
 use crate::shown::{Shown, board_items};
-use crate::tag::{Tag, tag_of};
+use crate::tag::{Role, Tag, tag_of};
 use bmc_base::OutOfMemory;
 use cfg_json::{Item, ItemId};
 use indexmap::IndexMap;
@@ -156,6 +156,30 @@ pub(crate) fn note_boards(
         note_items(alloc, notes, tags, &board.items, true)?;
     }
     Ok(())
+}
+
+// Whether several of the ids for a tag bear one name, which the controllers in a zone do not.
+fn share_name(tag: &Tag, ids: &Ids) -> bool
+    ensures { result ≡ share_name tag.now.role ids.now }
+{
+    match tag.role {
+        Role::Sensor | Role::Zone | Role::Fan => ids.are_several(),
+        Role::Member => false,
+    }
+}
+
+// Whether several of the ids for one of these tags bear one name.
+fn some_share(over: &Tags) -> bool
+    ensures { result ≡ some_share over.now.entries }
+{
+    over.iter().any(|(tag, ids)| share_name(tag, ids))
+}
+
+/// Whether names stay the items' own: they were, and none is shared among the ids that take the place of others.
+pub(crate) fn stay_own(own: bool, over: &Tags) -> bool
+    ensures { result ≡ (own && not (some_share over.now.entries)) }
+{
+    own && !some_share(over)
 }
 
 // Puts ids for a tag in place of those that are kept. There is room for a tag more.

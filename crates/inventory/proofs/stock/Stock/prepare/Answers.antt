@@ -4,7 +4,7 @@ use Rattle.std.specs.Option.{option_or}
 use Rattle.cfg_json.specs.Configs.{Config}
 use Rattle.cfg_json.specs.declared.item.Item.{Item}
 use Rattle.cfg_json.specs.declared.item.ItemId.{ItemId}
-use Rattle.inventory.specs.Bearers.{is_bearer, AreBorne}
+use Rattle.inventory.specs.Bearers.{ids_in, ids_over, is_bearer, AreBorne, HaveOwnNames}
 use Rattle.inventory.specs.Follows.{item_of, kept_with, Follows, Stock}
 use Rattle.inventory.specs.Items.{entry_fields, items_less, live}
 use Rattle.inventory.specs.Naming.{naming_items}
@@ -14,6 +14,7 @@ use Rattle.inventory.specs.declared.board.BoardKey.{BoardKey}
 use Rattle.inventory.specs.declared.tag.Tag.{Tag}
 use Rattle.inventory.specs.declared.shown.Shown.{Shown}
 use Rattle.inventory.proofs.FollowsLemmas.{behind_is, behind_shown}
+use Rattle.inventory.proofs.OwnNamesLemmas.{stay_own}
 use Rattle.inventory.proofs.SoundLemmas.{follows_as, in_order, noted_as, noted_for, staged_borne, told_gone, told_new}
 use Rattle.inventory.proofs.ValidLemmas.{told_valid}
 use Rattle.inventory.proofs.stock.Stock.prepare.Goals as goal
@@ -56,7 +57,10 @@ invariant_of-self-2 g c =
             (subst (λ (tags : List (Tag × List ItemId)).
             AreBorne notes.over.entries tags (is_bearer (items_of (boards_after gone new boards)))) (sym same_tags)
             (staged_borne gone keys boards new c.requires.tie.0 shown new_shown follows notes tags c.self.invariant.kept noted));
+        names = λ known. subst (λ (tags : List (Tag × List ItemId)). HaveOwnNames (ids_over notes.over.entries tags)) (sym same_tags)
+            (stay_own c.self.inside.own_names notes.over.entries tags c.self.invariant.names (sym c.stay_own-own_names.ensures ∙ known));
       };
+      names = λ known. subst (λ (tags : List (Tag × List ItemId)). HaveOwnNames (ids_in tags)) (sym same_tags) (c.self.invariant.names known);
     }
 
 pub returns-clause-staged : goal.returns-clause-staged
