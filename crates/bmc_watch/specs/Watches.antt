@@ -12,6 +12,7 @@ use Rattle.inventory.specs.Indexes.{kept_of, except, with_boards}
 use Rattle.inventory.specs.Items.{entry_fields, items, live}
 use Rattle.inventory.specs.Limits.{passed_limit}
 use Rattle.inventory.specs.Lists.{keys_of, board_list}
+use Rattle.inventory.specs.Naming.{naming_items}
 use Rattle.inventory.specs.declared.board.Board.{Board}
 use Rattle.inventory.specs.declared.board.BoardKey.{BoardKey}
 use Rattle.inventory.specs.declared.fault.InventoryFault.{InventoryFault}
@@ -62,6 +63,10 @@ view_list view = board_list (kept_of view.kept) (view_keys view)
 -- what they expose; FRUs that are idle have no boards
 abbrev pub view_items : WatchView → List Item
 view_items view = items view.configs (entry_fields (busy view.entries)) (view_list view)
+
+-- what the naming ones among them expose
+abbrev pub view_shown : WatchView → List Item
+view_shown view = naming_items view.configs (kept_of view.kept) (entry_fields (busy view.entries)) (view_keys view)
 
 abbrev pub view_inventory : WatchView → Inventory
 view_inventory view =

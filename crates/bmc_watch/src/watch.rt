@@ -1,11 +1,11 @@
-ghost use Rattle.std.specs.Prelude.{◌≡◌, ◌<◌, ◌≤◌, ◌++◌, ◌∷◌, [], false, filter, find, length, IfOk, OnOk, OnErr, IsSomeAnd, None, Some};
+ghost use Rattle.std.specs.Prelude.{◌≡◌, ◌<◌, ◌≤◌, ◌++◌, ◌∷◌, [], false, true, filter, find, length, IfOk, OnOk, OnErr, IsSomeAnd, None, Some};
 ghost use Rattle.std.specs.Result.{is_err};
 ghost use Rattle.bmc_base.specs.Steps.{IsWithin};
 ghost use Rattle.bmc_machine.specs.Histories as histories;
-ghost use Rattle.bmc_watch.specs.Watches.{no_view, view_items, view_list, IsSame};
+ghost use Rattle.bmc_watch.specs.Watches.{no_view, view_items, view_list, view_shown, IsSame};
 ghost use Rattle.cfg_json.specs.Shelves.{most_configs, number_of};
 ghost use Rattle.fru_rows.specs.Idle.{busy};
-ghost use Rattle.inventory.specs.Items.{entry_fields, board_items, is_live, live};
+ghost use Rattle.inventory.specs.Items.{entry_fields, board_items, is_live, live, AreNamedLive};
 ghost use Rattle.inventory.specs.Shown.{items_of};
 ghost use Rattle.probe_lang.specs.Presents.{holds_place, is_entry_at};
 ghost use Rattle.match_rows.specs.Matching.{entry_of, pattern_count};
@@ -127,9 +127,18 @@ impl<L: Ledger> Watch<L> {
 
     /// Borrows the boards that have items with names in a family, with their items. All live items are among them.
     pub fn shown(&self) -> &[Shown]
-        ensures { filter (is_live (view_items self.now)) (items_of result.now) ≡ live (view_items self.now) }
+        ensures items { items_of result.now ≡ view_shown self.now }
+        ensures live { filter (is_live (view_items self.now)) (items_of result.now) ≡ live (view_items self.now) }
     {
         self.stock.boards()
+    }
+
+    /// Whether it is known that no two items share a name in a family, so that each sensor, zone and fan on the boards that are
+    /// shown is live. No name is looked up.
+    pub fn have_own_names(&self) -> bool
+        ensures { result ≡ true → AreNamedLive (view_items self.now) (view_shown self.now) }
+    {
+        self.stock.have_own_names()
     }
 
     /// Whether an item is live. Its name is looked up once.
