@@ -1,7 +1,8 @@
 -- The live items that act in zones, gathered one after another.
 use Rattle.std.proofs.Common.{◌≡◌, ◌∙◌, ◌+◌, ◌≤◌, ℕ, List, [], ◌∷◌, ◌++◌, Bool, true, false, ◌&&◌, cond, length, filter, refl, ap, sym, arith}
 use Rattle.std.proofs.Common.{append_assoc, append-nil, length-append, flat_map, ◌||◌, ap₂, true≢false}
-use Rattle.std.specs.List.{list_any}
+use Rattle.std.specs.List.{All, list_any}
+use Rattle.std.proofs.lemmas.List.Elements.{All-cons, All-head, All-nil, All-tail}
 use Rattle.std.proofs.lemmas.List.Folds.{list_any-append}
 use Rattle.bmc_report.specs.declared.change.Change.{Change}
 use Rattle.bmc_report.specs.declared.change.Change.TheVariants as changes_of
@@ -13,7 +14,7 @@ use Rattle.cfg_json.specs.declared.item.ItemPart.TheVariants as parts
 use Rattle.inventory.specs.Shown.{items_of as all_items}
 use Rattle.inventory.specs.declared.shown.Shown.{Shown}
 use Rattle.fan_zone.specs.Live.{acts}
-use Rattle.inventory.specs.Items.{is_live}
+use Rattle.inventory.specs.Items.{bears_name, is_live, AreNamedLive}
 use Rattle.bmc_watch.specs.Watches.{WatchView, view_items}
 use Rattle.bmc_core.specs.Acting.{acting, acting_of, asks_by, asks_for_some, is_named}
 
@@ -86,6 +87,29 @@ gathers_all watch count gathered start all before room gathers = sym (append-nil
 pub gathers_count : (watch : WatchView) (count : ℕ) (gathered start all : List Item) (before room : ℕ) → Gathers watch count gathered [] start all before room
     → count ≡ before + length (acting_of watch all)
 gathers_count watch count gathered start all before room gathers = let counts = gathers.counts in omega (arith, counts)
+
+-- ---- items that bear names
+
+all_front : (Fact : Item → Type 0) (front back : List Item) → All Fact (front ++ back) → All Fact front
+all_front Fact [] back facts = All-nil Fact
+all_front Fact (item ∷ front) back facts =
+    All-cons Fact item front (All-head Fact item (front ++ back) facts) (all_front Fact front back (All-tail Fact item (front ++ back) facts))
+
+all_back : (Fact : Item → Type 0) (front back : List Item) → All Fact (front ++ back) → All Fact back
+all_back Fact [] back facts = facts
+all_back Fact (item ∷ front) back facts = all_back Fact front back (All-tail Fact item (front ++ back) facts)
+
+abbrev LiveIfNamed : List Item → Item → Type 0
+LiveIfNamed items item = bears_name item.part ≡ true → is_live items item ≡ true
+
+-- those of some boards are live, board after board
+pub named_boards : (items : List Item) (boards : List Shown) → AreNamedLive items (all_items boards)
+    → All (λ (board : Shown). AreNamedLive items board.items.items) boards
+named_boards items [] named = All-nil (λ (board : Shown). AreNamedLive items board.items.items)
+named_boards items (board ∷ boards) named =
+    All-cons (λ (board : Shown). AreNamedLive items board.items.items) board boards
+    (all_front (LiveIfNamed items) board.items.items (all_items boards) named)
+    (named_boards items boards (all_back (LiveIfNamed items) board.items.items (all_items boards) named))
 
 -- ---- what zones have to do with
 

@@ -1,11 +1,11 @@
-ghost use Rattle.std.specs.Prelude.{◌≡◌, false, bytes_eq, ◌+◌, ◌≤◌, ◌++◌, ◌∷◌, [], None, length, take};
+ghost use Rattle.std.specs.Prelude.{◌≡◌, false, true, bytes_eq, ◌+◌, ◌≤◌, ◌++◌, ◌∷◌, [], None, length, take};
 ghost use Rattle.std.specs.List.{All, list_any};
 ghost use Rattle.cfg_json.specs.declared.item.Item.{Item};
 ghost use Rattle.cfg_json.specs.Configs.{IsValidConfig};
 ghost use Rattle.fan_zone.specs.IsSets.{IsSet};
 ghost use Rattle.fan_zone.specs.Live.{items_of};
 ghost use Rattle.fan_zone.specs.Settings.{CanSet};
-ghost use Rattle.inventory.specs.Items.{live};
+ghost use Rattle.inventory.specs.Items.{bears_name, is_live, live, AreNamedLive};
 ghost use Rattle.inventory.specs.Shown.{items_of as all_items};
 ghost use Rattle.inventory.specs.declared.shown.Shown.{Shown as BoardShown};
 ghost use Rattle.bmc_machine.specs.Changes.{concerns_zones};
@@ -24,18 +24,38 @@ use live_sensors::LiveSensors;
 // The most live items that act in zones: 32 zones, 128 fans, and 192 controllers.
 const MOST_ACTING: usize = 352;
 
+// Whether an item bears a name in a family, which sensors, zones and fans do.
+fn bears_name(item: &Item) -> bool
+    ensures { result ≡ bears_name item.now.part }
+{
+    match &item.part {
+        ItemPart::Sensor(_) | ItemPart::Zone(_) | ItemPart::Fan => true,
+        ItemPart::Control(_) | ItemPart::Mux(_) | ItemPart::Passive => false,
+    }
+}
+
+// Whether an item is live. Where names are the items' own, one that bears a name is, and no name is looked up.
+fn is_live<L: Ledger>(watch: &Watch<L>, item: &Item, own: bool) -> bool
+    requires { own ≡ true → bears_name item.now.part ≡ true → is_live (view_items watch.now) item.now ≡ true }
+    ensures { result ≡ is_live (view_items watch.now) item.now }
+{
+    (own && bears_name(item)) || watch.is_live(item)
+}
+
 // Puts an item behind as many as are there, if it is live and acts in zones, and returns how many there are then.
 fn gather_item<'w, L: Ledger>(
     watch: &Watch<L>,
     item: &'w Item,
+    own: bool,
     into: &mut [&'w Item],
     count: usize,
 ) -> usize
-    requires { count + length (acting_of watch.now (item.now ∷ [])) ≤ length into.old }
+    requires own { own ≡ true → bears_name item.now.part ≡ true → is_live (view_items watch.now) item.now ≡ true }
+    requires room { count + length (acting_of watch.now (item.now ∷ [])) ≤ length into.old }
     ensures items { items_of (take result into.new) ≡ items_of (take count into.old) ++ acting_of watch.now (item.now ∷ []) }
     ensures count { result ≡ count + length (acting_of watch.now (item.now ∷ [])) }
 {
-    if acts(item) && watch.is_live(item) {
+    if acts(item) && is_live(watch, item, own) {
         into[count] = item;
         count + 1
     } else {
@@ -47,29 +67,38 @@ fn gather_item<'w, L: Ledger>(
 fn gather_items<'w, L: Ledger>(
     watch: &Watch<L>,
     items: &'w [Item],
+    own: bool,
     into: &mut [&'w Item],
     count: usize,
 ) -> usize
-    requires { count + length (acting_of watch.now items.now) ≤ length into.old }
+    requires own { own ≡ true → AreNamedLive (view_items watch.now) items.now }
+    requires room { count + length (acting_of watch.now items.now) ≤ length into.old }
     ensures items { items_of (take result into.new) ≡ items_of (take count into.old) ++ acting_of watch.now items.now }
     ensures count { result ≡ count + length (acting_of watch.now items.now) }
 {
     let mut count = count;
     for item in items {
-        count = gather_item(watch, item, into, count);
+        count = gather_item(watch, item, own, into, count);
     }
     count
 }
 
-// Lists the live ones of the items of these boards that act in zones, and returns how many there are.
-fn gather<'w, L: Ledger>(watch: &Watch<L>, boards: &'w [Shown], into: &mut [&'w Item]) -> usize
-    requires { length (acting_of watch.now (all_items boards.now)) ≤ length into.old }
+// Lists the live ones of the items of these boards that act in zones, and returns how many there are. Where names are the
+// items' own, only the zones of controllers are looked up.
+fn gather<'w, L: Ledger>(
+    watch: &Watch<L>,
+    boards: &'w [Shown],
+    own: bool,
+    into: &mut [&'w Item],
+) -> usize
+    requires own { own ≡ true → AreNamedLive (view_items watch.now) (all_items boards.now) }
+    requires room { length (acting_of watch.now (all_items boards.now)) ≤ length into.old }
     ensures items { items_of (take result into.new) ≡ acting_of watch.now (all_items boards.now) }
     ensures count { result ≡ length (acting_of watch.now (all_items boards.now)) }
 {
     let mut count = 0;
     for board in boards {
-        count = gather_items(watch, &board.items, into, count);
+        count = gather_items(watch, &board.items, own, into, count);
     }
     count
 }
@@ -103,7 +132,8 @@ fn set_zones<L: Ledger, C: Controller>(
         None => zones.set(&[], sensors),
         Some(any) => {
             let mut items = [any; MOST_ACTING];
-            let count = gather(watch, boards, &mut items);
+            let own = watch.have_own_names();
+            let count = gather(watch, boards, own, &mut items);
             zones.set(&items[..count], sensors);
         }
     }

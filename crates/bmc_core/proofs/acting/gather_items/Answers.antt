@@ -1,9 +1,16 @@
-use Rattle.std.proofs.Common.{◌≡◌, ◌+◌, List, [], ◌∷◌, arith, drop, length, subst, take, sym}
+use Rattle.std.proofs.Common.{◌≡◌, ◌+◌, List, [], ◌∷◌, arith, drop, length, subst, take, true, sym}
 use Rattle.std.proofs.lemmas.List.{drop_more}
 use Rattle.cfg_json.specs.declared.item.Item.{Item}
+use Rattle.inventory.specs.Items.{bears_name, is_live}
+use Rattle.bmc_watch.specs.Watches.{view_items}
 use Rattle.fan_zone.specs.Live.{items_of}
 use Rattle.bmc_core.proofs.ActingLemmas.{Gathers, gathers_more}
 use Rattle.bmc_core.proofs.acting.gather_items.Goals as goal
+
+pub gather_item-count-requires-clause-own : goal.gather_item-count-requires-clause-own
+gather_item-count-requires-clause-own g c known =
+    subst (λ (item : Item). bears_name item.part ≡ true → is_live (view_items c.args.watch.now) item ≡ true) (sym c.item-item.is)
+    (c.requires.own known c.loop-item.item-index c.item-item.result c.loop-item-test.true)
 
 pub loop-item-preserved : goal.loop-item-preserved
 loop-item-preserved g c =

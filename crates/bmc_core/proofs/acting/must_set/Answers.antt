@@ -14,5 +14,5 @@ returns-else-is_empty g c is =
     let changes = c.args.watch.now.changes in
     let none : list_any (concerns_zones all) changes ≡ false =
     ap (list_any (concerns_zones all)) (sym c.changes-else-is_empty.ensures) ∙ c.some_concern_zones.ensures is in
-    inl (subst (λ (items : List Item). list_any (concerns_zones items) changes ≡ false) c.shown.ensures
+    inl (subst (λ (items : List Item). list_any (concerns_zones items) changes ≡ false) c.shown.ensures.live
     (fewer_concern (is_live (view_items c.args.watch.now)) all changes none))

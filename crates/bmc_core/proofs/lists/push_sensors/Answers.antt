@@ -13,4 +13,4 @@ returns g c =
     ∙ ap (λ (rows : List ℕ). string_bytes c.args.text.now ++ rows)
     (ap (flat_map (λ (board : Shown). flat_map (row_if_live c.args.watch.now c.args.sensors.now c.args.tick) board.items.items))
     (take_all c.loop-board.board-index boards c.loop-board-test.false)
-    ∙ all_shown c.args.watch.now c.args.sensors.now c.args.tick boards c.shown-boards.ensures)
+    ∙ all_shown c.args.watch.now c.args.sensors.now c.args.tick boards c.shown-boards.ensures.live)
