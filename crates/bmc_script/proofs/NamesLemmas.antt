@@ -15,7 +15,7 @@ use Rattle.bmc_base.specs.Names.{name_of}
 use Rattle.bmc_text.specs.Words.{split_space}
 use Rattle.bmc_script.specs.Commands.{name_in, split_last_space}
 
-abbrev is_space : ℕ → Bool
+abbrev pub is_space : ℕ → Bool
 is_space byte = byte == 32
 
 -- none of the bytes is a space

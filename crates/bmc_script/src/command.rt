@@ -1,6 +1,6 @@
-ghost use Rattle.std.specs.Prelude.{◌≡◌, ◌<◌, ◌==◌, length, IfSome, option_map, position};
+ghost use Rattle.std.specs.Prelude.{◌≡◌, ◌<◌, ◌==◌, [], Err, length, IfSome, option_map, position};
 ghost use Rattle.bmc_text.specs.Words.{split_space};
-ghost use Rattle.bmc_script.specs.Commands.{GivesCommand, command_of, first_word, words_of, plug_of, unplug_of, config_of, place_named};
+ghost use Rattle.bmc_script.specs.Commands.{GivesCommand, command_of, verb_command, plug_of, unplug_of, config_of, place_named};
 ghost use Rattle.bmc_script.specs.Commands.{is_blank, split_last_space, name_in, read_of, lose_of, ticks_of, topic_of, show_of};
 
 use bmc_base::{Bytes, Name, Place};
@@ -79,13 +79,6 @@ fn word(bytes: &[u8]) -> Option<(&[u8], &[u8])>
         Some(at) => Some((&bytes[..at], &bytes[at + 1..])),
         None => None,
     }
-}
-
-// Splits a line at the first space: its first word, and what stands behind it, nothing where there is no space.
-fn split_verb(line: &[u8]) -> (&[u8], &[u8])
-    ensures { (result.0.now, result.1.now) ≡ first_word line.now }
-{
-    word(line).unwrap_or((line, b""))
 }
 
 // Reads a place, from a bus of 0 to 255 and an address of 0 to 127.
@@ -210,22 +203,17 @@ fn read_show(rest: &[u8]) -> Result<Command, ScriptFault>
     Ok(Command::Show(topic))
 }
 
-// Reads a line that is no comment.
+// Returns the fault of a line that begins with no verb and a space: a verb that stands alone has no arguments.
+#[cold]
 #[inline(never)]
-#[tactic(auto, unfolding(crate::specs::Commands::words_of))]
-fn read_words(alloc: Global, line: &[u8]) -> Result<Command, ScriptFault>
-    ensures { GivesCommand result (words_of line.now) }
+fn other_fault(line: &[u8]) -> ScriptFault
+    ensures { verb_command line.now [] ≡ Err result }
 {
-    let (verb, rest) = split_verb(line);
-    match verb {
-        b"plug" => read_plug(alloc, rest),
-        b"unplug" => read_unplug(rest),
-        b"config" => read_config(rest),
-        b"read" => read_read(rest),
-        b"lose" => read_lose(rest),
-        b"tick" => read_ticks(rest),
-        b"show" => read_show(rest),
-        _ => Err(ScriptFault::UnknownCommand),
+    match line {
+        b"plug" | b"unplug" | b"config" | b"read" | b"lose" | b"tick" | b"show" => {
+            ScriptFault::BadArguments
+        }
+        _ => ScriptFault::UnknownCommand,
     }
 }
 
@@ -247,9 +235,15 @@ impl Command {
     {
         match line {
             [] | [b'#', ..] => Ok(Command::Nothing),
-            // told apart at once, since most lines are readings
+            // told apart in place: a verb and a space cost no search for the space
             [b'r', b'e', b'a', b'd', b' ', rest @ ..] => read_read(rest),
-            _ => read_words(alloc, line),
+            [b'p', b'l', b'u', b'g', b' ', rest @ ..] => read_plug(alloc, rest),
+            [b'u', b'n', b'p', b'l', b'u', b'g', b' ', rest @ ..] => read_unplug(rest),
+            [b'c', b'o', b'n', b'f', b'i', b'g', b' ', rest @ ..] => read_config(rest),
+            [b'l', b'o', b's', b'e', b' ', rest @ ..] => read_lose(rest),
+            [b't', b'i', b'c', b'k', b' ', rest @ ..] => read_ticks(rest),
+            [b's', b'h', b'o', b'w', b' ', rest @ ..] => read_show(rest),
+            _ => Err(other_fault(line)),
         }
     }
 }
