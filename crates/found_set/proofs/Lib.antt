@@ -1,6 +1,7 @@
 pub mod NamedLemmas
 pub mod FoundLemmas
 pub mod StepsLemmas
+pub mod WordsLemmas
 pub mod BusesLemmas
 pub mod MarksLemmas
 pub mod RowsLemmas

@@ -2,10 +2,9 @@ ghost use Rattle.std.specs.Prelude.{◌≡◌, ℕ, Bool};
 ghost use Rattle.found_set.specs.Marks.{AreMarked};
 ghost use Rattle.found_set.specs.Covers.{are_had, is_covered, opens_none};
 
-use crate::facts::BUSES;
-use crate::marks::is_on;
+use crate::marks::{Marks, is_on};
 use crate::parts::Parts;
-use crate::reach::{is_on_root, mark_roots};
+use crate::reach::is_on_root;
 use crate::row::Row;
 use probe_lang::Hit;
 
@@ -17,7 +16,7 @@ fn opens_none(row: &Row) -> bool
 }
 
 // Whether each hit is a hit of a row on a bus that is marked.
-fn are_had(hits: &[Hit], rows: &Parts<'_>, buses: &[bool; BUSES]) -> bool
+fn are_had(hits: &[Hit], rows: &Parts<'_>, buses: &Marks) -> bool
     ensures { (test : ℕ → Bool) → AreMarked buses.now test → result ≡ are_had test hits.now rows.now }
 {
     for hit in hits {
@@ -30,7 +29,7 @@ fn are_had(hits: &[Hit], rows: &Parts<'_>, buses: &[bool; BUSES]) -> bool
 
 // Whether a row changes no fact beside the others, where these buses are reachable: it opens no bus, and if
 // it is visible, each of its hits is a hit of another row that counts wherever this one does.
-pub(crate) fn is_covered(row: &Row, others: &Parts<'_>, reach: &[bool; BUSES]) -> bool
+pub(crate) fn is_covered(row: &Row, others: &Parts<'_>, reach: &Marks) -> bool
     ensures { (test : ℕ → Bool) → AreMarked reach.now test → result ≡ is_covered test row.now others.now }
 {
     if !opens_none(row) {
@@ -41,7 +40,7 @@ pub(crate) fn is_covered(row: &Row, others: &Parts<'_>, reach: &[bool; BUSES]) -
     }
     let hits = row.hits.as_slice();
     if is_on_root(row) {
-        are_had(hits, others, &mark_roots())
+        are_had(hits, others, &Marks::roots())
     } else {
         are_had(hits, others, reach)
     }

@@ -9,12 +9,12 @@ ghost use Rattle.found_set.specs.Earlier.{HoldBeside, StillHold, WereBefore};
 
 use crate::cover::is_covered;
 use crate::earlier::Earlier;
-use crate::facts::{Facts, MOST_RULES};
+use crate::facts::Facts;
 use crate::find::found_by;
-use crate::marks::PATTERN_MARKS;
+use crate::marks::{Marks, PATTERN_MARKS};
 use crate::names::Names;
 use crate::parts::Parts;
-use crate::reach::{beyond_roots, is_on_root, mark_roots, reach_of};
+use crate::reach::{is_on_root, reach_of};
 use crate::row::Row;
 use crate::rule::Rule;
 use bmc_base::{Ledger, Steps};
@@ -23,7 +23,7 @@ use bmc_base::{Ledger, Steps};
 fn earlier_beside(old: &Facts, row: &Row, others: &Parts<'_>) -> Earlier
     ensures { HoldBeside result.found result.touched row.now others.now old.now }
 {
-    if !is_on_root(row) || others.are_on(&beyond_roots(&old.reach)) {
+    if !is_on_root(row) || others.are_on(&old.reach.beyond_roots()) {
         return Earlier::nothing();
     }
     Earlier::beside(&old.found, row)
@@ -48,7 +48,7 @@ pub(crate) fn reevaluate<L: Ledger>(
     ensures counted { IsWithin steps.old steps.new (if is_idle row.now then 0 else 2 * length rules.now) }
 {
     if is_covered(row, others, &old.reach) {
-        return *old;
+        return old.copied();
     }
     let earlier = earlier_beside(old, row, others);
     evaluate(rules, names, rows, &earlier, steps)
@@ -71,11 +71,11 @@ pub(crate) fn evaluate<L: Ledger>(
     ensures counted { IsWithin steps.old steps.new (2 * length rules.now) }
 {
     let mut marks = [false; PATTERN_MARKS];
-    let roots = mark_roots();
+    let roots = Marks::roots();
     rows.mark(&mut marks, &roots);
     let first = found_by(rules, names, &marks, earlier, steps);
     let reach = reach_of(rules, rows, &first);
-    let beyond = beyond_roots(&reach);
+    let beyond = reach.beyond_roots();
     if !rows.are_on(&beyond) {
         return Facts {
             found: first,
@@ -92,7 +92,7 @@ pub(crate) fn no_facts() -> Facts
     ensures { result ≡ facts [] [] }
 {
     Facts {
-        found: [false; MOST_RULES],
-        reach: mark_roots(),
+        found: Marks::none(),
+        reach: Marks::roots(),
     }
 }

@@ -1,14 +1,13 @@
 ghost use Rattle.std.specs.Prelude.{◌≡◌, ◌≤◌, ℕ, Bool, [], None, length, unwrap_or};
 ghost use Rattle.bmc_base.specs.Steps.{IsWithin};
 ghost use Rattle.probe_lang.specs.Values.{AreFew};
-ghost use Rattle.found_set.specs.Marks.{is_marked, AreMarked, AreTrue, most_rules};
+ghost use Rattle.found_set.specs.Marks.{is_marked, mark_count, AreMarked, AreTrue, most_rules};
 ghost use Rattle.found_set.specs.Found.{found_from, names_of};
 ghost use Rattle.found_set.specs.Named.{AreNames};
 ghost use Rattle.found_set.specs.Earlier.{marked_value, StillHold};
 
 use crate::earlier::Earlier;
-use crate::facts::MOST_RULES;
-use crate::marks::{MOST_PATTERNS, PATTERN_MARKS, is_marked};
+use crate::marks::{MOST_PATTERNS, Marks, PATTERN_MARKS};
 use crate::names::Names;
 use crate::rule::Rule;
 use bmc_base::{Ledger, Name, Steps};
@@ -20,7 +19,7 @@ struct Known<'a> {
     names: &'a Names,
     marks: &'a [bool; PATTERN_MARKS],
     config: u8,
-    found: &'a [bool; MOST_RULES],
+    found: &'a Marks,
 }
 
 impl<'a> Truths for Known<'a> {
@@ -40,7 +39,7 @@ impl<'a> Truths for Known<'a> {
 
     fn found(&self, name: &Name) -> bool {
         match self.names.number(name) {
-            Some(number) => is_marked(self.found, number),
+            Some(number) => self.found.has(number),
             None => false,
         }
     }
@@ -72,14 +71,15 @@ pub(crate) fn found_by<L: Ledger>(
     marks: &[bool; PATTERN_MARKS],
     earlier: &Earlier,
     steps: &mut Steps<L>,
-) -> [bool; MOST_RULES]
+) -> Marks
     requires few { length rules.now ≤ most_rules }
     requires named { AreNames names.now.names (names_of rules.now) }
     ensures found { (test : ℕ → ℕ → Bool) → AreTrue marks.now test → StillHold earlier.now.found earlier.now.touched rules.now test
         → AreMarked result (is_marked (found_from rules.now rules.now test [])) }
+    ensures count { length result ≡ mark_count }
     ensures counted { IsWithin steps.old steps.new (length rules.now) }
 {
-    let mut found = [false; MOST_RULES];
+    let mut found = Marks::none();
     let mut has_changed = false;
     for (i, rule) in rules.iter().enumerate() {
         let known = Known {
@@ -91,7 +91,7 @@ pub(crate) fn found_by<L: Ledger>(
         let mark = earlier.mark(rule.is_stale(has_changed), i);
         let is_found = find(rule, &known, mark, steps);
         has_changed = earlier.changes(has_changed, i, is_found);
-        found[i] = is_found;
+        found.mark_if(i, is_found);
     }
     found
 }

@@ -26,6 +26,6 @@ impl NextFacts {
     pub fn facts(&self) -> Facts
         ensures { result ≡ self.now.facts }
     {
-        self.facts
+        self.facts.copied()
     }
 }

@@ -3,8 +3,9 @@ ghost use Rattle.std.specs.List.{list_any};
 ghost use Rattle.found_set.specs.Marks.{is_marked, is_true, AreTrue, AreMarked};
 ghost use Rattle.found_set.specs.Buses.{has_on, is_on_bus, leads_on};
 
-use crate::facts::{BUSES, MOST_RULES};
-use crate::marks::{PATTERN_MARKS, any_has_on, any_is_on, has_on, is_on, mark_row, mark_rows};
+use crate::marks::{
+    Marks, PATTERN_MARKS, any_has_on, any_is_on, has_on, is_on, mark_row, mark_rows,
+};
 use crate::reach::{open_row, open_rows};
 use crate::row::Row;
 use probe_lang::Hit;
@@ -51,7 +52,7 @@ impl<'a> Parts<'a> {
     }
 
     // Marks the patterns of the hits of the rows on buses that are marked.
-    pub(crate) fn mark(&self, marks: &mut [bool; PATTERN_MARKS], buses: &[bool; BUSES])
+    pub(crate) fn mark(&self, marks: &mut [bool; PATTERN_MARKS], buses: &Marks)
         ensures { (test : ℕ → Bool) → AreMarked buses.now test
             → AreTrue marks.new (λ config pattern. is_true marks.old config pattern || list_any (has_on test config pattern) self.now) }
     {
@@ -63,7 +64,7 @@ impl<'a> Parts<'a> {
     }
 
     // Whether a row is on a bus that is marked.
-    pub(crate) fn are_on(&self, buses: &[bool; BUSES]) -> bool
+    pub(crate) fn are_on(&self, buses: &Marks) -> bool
         ensures { (test : ℕ → Bool) → AreMarked buses.now test → result ≡ list_any (is_on_bus test) self.now }
     {
         let plus_is_on = match self.plus {
@@ -74,7 +75,7 @@ impl<'a> Parts<'a> {
     }
 
     // Whether a row on a bus that is marked has this hit.
-    pub(crate) fn have_on(&self, hit: Hit, buses: &[bool; BUSES]) -> bool
+    pub(crate) fn have_on(&self, hit: Hit, buses: &Marks) -> bool
         ensures { (test : ℕ → Bool) → AreMarked buses.now test → result ≡ list_any (has_on test hit.config hit.pattern) self.now }
     {
         let plus_has = match self.plus {
@@ -86,7 +87,7 @@ impl<'a> Parts<'a> {
 
     // Marks the buses to which the channels of the rows on root buses lead, where their configurations are
     // found.
-    pub(crate) fn open(&self, reach: &mut [bool; BUSES], found: &[bool; MOST_RULES])
+    pub(crate) fn open(&self, reach: &mut Marks, found: &Marks)
         ensures { AreMarked reach.new (λ bus. is_marked reach.old bus || list_any (leads_on found.now bus) self.now) }
     {
         open_rows(reach, self.before, found);

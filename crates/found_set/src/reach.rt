@@ -1,12 +1,11 @@
 ghost use Rattle.std.specs.Prelude.{◌≡◌, ℕ, Bool, ◌||◌, ◌&&◌, ◌≤◌, nat_eq, length};
 ghost use Rattle.std.specs.List.{list_any};
-ghost use Rattle.found_set.specs.Marks.{is_marked, AreMarked, most_rules};
+ghost use Rattle.found_set.specs.Marks.{is_marked, mark_count, AreMarked, most_rules};
 ghost use Rattle.found_set.specs.Found.{is_root, found, roots, is_reached};
 ghost use Rattle.found_set.specs.Rows.{sights_of};
 ghost use Rattle.found_set.specs.Buses.{leads, leads_on, fixed_opens, is_beyond};
 
-use crate::facts::{BUSES, MOST_RULES};
-use crate::marks::is_marked;
+use crate::marks::Marks;
 use crate::parts::Parts;
 use crate::row::Row;
 use crate::rule::Rule;
@@ -17,16 +16,16 @@ use probe_lang::Channel;
 const ROOT_BUSES: usize = 16;
 
 // Marks the bus of a channel, if its configuration is found.
-fn open_channel(reach: &mut [bool; BUSES], channel: Channel, found: &[bool; MOST_RULES])
+fn open_channel(reach: &mut Marks, channel: Channel, found: &Marks)
     ensures { AreMarked reach.new (λ bus. is_marked reach.old bus || leads found.now bus channel) }
 {
-    if is_marked(found, channel.config as usize) {
-        reach[channel.bus as usize] = true;
+    if found.has(channel.config as usize) {
+        reach.mark(channel.bus as usize);
     }
 }
 
 // Marks the buses of the channels whose configurations are found.
-fn open_channels(reach: &mut [bool; BUSES], channels: &[Channel], found: &[bool; MOST_RULES])
+fn open_channels(reach: &mut Marks, channels: &[Channel], found: &Marks)
     ensures { AreMarked reach.new (λ bus. is_marked reach.old bus || list_any (leads found.now bus) channels.now) }
 {
     for channel in channels {
@@ -42,7 +41,7 @@ pub(crate) fn is_on_root(row: &Row) -> bool
 }
 
 // Marks the buses to which the channels of a row lead, if it is on a root bus.
-pub(crate) fn open_row(reach: &mut [bool; BUSES], row: &Row, found: &[bool; MOST_RULES])
+pub(crate) fn open_row(reach: &mut Marks, row: &Row, found: &Marks)
     ensures { AreMarked reach.new (λ bus. is_marked reach.old bus || leads_on found.now bus row.now) }
 {
     if is_on_root(row) {
@@ -51,7 +50,7 @@ pub(crate) fn open_row(reach: &mut [bool; BUSES], row: &Row, found: &[bool; MOST
 }
 
 // Marks the buses to which the channels of the rows on root buses lead.
-pub(crate) fn open_rows(reach: &mut [bool; BUSES], rows: &[Row], found: &[bool; MOST_RULES])
+pub(crate) fn open_rows(reach: &mut Marks, rows: &[Row], found: &Marks)
     ensures { AreMarked reach.new (λ bus. is_marked reach.old bus || list_any (leads_on found.now bus) rows.now) }
 {
     for row in rows {
@@ -60,16 +59,16 @@ pub(crate) fn open_rows(reach: &mut [bool; BUSES], rows: &[Row], found: &[bool; 
 }
 
 // Marks these buses.
-fn open_fixed(reach: &mut [bool; BUSES], fixed: &[u8])
+fn open_fixed(reach: &mut Marks, fixed: &[u8])
     ensures { AreMarked reach.new (λ bus. is_marked reach.old bus || list_any (nat_eq bus) fixed.now) }
 {
     for bus in fixed {
-        reach[*bus as usize] = true;
+        reach.mark(*bus as usize);
     }
 }
 
 // Marks the buses of the fixed channels of a configuration, if it is found.
-fn open_rule<L: Ledger>(reach: &mut [bool; BUSES], rule: &Rule<L>, is_found: bool)
+fn open_rule<L: Ledger>(reach: &mut Marks, rule: &Rule<L>, is_found: bool)
     ensures { AreMarked reach.new (λ bus. is_marked reach.old bus || (is_found && list_any (nat_eq bus) rule.now.fixed)) }
 {
     if is_found {
@@ -78,49 +77,24 @@ fn open_rule<L: Ledger>(reach: &mut [bool; BUSES], rule: &Rule<L>, is_found: boo
 }
 
 // Marks the buses of the fixed channels of the configurations that are found.
-fn open_rules<L: Ledger>(reach: &mut [bool; BUSES], rules: &[Rule<L>], found: &[bool; MOST_RULES])
+fn open_rules<L: Ledger>(reach: &mut Marks, rules: &[Rule<L>], found: &Marks)
     requires { length rules.now ≤ most_rules }
     ensures { AreMarked reach.new (λ bus. is_marked reach.old bus || fixed_opens rules.now found.now bus) }
 {
     for (i, rule) in rules.iter().enumerate() {
-        open_rule(reach, rule, found[i]);
+        open_rule(reach, rule, found.has(i));
     }
-}
-
-// Marks the root buses.
-pub(crate) fn mark_roots() -> [bool; BUSES]
-    ensures { AreMarked result is_root }
-{
-    let mut roots = [false; BUSES];
-    for bus in 0..ROOT_BUSES {
-        roots[bus] = true;
-    }
-    roots
 }
 
 // Marks the reachable buses, where these configurations are found over the rows on root buses.
-pub(crate) fn reach_of<L: Ledger>(
-    rules: &[Rule<L>],
-    rows: &Parts<'_>,
-    first: &[bool; MOST_RULES],
-) -> [bool; BUSES]
-    requires { length rules.now ≤ most_rules }
+pub(crate) fn reach_of<L: Ledger>(rules: &[Rule<L>], rows: &Parts<'_>, first: &Marks) -> Marks
+    requires few { length rules.now ≤ most_rules }
+    requires count { length first.now ≡ mark_count }
     ensures { AreMarked first.now (is_marked (found rules.now (roots (sights_of rows.now))))
         → AreMarked result (is_reached rules.now (sights_of rows.now)) }
 {
-    let mut reach = mark_roots();
+    let mut reach = Marks::roots();
     open_rules(&mut reach, rules, first);
     rows.open(&mut reach, first);
     reach
-}
-
-// Marks the buses that are marked here, but for the root buses.
-pub(crate) fn beyond_roots(reach: &[bool; BUSES]) -> [bool; BUSES]
-    ensures { (test : ℕ → Bool) → AreMarked reach.now test → AreMarked result (is_beyond test) }
-{
-    let mut beyond = *reach;
-    for bus in 0..ROOT_BUSES {
-        beyond[bus] = false;
-    }
-    beyond
 }

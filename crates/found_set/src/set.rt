@@ -69,7 +69,7 @@ impl<L: Ledger> FoundSet<L> {
         ensures value { result ≡ self.now.facts }
         ensures current { result ≡ facts self.now.rules (sights_of self.now.rows) }
     {
-        self.facts
+        self.facts.copied()
     }
 
     /// Returns the number of the configuration of this name, or `None`.
@@ -119,7 +119,7 @@ impl<L: Ledger> FoundSet<L> {
         self.unstage();
         let row = Row::of(alloc, entry)?;
         let facts = self.facts_with(&row, steps);
-        self.stage_plug(row, facts)?;
+        self.stage_plug(row, &facts)?;
         let key = EventKey::Plug(entry.place);
         Ok(NextFacts { key, facts })
     }
@@ -138,7 +138,7 @@ impl<L: Ledger> FoundSet<L> {
     {
         self.unstage();
         let facts = self.facts_without(place, steps);
-        self.stage_unplug(place, facts);
+        self.stage_unplug(place, &facts);
         let key = EventKey::Unplug(place);
         Ok(NextFacts { key, facts })
     }
@@ -196,7 +196,7 @@ impl<L: Ledger> FoundSet<L> {
         ensures counted { IsWithin steps.old steps.new (most_evals (UnplugEvent place) self.now.rules self.now.rows) }
     {
         let Some(at) = position_at(&self.rows, place) else {
-            return self.facts;
+            return self.facts.copied();
         };
         let row = &self.rows[at];
         let others = Parts::of(&self.rows[..at], &self.rows[at + 1..]);
@@ -227,15 +227,15 @@ impl<L: Ledger> FoundSet<L> {
         let rows = Parts::of(&self.rows, &[]);
         let facts = evaluate(&self.rules, &self.names, &rows, &Earlier::nothing(), steps);
         let rule = self.rules.take_last();
-        self.staged = Some(Staged::of(Event::Config(rule), facts));
+        self.staged = Some(Staged::of(Event::Config(rule), &facts));
         Ok(facts)
     }
 
     // Stages a row, with room for it, and the facts with it.
-    fn stage_plug(&mut self, row: Row, facts: Facts) -> Result<(), OutOfMemory>
+    fn stage_plug(&mut self, row: Row, facts: &Facts) -> Result<(), OutOfMemory>
         requires bare { self.old.staged ≡ None }
         requires new { holds_place self.old.rows row.place ≡ false }
-        requires facts { facts ≡ facts_after (PlugEvent row) self.old.rules self.old.rows }
+        requires facts { facts.now ≡ facts_after (PlugEvent row) self.old.rules self.old.rows }
         ensures ok { OnOk result (self.new ≡ as_staged self.old (Some (after (PlugEvent row) self.old))) }
         ensures err { OnErr result (self.new ≡ self.old) }
     {
@@ -245,9 +245,9 @@ impl<L: Ledger> FoundSet<L> {
     }
 
     // Stages that the row at a place goes, and the facts without it.
-    fn stage_unplug(&mut self, place: Place, facts: Facts)
+    fn stage_unplug(&mut self, place: Place, facts: &Facts)
         requires bare { self.old.staged ≡ None }
-        requires facts { facts ≡ facts_after (UnplugEvent place) self.old.rules self.old.rows }
+        requires facts { facts.now ≡ facts_after (UnplugEvent place) self.old.rules self.old.rows }
         ensures { self.new ≡ as_staged self.old (Some (after (UnplugEvent place) self.old)) }
     {
         self.staged = Some(Staged::of(Event::Unplug(place), facts));

@@ -174,6 +174,39 @@ fn anew(
     Ok(set)
 }
 
+// Whether facts are those of a new set with these FRUs.
+fn assert_as_anew(
+    rt: &impl Abort,
+    alloc: Global,
+    facts: &Facts,
+    present: &[u32; 10],
+) -> Result<(), Fail> {
+    let mut steps = Steps::new(Silent);
+    let wanted = anew(alloc, present, &mut steps)?;
+    assert_same(rt, facts, &wanted.facts());
+    Ok(())
+}
+
+// Takes away the FRU at a place, or puts one there if there is none, and returns what it shows then, 0 for none.
+fn swap(
+    set: &mut FoundSet<Silent>,
+    alloc: Global,
+    place: Place,
+    code: u32,
+    steps: &mut Steps<Silent>,
+) -> Result<u32, Fail>
+    requires { length set.old.rules ≡ 6 }
+    ensures { OnOk result (length set.new.rules ≡ 6) }
+{
+    if set.holds(place) {
+        take(set, alloc, place, steps)?;
+        Ok(0)
+    } else {
+        put(set, alloc, place, Shows(code), steps)?;
+        Ok(code)
+    }
+}
+
 // The next of numbers that look random.
 fn next(random: u32) -> u32 {
     random.wrapping_mul(1664525).wrapping_add(1013904223)
@@ -189,19 +222,10 @@ fn many_events_give_the_facts_of_a_new_set(rt: HostRuntime) -> Result<(), Fail> 
     for _event in 0..400 {
         random = next(random);
         let at = (random / 65536 % 10) as usize;
-        let place = place_at(at)?;
-        if set.holds(place) {
-            take(&mut set, alloc, place, &mut steps)?;
-            present[at] = 0;
-        } else {
-            random = next(random);
-            let code = 1 + random / 65536 % 1000;
-            put(&mut set, alloc, place, Shows(code), &mut steps)?;
-            present[at] = code;
-        }
-        let mut others = Steps::new(Silent);
-        let wanted = anew(alloc, &present, &mut others)?;
-        assert_same(&rt, &set.facts(), &wanted.facts());
+        random = next(random);
+        let code = 1 + random / 65536 % 1000;
+        present[at] = swap(&mut set, alloc, place_at(at)?, code, &mut steps)?;
+        assert_as_anew(&rt, alloc, &set.facts(), &present)?;
     }
     Ok(())
 }

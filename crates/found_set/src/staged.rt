@@ -38,11 +38,14 @@ impl<L: Ledger> Model for Staged<L> {
 }
 
 impl<L: Ledger> Staged<L> {
-    // Returns an event with the facts after it.
-    pub(crate) fn of(event: Event<L>, facts: Facts) -> Staged<L>
-        ensures { result ≡ record { event = event_of event; facts = facts } }
+    // Returns an event with a copy of the facts after it.
+    pub(crate) fn of(event: Event<L>, facts: &Facts) -> Staged<L>
+        ensures { result ≡ record { event = event_of event; facts = facts.now } }
     {
-        Staged { event, facts }
+        Staged {
+            event,
+            facts: facts.copied(),
+        }
     }
 
     // Takes the event over into names, rules and rows, and returns the facts after it. Takes no memory.

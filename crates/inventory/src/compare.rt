@@ -8,7 +8,7 @@ use crate::lone::{lone_swap, push_key};
 use crate::{BoardKeys, Difference, Moment};
 use bmc_base::{Ledger, OutOfMemory, Place};
 use cfg_json::{Config, Shelf};
-use found_set::{MOST_RULES, touched_by};
+use found_set::{Marks, touched_by};
 use probe_lang::Entry;
 use std::alloc::Global;
 use std::marker::Model;
@@ -53,7 +53,7 @@ impl Comparison {
 #[derive(Drop)]
 struct Lone<'e> {
     entry: &'e Entry,
-    hits: [bool; MOST_RULES],
+    hits: Marks,
 }
 
 impl<'e> Model for Lone<'e> {
@@ -91,7 +91,7 @@ impl<'e> Lone<'e> {
         requires { number < 256 }
         ensures { result ≡ has_config self.now.hits number }
     {
-        self.hits[number as usize]
+        self.hits.has(number as usize)
     }
 }
 

@@ -11,7 +11,7 @@ use Rattle.found_set.proofs.evaluate.earlier_beside.Goals as goal
 pub returns : goal.returns
 returns c = λ rules rows few before beside.
     let reached = is_reached rules (sights_of before.rows) in
-    let beyond = c.beyond_roots.ensures reached (reach_marked rules (sights_of before.rows) c.args.old.now before.told) in
+    let beyond = c.beyond_roots.ensures.beyond reached (reach_marked rules (sights_of before.rows) c.args.old.now before.told) in
     let none = sym (c.are_on.ensures (is_beyond reached) beyond) ∙ c.if-are_on.false in
     let root = sym c.is_on_root.ensures ∙ c.if-not-is_on_root.false in
     subst (λ (found : List Bool). StillHold found c.beside.result.touched rules (matched_by (roots (sights_of rows)))) (sym c.beside.ensures.found)

@@ -1,5 +1,5 @@
 -- First over the root buses, then over those that are reachable.
-use Rattle.std.proofs.Common.{◌≡◌, ◌∙◌, ◌*◌, Bool, List, ap, ap₂, false, length, arith, rules as plain, sym}
+use Rattle.std.proofs.Common.{◌≡◌, ◌∙◌, ◌*◌, Bool, List, ap, ap₂, false, length, arith, sym}
 use Rattle.std.proofs.lemmas.List.FromFn.{fill_by_all}
 use Rattle.found_set.specs.declared.facts.Facts.{Facts}
 use Rattle.found_set.specs.Marks.{is_marked, AreMarked}
@@ -18,33 +18,33 @@ returns-then-not-are_on-clause-facts g c =
     let rules = c.args.rules.now in
     let rows = c.args.rows.now in
     let sights = sights_of rows in
-    let one = first_marked rows c.mark.new.marks (c.mark.ensures is_root c.mark_roots-roots.ensures) in
+    let one = first_marked rows c.mark.new.marks (c.mark.ensures is_root c.roots-roots.ensures.roots) in
     let first = c.found_by-first.ensures.found (matched_by (on_buses is_root sights)) one c.requires.earlier in
     let reached = c.reach_of-reach.ensures first in
-    let beyond = c.beyond_roots-beyond.ensures (is_reached rules sights) reached in
+    let beyond = c.beyond_roots-beyond.ensures.beyond (is_reached rules sights) reached in
     let none = sym (c.are_on.ensures (is_beyond (is_reached rules sights)) beyond) ∙ c.if-not-are_on.true in
     let same : found rules (on_buses is_root sights) ≡ found rules (on_buses (is_reached rules sights) sights) =
     found_as rules (on_buses is_root sights) (on_buses (is_reached rules sights) sights) (all_near rules rows none) in
     let found : AreMarked c.found_by-first.result (is_found rules sights) = λ n small. first n small ∙ ap (λ (list : List Bool). is_marked list n) same in
     ap₂ (λ (found reach : List Bool). let f : Facts = record { found = found; reach = reach } in f)
-    (fill_by_all (is_found rules sights) c.found_by-first.result 256 false (search plain) found)
-    (fill_by_all (is_reached rules sights) c.reach_of-reach.result 256 false (search plain) reached)
+    (fill_by_all (is_found rules sights) c.found_by-first.result 256 false c.found_by-first.ensures.count found)
+    (fill_by_all (is_reached rules sights) c.reach_of-reach.result 256 false c.beyond_roots-beyond.ensures.count reached)
 
 pub returns-clause-facts : goal.returns-clause-facts
 returns-clause-facts g c =
     let rules = c.args.rules.now in
     let rows = c.args.rows.now in
     let sights = sights_of rows in
-    let one = first_marked rows c.mark.new.marks (c.mark.ensures is_root c.mark_roots-roots.ensures) in
+    let one = first_marked rows c.mark.new.marks (c.mark.ensures is_root c.roots-roots.ensures.roots) in
     let first = c.found_by-first.ensures.found (matched_by (on_buses is_root sights)) one c.requires.earlier in
     let reached = c.reach_of-reach.ensures first in
-    let beyond = c.beyond_roots-beyond.ensures (is_reached rules sights) reached in
+    let beyond = c.beyond_roots-beyond.ensures.beyond (is_reached rules sights) reached in
     let two = then_marked rules rows c.mark.new.marks c.mark-2.new.marks one (c.mark-2.ensures (is_beyond (is_reached rules sights)) beyond) in
     let found = c.found_by-found.ensures.found (matched_by (on_buses (is_reached rules sights) sights)) two
     (nothing_holds _ _ rules (matched_by (on_buses (is_reached rules sights) sights)) c.requires.few c.nothing.ensures) in
     ap₂ (λ (found reach : List Bool). let f : Facts = record { found = found; reach = reach } in f)
-    (fill_by_all (is_found rules sights) c.found_by-found.result 256 false (search plain) found)
-    (fill_by_all (is_reached rules sights) c.reach_of-reach.result 256 false (search plain) reached)
+    (fill_by_all (is_found rules sights) c.found_by-found.result 256 false c.found_by-found.ensures.count found)
+    (fill_by_all (is_reached rules sights) c.reach_of-reach.result 256 false c.beyond_roots-beyond.ensures.count reached)
 
 pub returns-then-not-are_on-clause-counted : goal.returns-then-not-are_on-clause-counted
 returns-then-not-are_on-clause-counted g c =

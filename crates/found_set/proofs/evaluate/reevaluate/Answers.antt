@@ -12,7 +12,7 @@ pub returns-then-is_covered-clause-facts : goal.returns-then-is_covered-clause-f
 returns-then-is_covered-clause-facts g c =
     let before = c.requires.before in
     let rules = c.args.rules.now in
-    before.told
+    c.copied.ensures ∙ before.told
     ∙ covered_same rules c.args.row.now c.args.others.now before.rows c.args.rows.now before.beside c.requires.beside
     (sym (c.is_covered.ensures (is_reached rules (sights_of before.rows)) (reach_marked rules (sights_of before.rows) c.args.old.now before.told))
     ∙ c.if-is_covered.true)

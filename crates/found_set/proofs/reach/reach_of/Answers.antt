@@ -9,5 +9,5 @@ pub returns : goal.returns
 returns g c = λ given bus h.
     c.open.ensures bus h
     ∙ ap (λ (t : Bool). t || list_any (leads_on c.args.first.now bus) c.args.rows.now) (c.open_rules.ensures bus h
-    ∙ ap (λ (t : Bool). t || fixed_opens c.args.rules.now c.args.first.now bus) (c.mark_roots-reach.ensures bus h))
-    ∙ reached_is c.args.rules.now c.args.rows.now c.args.first.now bus c.requires c.told-first given
+    ∙ ap (λ (t : Bool). t || fixed_opens c.args.rules.now c.args.first.now bus) (c.roots-reach.ensures.roots bus h))
+    ∙ reached_is c.args.rules.now c.args.rows.now c.args.first.now bus c.requires.few c.requires.count given

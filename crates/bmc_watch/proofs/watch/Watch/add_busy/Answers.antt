@@ -156,6 +156,28 @@ stage_items-requires g c = (_, items_continue g (goal.at.stage_items-requires g 
 
 -- ---- want of memory
 
+pub invariant_of-self-in_err-difference : goal.invariant_of-self-in_err-difference
+invariant_of-self-in_err-difference g c = record {
+  rules = ap (λ (set : SetView). set.rules) c.in_ok-next.ensures.ok ∙ c.self.invariant.rules;
+  rows = ap (λ (set : SetView). set.rows) c.in_ok-next.ensures.ok ∙ c.self.invariant.rows
+      ∙ sym (ap (λ (entries : List Entry). map row_of (busy entries)) c.in_ok-reserve.ensures.entries);
+  none = ap (λ (entries : List Entry). c.self.inside.plugged || (length entries == 0)) c.in_ok-reserve.ensures.entries ∙ c.self.invariant.none;
+  stock = subst (λ (entries : List Entry). IsStocked c.self.inside.shelf entries c.self.inside.keep.kept c.self.inside.totals c.self.inside.stock.items)
+      (sym c.in_ok-reserve.ensures.entries) c.self.invariant.stock;
+  room = c.self.invariant.room;
+}
+
+pub invariant_of-self-in-Err : goal.invariant_of-self-in-Err
+invariant_of-self-in-Err g c = record {
+  rules = ap (λ (set : SetView). set.rules) c.in_ok-next.ensures.ok ∙ c.self.invariant.rules;
+  rows = ap (λ (set : SetView). set.rows) c.in_ok-next.ensures.ok ∙ c.self.invariant.rows
+      ∙ sym (ap (λ (entries : List Entry). map row_of (busy entries)) c.in_ok-reserve.ensures.entries);
+  none = ap (λ (entries : List Entry). c.self.inside.plugged || (length entries == 0)) c.in_ok-reserve.ensures.entries ∙ c.self.invariant.none;
+  stock = subst (λ (entries : List Entry). IsStocked c.self.inside.shelf entries c.self.inside.keep.kept c.self.inside.totals c.self.inside.stock.items)
+      (sym c.in_ok-reserve.ensures.entries) c.self.invariant.stock;
+  room = c.self.invariant.room;
+}
+
 pub invariant_of-self-in_err-items : goal.invariant_of-self-in_err-items
 invariant_of-self-in_err-items g c = record {
   rules = ap (λ (set : SetView). set.rules) c.in_ok-next.ensures.ok ∙ c.self.invariant.rules;

@@ -138,6 +138,40 @@ returns-in_err-gone-clause-tried g c = not_ok _ _ c.from_residual-in_err-gone.re
 pub returns-in_err-add-clause-tried : goal.returns-in_err-add-clause-tried
 returns-in_err-add-clause-tried g c = not_ok _ _ c.from_residual-in_err-add.result c.from_residual-in_err-add.ensures.1
 
+pub returns-in_err-difference-clause-tried : goal.returns-in_err-difference-clause-tried
+returns-in_err-difference-clause-tried g c = not_ok _ _ c.from_residual-in_err-difference.result c.from_residual-in_err-difference.ensures.1
+
+pub invariant_of-self-in_err-difference : goal.invariant_of-self-in_err-difference
+invariant_of-self-in_err-difference g c = record {
+  rules = ap (λ (set : SetView). set.rules) c.in_ok-next.ensures.ok ∙ c.self.invariant.rules;
+  rows = ap (λ (set : SetView). set.rows) c.in_ok-next.ensures.ok ∙ c.self.invariant.rows;
+  none = c.self.invariant.none;
+  stock = c.self.invariant.stock;
+  room = c.self.invariant.room;
+}
+
+pub returns-in_err-difference-clause-same : goal.returns-in_err-difference-clause-same
+returns-in_err-difference-clause-same g c =
+    on_err c.from_residual-in_err-difference.result (
+      record {
+        configs = ap (λ (view : WatchView). view.configs) c.self.view_is;
+        entries = ap (λ (view : WatchView). view.entries) c.self.view_is;
+        plugged = ap (λ (view : WatchView). view.plugged) c.self.view_is;
+        kept = λ number. ap (λ (view : WatchView). kept_of view.kept number) c.self.view_is;
+        changes = ap (λ (view : WatchView). view.changes) c.self.view_is;
+      },
+      record { names = refl; slots = refl },
+    )
+
+pub invariant_of-self-in-Err : goal.invariant_of-self-in-Err
+invariant_of-self-in-Err g c = record {
+  rules = ap (λ (set : SetView). set.rules) c.in_ok-next.ensures.ok ∙ c.self.invariant.rules;
+  rows = ap (λ (set : SetView). set.rows) c.in_ok-next.ensures.ok ∙ c.self.invariant.rows;
+  none = c.self.invariant.none;
+  stock = c.self.invariant.stock;
+  room = c.self.invariant.room;
+}
+
 pub invariant_of-self-in_err-items : goal.invariant_of-self-in_err-items
 invariant_of-self-in_err-items g c = record {
   rules = ap (λ (set : SetView). set.rules) c.in_ok-next.ensures.ok ∙ c.self.invariant.rules;

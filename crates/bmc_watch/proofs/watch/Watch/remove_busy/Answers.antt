@@ -98,6 +98,15 @@ stage_items-requires g c = (_, items_continue g (goal.at.stage_items-requires g 
 
 -- ---- want of memory
 
+pub invariant_of-self-in_err-difference : goal.invariant_of-self-in_err-difference
+invariant_of-self-in_err-difference g c = record {
+  rules = ap (λ (set : SetView). set.rules) c.in_ok-next.ensures.ok ∙ c.self.invariant.rules;
+  rows = ap (λ (set : SetView). set.rows) c.in_ok-next.ensures.ok ∙ c.self.invariant.rows;
+  none = c.self.invariant.none;
+  stock = c.self.invariant.stock;
+  room = c.self.invariant.room;
+}
+
 pub invariant_of-self-in_err-items : goal.invariant_of-self-in_err-items
 invariant_of-self-in_err-items g c = record {
   rules = ap (λ (set : SetView). set.rules) c.in_ok-next.ensures.ok ∙ c.self.invariant.rules;

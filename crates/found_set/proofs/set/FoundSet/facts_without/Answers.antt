@@ -16,7 +16,7 @@ pub returns-in_default-clause-facts : goal.returns-in_default-clause-facts
 returns-in_default-clause-facts g c =
     let rows = c.self.inside.rows.items in
     let none = sym (ap (position (is_row_at c.args.place)) c.deref.ensures.value) ∙ sym c.position_at.ensures ∙ c.in_default.is in
-    rw (← c.self.view_is) (c.self.invariant.facts
+    rw (← c.self.view_is) (c.copied.ensures ∙ c.self.invariant.facts
     ∙ ap (λ (after : List Row). facts c.self.inside.rules.items (sights_of after)) (none_without c.args.place rows none))
 
 pub returns-in_default-clause-counted : goal.returns-in_default-clause-counted
