@@ -26,7 +26,7 @@ pub(crate) fn put<T: Drop>(list: &mut Vec<T>, element: T)
     ensures items { list.new.items ≡ list.old.items ++ element ∷ [] }
     ensures room { vec_capacity list.old ≤ vec_capacity list.new }
 {
-    let _ = list.push(element);
+    list.push_reserved(element);
 }
 
 // Notes the box of an item, if it is a controller that keeps one.
