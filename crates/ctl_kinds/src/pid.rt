@@ -2,7 +2,7 @@ ghost use Rattle.std.specs.Prelude.{◌≡◌};
 ghost use Rattle.ctl_face.specs.Seen.{unloaded};
 
 use crate::blank::BLANK;
-use crate::pid_parts::pid_step;
+use crate::pid_parts::take_step;
 use bmc_base::Milli;
 use ctl_face::{Controller, CtlState, Kind, PidSetting, Sample, Setting};
 use std::marker::Model;
@@ -56,7 +56,7 @@ impl Controller for PidBox {
     fn step(&mut self, sample: Sample) -> Milli {
         match &self.setting {
             Some(setting) => {
-                self.state = pid_step(setting, self.state, sample);
+                take_step(setting, &mut self.state, sample);
                 Milli(self.state.output.unwrap())
             }
             None => unreachable!(),

@@ -76,17 +76,27 @@ fn feed_forward(setting: &PidSetting, setpoint: Milli) -> Wide
     Micro(setting.ff_gain).share(Wide::sum(setpoint, setting.ff_off), 1)
 }
 
+// The part of a slew of a second that is for one step. A divisor that is a constant costs no division.
+#[tactic(auto, using(std::proofs::lemmas::Int::ints))]
+fn step_slew(slew: Milli, class: PidClass) -> Milli
+    ensures { result.0 ≡ floor_div slew.0 (pace class) }
+{
+    match class {
+        PidClass::Fan => Milli(slew.0.div_euclid(10)),
+        PidClass::Temp | PidClass::Margin => slew,
+    }
+}
+
 // The output before, moved by a slew of a second in one step.
 #[tactic(auto, using(std::proofs::lemmas::Int::ints))]
-fn moved(before: Milli, slew: Milli, pace: u8) -> Milli
+fn moved(before: Milli, slew: Milli, class: PidClass) -> Milli
     requires before { IsMilli before.0 }
     requires slew { IsMilli slew.0 }
-    requires pace { 1 ≤ pace }
-    ensures value { result.0 ≡ before.0 +ℤ floor_div slew.0 pace }
+    ensures value { result.0 ≡ before.0 +ℤ floor_div slew.0 (pace class) }
     ensures falls { slew.0 ≤ℤ pos 0 → result.0 ≤ℤ before.0 }
     ensures rises { pos 0 ≤ℤ slew.0 → before.0 ≤ℤ result.0 }
 {
-    Milli(before.0 + slew.0.div_euclid(pace as i64))
+    Milli(before.0 + step_slew(slew, class).0)
 }
 
 // The greater number.
@@ -118,7 +128,7 @@ fn with_fall(setting: &PidSetting, before: Milli, output: Milli) -> Milli
     if setting.slew_neg.0 == 0 {
         return output;
     }
-    greater(output, moved(before, setting.slew_neg, pace(setting.class)))
+    greater(output, moved(before, setting.slew_neg, setting.class))
 }
 
 // No higher than a rise of one step allows.
@@ -132,10 +142,11 @@ fn with_rise(setting: &PidSetting, before: Milli, output: Milli) -> Milli
     if setting.slew_pos.0 == 0 {
         return output;
     }
-    lesser(output, moved(before, setting.slew_pos, pace(setting.class)))
+    lesser(output, moved(before, setting.slew_pos, setting.class))
 }
 
 // Falls and then rises are slewed, where an output was given before.
+#[inline(always)]
 pub(crate) fn slewed(setting: &PidSetting, before: Option<i64>, output: Milli) -> Milli
     requires valid { IsValidPid setting.now }
     requires before { ForSome before IsMilli }
@@ -199,17 +210,18 @@ fn wide_step(setting: &PidSetting, old: CtlState, sample: Sample) -> CtlState
     }
 }
 
-// The state after one step.
-pub(crate) fn pid_step(setting: &PidSetting, old: CtlState, sample: Sample) -> CtlState
+// Makes one step. The state is written in place, as a copy of it would cost as much as the sum.
+#[inline(always)]
+pub(crate) fn take_step(setting: &PidSetting, state: &mut CtlState, sample: Sample)
     requires setting { IsValidPid setting.now }
-    requires output { ForSome old.output IsMilli }
+    requires output { ForSome state.old.output IsMilli }
     requires sample { IsValidSample sample }
-    ensures state { result ≡ pid_step setting.now old sample }
-    ensures given { IsSome result.output }
-    ensures small { ForSome result.output IsMilli }
+    ensures state { state.new ≡ pid_step setting.now state.old sample }
+    ensures given { IsSome state.new.output }
+    ensures small { ForSome state.new.output IsMilli }
 {
-    match small_step(setting, old, sample) {
-        Some(state) => state,
-        None => wide_step(setting, old, sample),
+    match small_step(setting, *state, sample) {
+        Some(next) => *state = next,
+        None => *state = wide_step(setting, *state, sample),
     }
 }

@@ -104,6 +104,7 @@ fn derivative(setting: &PidSetting, before: Option<i64>, error: Milli) -> Option
 }
 
 // The part of the setpoint.
+#[inline(always)]
 fn feed_forward(setting: &PidSetting, setpoint: Milli) -> Option<Milli>
     ensures value { IfSome result (λ part. part.0 ≡ feed_forward setting.now setpoint.0) }
     ensures small { IfSome result (λ part. IsWithin (10 ^ 13) part.0) }
@@ -149,6 +150,7 @@ fn integral_behind(setting: &PidSetting, output: Milli, p: Milli, i: Milli) -> M
 }
 
 // The state after one step in 64 bits, which nearly all numbers fit, or None where one does not.
+#[inline(always)]
 pub(crate) fn small_step(setting: &PidSetting, old: CtlState, sample: Sample) -> Option<CtlState>
     requires setting { IsValidPid setting.now }
     requires output { ForSome old.output IsMilli }

@@ -3,10 +3,10 @@ use Rattle.std.proofs.lemmas.Int.{ints}
 use Rattle.ctl_face.specs.Ranges.{IsMilli}
 use Rattle.ctl_kinds.proofs.pid.PidBoxController.step.Goals as goal
 
-pub pid_step-self-inside-requires-clause-setting : goal.pid_step-self-inside-requires-clause-setting
-pid_step-self-inside-requires-clause-setting c = c.self.invariant.valid c.in-Some.setting c.in-Some.is
+pub take_step-requires-clause-setting : goal.take_step-requires-clause-setting
+take_step-requires-clause-setting c = c.self.invariant.valid c.in-Some.setting c.in-Some.is
 
 pub returns-clause-range : goal.returns-clause-range
 returns-clause-range c =
-    let small : IsMilli c.unwrap.result = c.pid_step-self-inside.ensures.small c.unwrap.result c.unwrap.ensures in
+    let small : IsMilli c.unwrap.result = c.take_step.ensures.small c.unwrap.result c.unwrap.ensures in
     (omega (arith, ints), omega (arith, ints))
