@@ -94,8 +94,8 @@ fn apply<L: Ledger, C: Controller>(
     effect_of(done)
 }
 
-// Does what a command asks for.
-#[inline(always)]
+// Does what a command asks for. It is called and not inlined: a command is then taken apart once.
+#[inline(never)]
 #[tactic(auto, using(crate::proofs::RunsLemmas::silent_answers, crate::proofs::RunsLemmas::refused_answers))]
 fn run_command<L: Ledger, C: Controller>(
     alloc: Global,
@@ -121,7 +121,7 @@ fn run_command<L: Ledger, C: Controller>(
 }
 
 // Takes a line that may have a command, and asks for no block.
-#[inline(never)]
+#[inline(always)]
 fn take_command<L: Ledger, C: Controller>(
     alloc: Global,
     core: &mut Core<L, C>,

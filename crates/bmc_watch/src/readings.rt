@@ -21,6 +21,7 @@ pub struct Glimpse {
 
 impl Glimpse {
     /// Returns what a sensor shows.
+    #[inline(always)]
     pub fn of(sensor: &Sensor) -> Glimpse
         ensures { Shows result sensor.now }
     {
