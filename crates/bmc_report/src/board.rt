@@ -1,29 +1,38 @@
 ghost use Rattle.std.specs.Prelude.{◌≡◌, ◌≤◌, ◌+◌, ◌++◌, OnOk, length, string_bytes};
 ghost use Rattle.bmc_report.specs.Boards.{at_text, board_text};
 
-use crate::quoted::push_quoted;
-use arrayvec::ArrayString;
+use crate::line::Line;
+use crate::place::add_place;
+use crate::quoted::add_quoted;
 use bmc_base::{Name, OutOfMemory, Place};
-
-// The most bytes of an index and a place, where each number may take 40.
-const LONGEST_END: usize = 128;
 
 // Puts where a board is behind its index, if it was found by a FRU at a place.
 #[tactic(auto, using(std::proofs::Common::append_assoc))]
-fn add_at(end: &mut ArrayString<LONGEST_END>, place: Option<Place>)
-    requires { length end.old.bytes ≤ 41 }
-    ensures { end.new.bytes ≡ end.old.bytes ++ at_text place }
+fn add_at(line: &mut Line, place: Option<Place>)
+    requires { length line.old.bytes + 11 ≤ 320 }
+    ensures text { line.new.bytes ≡ line.old.bytes ++ at_text place }
+    ensures size { length line.new.bytes ≤ length line.old.bytes + 11 }
 {
     if let Some(place) = place {
-        end.push_str(" at ");
-        end.push_str(itoa::Buffer::new().format(place.bus()));
-        end.push_str(" ");
-        end.push_str(itoa::Buffer::new().format(place.address()));
+        line.push_str(" at ");
+        add_place(line, place);
     }
 }
 
-// Appends which board it is: the name of its configuration, its index, and its place.
+// Puts which board it is behind a line: the name of its configuration, its index, and its place.
 #[tactic(auto, using(std::proofs::Common::append_assoc))]
+pub(crate) fn add_board(line: &mut Line, name: &Name, index: u32, place: Option<Place>)
+    requires { length line.old.bytes + 280 ≤ 320 }
+    ensures text { line.new.bytes ≡ line.old.bytes ++ board_text name.now index place }
+    ensures size { length line.new.bytes ≤ length line.old.bytes + 280 }
+{
+    add_quoted(line, name);
+    line.push_str(" ");
+    line.push_str(itoa::Buffer::new().format(index));
+    add_at(line, place);
+}
+
+// Appends which board it is.
 pub(crate) fn push_board(
     out: &mut String,
     name: &Name,
@@ -32,11 +41,8 @@ pub(crate) fn push_board(
 ) -> Result<(), OutOfMemory>
     ensures { OnOk result (string_bytes out.new ≡ string_bytes out.old ++ board_text name.now index place) }
 {
-    push_quoted(out, name.as_str())?;
-    let mut end = ArrayString::new();
-    end.push_str(" ");
-    end.push_str(itoa::Buffer::new().format(index));
-    add_at(&mut end, place);
-    out.push_str(end.as_str())?;
+    let mut line = Line::new();
+    add_board(&mut line, name, index, place);
+    out.push_str(line.as_str())?;
     Ok(())
 }

@@ -1,165 +1,150 @@
-ghost use Rattle.std.specs.Prelude.{◌≡◌, ◌≤◌, ◌++◌, OnOk, IfOk, codes, length, string_bytes};
+ghost use Rattle.std.specs.Prelude.{◌≡◌, ◌≤◌, ◌+◌, ◌++◌, OnOk, IfOk, length, string_bytes};
 ghost use Rattle.bmc_report.specs.Changes.{verb_text, failure_text, switch_text, side_text, level_text};
 ghost use Rattle.bmc_report.specs.Changes.{mode_text, change_text, change_line};
-ghost use Rattle.bmc_report.specs.Places.{place_text};
-ghost use Rattle.bmc_report.specs.Quoted.{quoted};
-ghost use Rattle.bmc_report.specs.Refusals.{refusal_text};
 ghost use Rattle.bmc_report.specs.declared.change.Change.TheVariants as change;
 
-use crate::board::push_board;
-use crate::decimal::push_decimal;
+use crate::board::add_board;
+use crate::line::Line;
 use crate::live_kind::LiveKind;
-use crate::milli::push_milli;
-use crate::place::push_place;
-use crate::quoted::push_quoted;
-use crate::refusal::push_refusal;
+use crate::milli::add_milli;
+use crate::place::add_place;
+use crate::quoted::add_quoted;
+use crate::refusal::add_refusal;
 use crate::{Change, Refusal};
-use arrayvec::ArrayString;
 use bmc_base::{Milli, Name, OutOfMemory, Place, Text};
 use std::alloc::Global;
 
-// The most bytes of what stands before a name: the tick, which may take 40, and words.
-const LONGEST_LEAD: usize = 64;
-
-// What stands before a name. It is put together first and appended at once.
-type Lead = ArrayString<LONGEST_LEAD>;
-
-// Appends what stands before a name, and the name between quotes.
-#[tactic(auto, using(std::proofs::Common::append_assoc))]
-fn push_named(out: &mut String, lead: &Lead, name: &Name) -> Result<(), OutOfMemory>
-    ensures { OnOk result (string_bytes out.new ≡ string_bytes out.old ++ lead.now.bytes ++ quoted name.now) }
+// Puts the word for what became of a thing behind a line. A word of a known length is copied without a call.
+fn add_verb(line: &mut Line, gone: bool)
+    requires { length line.old.bytes + 4 ≤ 320 }
+    ensures text { line.new.bytes ≡ line.old.bytes ++ verb_text gone }
+    ensures size { length line.new.bytes ≤ length line.old.bytes + 4 }
 {
-    out.push_str(lead.as_str())?;
-    push_quoted(out, name.as_str())
+    if gone {
+        line.push_str("gone");
+    } else {
+        line.push_str("new");
+    }
 }
 
-// What became of a thing.
-fn verb(gone: bool) -> &'static str
-    ensures text { result.now ≡ verb_text gone }
-    ensures short { length result.now ≤ 4 }
-{
-    if gone { "gone" } else { "new" }
-}
-
-// Appends that a board is gone or new.
+// Puts that a board is gone or new behind the tick.
 #[tactic(auto, using(std::proofs::Common::append_assoc), unfolding(crate::specs::Changes::change_text))]
-fn push_board_change(
-    out: &mut String,
-    lead: &mut Lead,
-    gone: bool,
-    name: &Name,
-    index: u32,
-    place: Option<Place>,
-) -> Result<(), OutOfMemory>
-    requires { length lead.old.bytes ≤ 41 }
-    ensures { OnOk result (string_bytes out.new ≡ string_bytes out.old ++ lead.old.bytes ++ change_text (change.Board gone name.now index place)) }
+fn add_board_change(line: &mut Line, gone: bool, name: &Name, index: u32, place: Option<Place>)
+    requires { length line.old.bytes ≤ 21 }
+    ensures text { line.new.bytes ≡ line.old.bytes ++ change_text (change.Board gone name.now index place) }
+    ensures size { length line.new.bytes ≤ 319 }
 {
-    lead.push_str(verb(gone));
-    lead.push_str(" board ");
-    out.push_str(lead.as_str())?;
-    push_board(out, name, index, place)
+    add_verb(line, gone);
+    line.push_str(" board ");
+    add_board(line, name, index, place);
 }
 
-// Appends that a live item is gone or new.
+// Puts that a live item is gone or new behind the tick.
 #[tactic(auto, using(std::proofs::Common::append_assoc), unfolding(crate::specs::Changes::change_text))]
-fn push_item(
-    out: &mut String,
-    lead: &mut Lead,
-    gone: bool,
-    kind: LiveKind,
-    name: &Name,
-) -> Result<(), OutOfMemory>
-    requires { length lead.old.bytes ≤ 41 }
-    ensures { OnOk result (string_bytes out.new ≡ string_bytes out.old ++ lead.old.bytes ++ change_text (change.Item gone kind name.now)) }
+fn add_item(line: &mut Line, gone: bool, kind: LiveKind, name: &Name)
+    requires { length line.old.bytes ≤ 21 }
+    ensures text { line.new.bytes ≡ line.old.bytes ++ change_text (change.Item gone kind name.now) }
+    ensures size { length line.new.bytes ≤ 319 }
 {
-    lead.push_str(verb(gone));
-    lead.push_str(" ");
-    lead.push_str(kind.word());
-    lead.push_str(" ");
-    push_named(out, lead, name)
+    add_verb(line, gone);
+    line.push_str(" ");
+    line.push_str(kind.word());
+    line.push_str(" ");
+    add_quoted(line, name);
 }
 
-// Appends that a poller ended for nothing.
+// Puts that a poller ended for nothing behind the tick.
 #[tactic(auto, using(std::proofs::Common::append_assoc), unfolding(crate::specs::Changes::change_text))]
-fn push_stale(out: &mut String, lead: &mut Lead, name: &Name) -> Result<(), OutOfMemory>
-    requires { length lead.old.bytes ≤ 41 }
-    ensures { OnOk result (string_bytes out.new ≡ string_bytes out.old ++ lead.old.bytes ++ change_text (change.Stale name.now)) }
+fn add_stale(line: &mut Line, name: &Name)
+    requires { length line.old.bytes ≤ 21 }
+    ensures text { line.new.bytes ≡ line.old.bytes ++ change_text (change.Stale name.now) }
+    ensures size { length line.new.bytes ≤ 319 }
 {
-    lead.push_str("stale read ");
-    push_named(out, lead, name)
+    line.push_str("stale read ");
+    add_quoted(line, name);
 }
 
-// What became of a sensor.
-fn failure(failed: bool) -> &'static str
-    ensures text { result.now ≡ failure_text failed }
-    ensures short { length result.now ≤ 7 }
+// Puts the word for what became of a sensor behind a line.
+fn add_failure_word(line: &mut Line, failed: bool)
+    requires { length line.old.bytes + 7 ≤ 320 }
+    ensures text { line.new.bytes ≡ line.old.bytes ++ failure_text failed }
+    ensures size { length line.new.bytes ≤ length line.old.bytes + 7 }
 {
-    if failed { "failed" } else { "working" }
+    if failed {
+        line.push_str("failed");
+    } else {
+        line.push_str("working");
+    }
 }
 
-// Appends that a sensor failed or works again.
+// Puts that a sensor failed or works again behind the tick.
 #[tactic(auto, using(std::proofs::Common::append_assoc), unfolding(crate::specs::Changes::change_text))]
-fn push_failure(
-    out: &mut String,
-    lead: &mut Lead,
-    failed: bool,
-    name: &Name,
-) -> Result<(), OutOfMemory>
-    requires { length lead.old.bytes ≤ 41 }
-    ensures { OnOk result (string_bytes out.new ≡ string_bytes out.old ++ lead.old.bytes ++ change_text (change.Failure failed name.now)) }
+fn add_failure(line: &mut Line, failed: bool, name: &Name)
+    requires { length line.old.bytes ≤ 21 }
+    ensures text { line.new.bytes ≡ line.old.bytes ++ change_text (change.Failure failed name.now) }
+    ensures size { length line.new.bytes ≤ 319 }
 {
-    lead.push_str(failure(failed));
-    lead.push_str(" sensor ");
-    push_named(out, lead, name)
+    add_failure_word(line, failed);
+    line.push_str(" sensor ");
+    add_quoted(line, name);
 }
 
-// What became of an alarm.
-fn switch(on: bool) -> &'static str
-    ensures text { result.now ≡ switch_text on }
-    ensures short { length result.now ≤ 3 }
+// Puts the word for what became of an alarm behind a line.
+fn add_switch(line: &mut Line, on: bool)
+    requires { length line.old.bytes + 3 ≤ 320 }
+    ensures text { line.new.bytes ≡ line.old.bytes ++ switch_text on }
+    ensures size { length line.new.bytes ≤ length line.old.bytes + 3 }
 {
-    if on { "on" } else { "off" }
+    if on {
+        line.push_str("on");
+    } else {
+        line.push_str("off");
+    }
 }
 
-// At which values an alarm is on.
-fn side(high: bool) -> &'static str
-    ensures { result.now ≡ side_text high }
+// Puts the word for the values at which an alarm is on behind a line.
+fn add_side(line: &mut Line, high: bool)
+    requires { length line.old.bytes + 4 ≤ 320 }
+    ensures text { line.new.bytes ≡ line.old.bytes ++ side_text high }
+    ensures size { length line.new.bytes ≤ length line.old.bytes + 4 }
 {
-    if high { "high" } else { "low" }
+    if high {
+        line.push_str("high");
+    } else {
+        line.push_str("low");
+    }
 }
 
-// How grave an alarm is.
-fn level(critical: bool) -> &'static str
-    ensures { result.now ≡ level_text critical }
+// Puts the word for how grave an alarm is behind a line.
+fn add_level(line: &mut Line, critical: bool)
+    requires { length line.old.bytes + 8 ≤ 320 }
+    ensures text { line.new.bytes ≡ line.old.bytes ++ level_text critical }
+    ensures size { length line.new.bytes ≤ length line.old.bytes + 8 }
 {
-    if critical { "critical" } else { "warning" }
+    if critical {
+        line.push_str("critical");
+    } else {
+        line.push_str("warning");
+    }
 }
 
-// Appends that an alarm went on or off.
+// Puts that an alarm went on or off behind the tick.
 #[tactic(auto, using(std::proofs::Common::append_assoc), unfolding(crate::specs::Changes::change_text))]
-fn push_alarm(
-    out: &mut String,
-    lead: &mut Lead,
-    on: bool,
-    name: &Name,
-    position: u8,
-    high: bool,
-    critical: bool,
-) -> Result<(), OutOfMemory>
-    requires { length lead.old.bytes ≤ 41 }
-    ensures { OnOk result (string_bytes out.new ≡ string_bytes out.old ++ lead.old.bytes ++ change_text (change.Alarm on name.now position high critical)) }
+fn add_alarm(line: &mut Line, on: bool, name: &Name, position: u8, high: bool, critical: bool)
+    requires { length line.old.bytes ≤ 21 }
+    ensures text { line.new.bytes ≡ line.old.bytes ++ change_text (change.Alarm on name.now position high critical) }
+    ensures size { length line.new.bytes ≤ 319 }
 {
-    lead.push_str("alarm ");
-    lead.push_str(switch(on));
-    lead.push_str(" ");
-    push_named(out, lead, name)?;
-    out.push(' ')?;
-    push_decimal(out, u64::from(position))?;
-    out.push(' ')?;
-    out.push_str(side(high))?;
-    out.push(' ')?;
-    out.push_str(level(critical))?;
-    Ok(())
+    line.push_str("alarm ");
+    add_switch(line, on);
+    line.push_str(" ");
+    add_quoted(line, name);
+    line.push_str(" ");
+    line.push_str(itoa::Buffer::new().format(position));
+    line.push_str(" ");
+    add_side(line, high);
+    line.push_str(" ");
+    add_level(line, critical);
 }
 
 // The mode of a zone.
@@ -170,64 +155,49 @@ pub(crate) fn mode(failsafe: bool) -> &'static str
     if failsafe { "failsafe" } else { "normal" }
 }
 
-// Appends that a zone went into failsafe or is normal again.
+// Puts that a zone went into failsafe or is normal again behind the tick.
 #[tactic(auto, using(std::proofs::Common::append_assoc), unfolding(crate::specs::Changes::change_text))]
-fn push_zone(
-    out: &mut String,
-    lead: &mut Lead,
-    failsafe: bool,
-    name: &Name,
-) -> Result<(), OutOfMemory>
-    requires { length lead.old.bytes ≤ 41 }
-    ensures { OnOk result (string_bytes out.new ≡ string_bytes out.old ++ lead.old.bytes ++ change_text (change.Zone failsafe name.now)) }
+fn add_zone(line: &mut Line, failsafe: bool, name: &Name)
+    requires { length line.old.bytes ≤ 21 }
+    ensures text { line.new.bytes ≡ line.old.bytes ++ change_text (change.Zone failsafe name.now) }
+    ensures size { length line.new.bytes ≤ 319 }
 {
-    lead.push_str(mode(failsafe));
-    lead.push_str(" zone ");
-    push_named(out, lead, name)
+    line.push_str(mode(failsafe));
+    line.push_str(" zone ");
+    add_quoted(line, name);
 }
 
-// Appends the duty of a fan.
+// Puts the duty of a fan behind the tick.
 #[tactic(auto, using(std::proofs::Common::append_assoc), unfolding(crate::specs::Changes::change_text))]
-fn push_duty(out: &mut String, lead: &mut Lead, name: &Name, duty: Milli) -> Result<(), OutOfMemory>
-    requires { length lead.old.bytes ≤ 41 }
-    ensures { OnOk result (string_bytes out.new ≡ string_bytes out.old ++ lead.old.bytes ++ change_text (change.Duty name.now duty)) }
+fn add_duty(line: &mut Line, name: &Name, duty: Milli)
+    requires { length line.old.bytes ≤ 21 }
+    ensures text { line.new.bytes ≡ line.old.bytes ++ change_text (change.Duty name.now duty) }
+    ensures size { length line.new.bytes ≤ 319 }
 {
-    lead.push_str("duty fan ");
-    push_named(out, lead, name)?;
-    out.push(' ')?;
-    push_milli(out, duty)
+    line.push_str("duty fan ");
+    add_quoted(line, name);
+    line.push_str(" ");
+    add_milli(line, duty);
 }
 
-// Appends where a FRU was refused, and why.
-#[tactic(auto, using(std::proofs::Common::append_assoc))]
-fn push_refused_at(out: &mut String, place: Place, refusal: Refusal) -> Result<(), OutOfMemory>
-    ensures { OnOk result (string_bytes out.new ≡ string_bytes out.old ++ place_text place ++ codes " " ++ refusal_text refusal) }
-{
-    push_place(out, place)?;
-    out.push(' ')?;
-    push_refusal(out, refusal)
-}
-
-// Appends that a FRU was refused.
+// Puts that a FRU was refused behind the tick, with its place and why.
 #[tactic(auto, using(std::proofs::Common::append_assoc), unfolding(crate::specs::Changes::change_text))]
-fn push_refused_plug(
-    out: &mut String,
-    lead: &mut Lead,
-    place: Place,
-    refusal: Refusal,
-) -> Result<(), OutOfMemory>
-    requires { length lead.old.bytes ≤ 41 }
-    ensures { OnOk result (string_bytes out.new ≡ string_bytes out.old ++ lead.old.bytes ++ change_text (change.PlugRefused place refusal)) }
+fn add_refused_plug(line: &mut Line, place: Place, refusal: Refusal)
+    requires { length line.old.bytes ≤ 21 }
+    ensures text { line.new.bytes ≡ line.old.bytes ++ change_text (change.PlugRefused place refusal) }
+    ensures size { length line.new.bytes ≤ 319 }
 {
-    lead.push_str("refused plug ");
-    out.push_str(lead.as_str())?;
-    push_refused_at(out, place, refusal)
+    line.push_str("refused plug ");
+    add_place(line, place);
+    line.push_str(" ");
+    add_refusal(line, refusal);
 }
 
-// Appends what is printed of a change, behind this lead.
-fn push_change_text(out: &mut String, lead: &mut Lead, change: &Change) -> Result<(), OutOfMemory>
-    requires { length lead.old.bytes ≤ 41 }
-    ensures { OnOk result (string_bytes out.new ≡ string_bytes out.old ++ lead.old.bytes ++ change_text change.now) }
+// Puts what is printed of a change behind the tick.
+fn add_change(line: &mut Line, change: &Change)
+    requires { length line.old.bytes ≤ 21 }
+    ensures text { line.new.bytes ≡ line.old.bytes ++ change_text change.now }
+    ensures size { length line.new.bytes ≤ 319 }
 {
     match change {
         Change::Board {
@@ -235,20 +205,20 @@ fn push_change_text(out: &mut String, lead: &mut Lead, change: &Change) -> Resul
             name,
             index,
             place,
-        } => push_board_change(out, lead, *gone, name, *index, *place),
-        Change::Item { gone, kind, name } => push_item(out, lead, *gone, *kind, name),
-        Change::Stale { name } => push_stale(out, lead, name),
-        Change::Failure { failed, name } => push_failure(out, lead, *failed, name),
+        } => add_board_change(line, *gone, name, *index, *place),
+        Change::Item { gone, kind, name } => add_item(line, *gone, *kind, name),
+        Change::Stale { name } => add_stale(line, name),
+        Change::Failure { failed, name } => add_failure(line, *failed, name),
         Change::Alarm {
             on,
             name,
             position,
             high,
             critical,
-        } => push_alarm(out, lead, *on, name, *position, *high, *critical),
-        Change::Zone { failsafe, name } => push_zone(out, lead, *failsafe, name),
-        Change::Duty { name, duty } => push_duty(out, lead, name, *duty),
-        Change::PlugRefused { place, refusal } => push_refused_plug(out, lead, *place, *refusal),
+        } => add_alarm(line, *on, name, *position, *high, *critical),
+        Change::Zone { failsafe, name } => add_zone(line, *failsafe, name),
+        Change::Duty { name, duty } => add_duty(line, name, *duty),
+        Change::PlugRefused { place, refusal } => add_refused_plug(line, *place, *refusal),
     }
 }
 
@@ -258,11 +228,12 @@ fn push_change_text(out: &mut String, lead: &mut Lead, change: &Change) -> Resul
 pub fn push_change(out: &mut String, tick: u64, change: &Change) -> Result<(), OutOfMemory>
     ensures { OnOk result (string_bytes out.new ≡ string_bytes out.old ++ change_line tick change.now) }
 {
-    let mut lead = ArrayString::new();
-    lead.push_str(itoa::Buffer::new().format(tick));
-    lead.push_str(" ");
-    push_change_text(out, &mut lead, change)?;
-    out.push('\n')?;
+    let mut line = Line::new();
+    line.push_str(itoa::Buffer::new().format(tick));
+    line.push_str(" ");
+    add_change(&mut line, change);
+    line.push_str("\n");
+    out.push_str(line.as_str())?;
     Ok(())
 }
 

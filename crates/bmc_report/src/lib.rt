@@ -7,6 +7,7 @@ mod change;
 mod change_line;
 mod decimal;
 mod examples;
+mod line;
 mod live_kind;
 mod log_row;
 mod milli;

@@ -1,8 +1,10 @@
-ghost use Rattle.std.specs.Prelude.{◌≡◌, ◌<◌, ◌++◌, OnOk, chars, string_bytes};
+ghost use Rattle.std.specs.Prelude.{◌≡◌, ◌≤◌, ◌<◌, ◌+◌, ◌*◌, ◌++◌, OnOk, chars, length, string_bytes};
 ghost use Rattle.std.specs.List.{flat_map, list_all};
 ghost use Rattle.bmc_report.specs.Quoted.{is_plain, escaped, quoted, hex_digit};
 
-use bmc_base::OutOfMemory;
+use crate::line::Line;
+use arrayvec::ArrayString;
+use bmc_base::{Name, OutOfMemory};
 
 // A lower-case hexadecimal digit.
 fn hex_digit_of(value: u32) -> char
@@ -17,22 +19,24 @@ fn hex_digit_of(value: u32) -> char
     }
 }
 
-// Appends a character of a quoted text.
-fn push_escaped(out: &mut String, char: char) -> Result<(), OutOfMemory>
-    ensures { OnOk result (string_bytes out.new ≡ string_bytes out.old ++ escaped char) }
+// Returns what is printed of a character between quotes.
+#[tactic(auto, using(crate::proofs::QuotedLemmas::char_size))]
+fn escape(char: char) -> ArrayString<4>
+    ensures { result.bytes ≡ escaped char }
 {
+    let mut text = ArrayString::new();
     let code = u32::from(char);
     if code == 34 || code == 92 {
-        out.push('\\')?;
-        out.push(char)?;
+        text.push_str("\\");
+        text.push(char);
     } else if code < 32 || code == 127 {
-        out.push_str("\\x")?;
-        out.push(hex_digit_of(code / 16))?;
-        out.push(hex_digit_of(code % 16))?;
+        text.push_str("\\x");
+        text.push(hex_digit_of(code / 16));
+        text.push(hex_digit_of(code % 16));
     } else {
-        out.push(char)?;
+        text.push(char);
     }
-    Ok(())
+    text
 }
 
 // Whether a byte stands for itself between quotes; one beyond ASCII is part of a character.
@@ -59,7 +63,7 @@ fn push_characters(out: &mut String, text: &str) -> Result<(), OutOfMemory>
         return Ok(());
     }
     for char in text.chars() {
-        push_escaped(out, char)?;
+        out.push_str(escape(char).as_str())?;
     }
     Ok(())
 }
@@ -73,4 +77,32 @@ pub(crate) fn push_quoted(out: &mut String, text: &str) -> Result<(), OutOfMemor
     push_characters(out, text)?;
     out.push('"')?;
     Ok(())
+}
+
+// Puts the characters of a quoted text behind a line, as `push_characters` appends them.
+#[tactic(auto, using(crate::proofs::QuotedLemmas::plain_escaped))]
+fn add_characters(line: &mut Line, text: &str)
+    requires { length line.old.bytes + 4 * length text.now ≤ 320 }
+    ensures text { line.new.bytes ≡ line.old.bytes ++ flat_map escaped (chars text.now) }
+    ensures size { length line.new.bytes ≤ length line.old.bytes + 4 * length text.now }
+{
+    if is_plain_text(text) {
+        line.push_str(text);
+        return;
+    }
+    for char in text.chars() {
+        line.push_str(escape(char).as_str());
+    }
+}
+
+// Puts a name between quotes behind a line. Each of its bytes may take four.
+#[tactic(auto, using(std::proofs::Common::append_assoc), unfolding(crate::specs::Quoted::quoted))]
+pub(crate) fn add_quoted(line: &mut Line, name: &Name)
+    requires { length line.old.bytes + 258 ≤ 320 }
+    ensures text { line.new.bytes ≡ line.old.bytes ++ quoted name.now }
+    ensures size { length line.new.bytes ≤ length line.old.bytes + 258 }
+{
+    line.push_str("\"");
+    add_characters(line, name.as_str());
+    line.push_str("\"");
 }

@@ -178,26 +178,27 @@ fn area_name(area: Area) -> &'static str
     }
 }
 
-// Appends the area that breaks a rule, behind its name.
-#[tactic(auto, using(std::proofs::Common::append_assoc))]
-fn push_area(out: &mut String, area: Option<Area>) -> Result<(), OutOfMemory>
-    ensures { OnOk result (string_bytes out.new ≡ string_bytes out.old ++ area_ending area) }
+// Puts the area that breaks a rule behind its name.
+fn add_area<const ROOM: usize>(line: &mut ArrayString<ROOM>, area: Option<Area>)
+    requires { length line.old.bytes + 8 ≤ ROOM }
+    ensures text { line.new.bytes ≡ line.old.bytes ++ area_ending area }
+    ensures size { length line.new.bytes ≤ length line.old.bytes + 8 }
 {
     if let Some(area) = area {
-        out.push(' ')?;
-        out.push_str(area_name(area))?;
+        line.push_str(" ");
+        line.push_str(area_name(area));
     }
-    Ok(())
 }
 
-// Appends what is printed of a refusal.
-#[inline]
+// Puts what is printed of a refusal behind what is there.
 #[tactic(auto, using(std::proofs::Common::append_assoc), unfolding(crate::specs::Refusals::refusal_text))]
-pub(crate) fn push_refusal(out: &mut String, refusal: Refusal) -> Result<(), OutOfMemory>
-    ensures { OnOk result (string_bytes out.new ≡ string_bytes out.old ++ refusal_text refusal) }
+pub(crate) fn add_refusal<const ROOM: usize>(line: &mut ArrayString<ROOM>, refusal: Refusal)
+    requires { length line.old.bytes + 24 ≤ ROOM }
+    ensures text { line.new.bytes ≡ line.old.bytes ++ refusal_text refusal }
+    ensures size { length line.new.bytes ≤ length line.old.bytes + 24 }
 {
-    out.push_str(refusal.name())?;
-    push_area(out, refusal.area())
+    line.push_str(refusal.name());
+    add_area(line, refusal.area());
 }
 
 /// Where an item comes from that may be refused.
@@ -222,20 +223,8 @@ impl Origin {
     }
 }
 
-// The most bytes of the line of a refusal, where a number may take 40.
-const LONGEST_LINE: usize = 80;
-
-// Puts the area that breaks a rule behind its name.
-fn add_area(line: &mut ArrayString<LONGEST_LINE>, area: Option<Area>)
-    requires { length line.old.bytes + 8 ≤ 80 }
-    ensures text { line.new.bytes ≡ line.old.bytes ++ area_ending area }
-    ensures size { length line.new.bytes ≤ length line.old.bytes + 8 }
-{
-    if let Some(area) = area {
-        line.push_str(" ");
-        line.push_str(area_name(area));
-    }
-}
+// The most bytes of the line of a refusal: two words, a number of 20 digits, and the refusal.
+const LONGEST_LINE: usize = 59;
 
 /// Appends the line that is printed of a refused file or line. `number` counts the files, or the lines of the script,
 /// from 1.
@@ -253,8 +242,7 @@ pub fn push_refused_line(
     line.push_str(origin.word());
     line.push_str(itoa::Buffer::new().format(number));
     line.push_str(" refused ");
-    line.push_str(refusal.name());
-    add_area(&mut line, refusal.area());
+    add_refusal(&mut line, refusal);
     line.push_str("\n");
     out.push_str(line.as_str())?;
     Ok(())
@@ -265,7 +253,7 @@ pub fn push_refused_line(
 pub fn refusal_text(alloc: Global, refusal: &Refusal) -> Result<Text, OutOfMemory>
     ensures { IfOk result (λ text. text ≡ refusal_text refusal.now) }
 {
-    let mut out = String::new(alloc);
-    push_refusal(&mut out, *refusal)?;
-    Text::copy(alloc, out.as_str())
+    let mut line = ArrayString::<LONGEST_LINE>::new();
+    add_refusal(&mut line, *refusal);
+    Text::copy(alloc, line.as_str())
 }
