@@ -210,7 +210,7 @@ fn wide_step(setting: &PidSetting, old: CtlState, sample: Sample) -> CtlState
     }
 }
 
-// Makes one step. The state is written in place, as a copy of it would cost as much as the sum.
+// Makes one step. The state is written in place, which saves a copy of it a step.
 #[inline(always)]
 pub(crate) fn take_step(setting: &PidSetting, state: &mut CtlState, sample: Sample)
     requires setting { IsValidPid setting.now }

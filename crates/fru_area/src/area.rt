@@ -7,7 +7,7 @@ ghost use Rattle.fru_area.specs.NextNames.{IsNext};
 ghost use Rattle.fru_area.specs.RawFields.{found_view};
 
 use crate::header::{FORMAT_VERSION, UNIT};
-use crate::{Area, Field, FieldList, FieldName, FruFault, area_sum, field_text};
+use crate::{Area, FieldList, FieldName, FruFault, area_sum};
 use std::alloc::Global;
 
 /// Stands in place of a type/length byte and ends the fields of an area (FRU definition 1.0, section 13).
@@ -137,9 +137,7 @@ pub fn append_area<const N: usize>(
     let mut number = 1;
     while let Some(raw) = raw_field(area, rest)? {
         let next = next_name(area, names, number);
-        let name = next.name;
-        let text = field_text(raw.kind, english, raw.bytes);
-        list.push(alloc, Field { name, text })?;
+        list.push_written(next.name, raw.kind, english, raw.bytes)?;
         names = next.later;
         number = next.number;
         rest = raw.rest;

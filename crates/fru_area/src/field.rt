@@ -1,8 +1,10 @@
 ghost use Rattle.std.specs.Prelude.{◌≡◌, ◌≤◌, ◌<◌, ◌+◌, ◌∷◌, ◌++◌, [], length, encode_utf8, IfSome, IfNone, IfOk, OnOk, OnErr, IsTrue, ◌↔◌, bytes_eq};
 ghost use Rattle.fru_area.specs.Names.{name_text};
-ghost use Rattle.fru_area.specs.Texts.{longest_text};
+ghost use Rattle.fru_area.specs.Texts.{longest_text, text_of};
+ghost use Rattle.fru_area.specs.Walks.{last_kind, longest_field};
 
 use crate::FieldName;
+use crate::text::write_text;
 use arrayvec::ArrayString;
 use bmc_base::OutOfMemory;
 use std::alloc::Global;
@@ -154,6 +156,29 @@ impl FieldList {
         // A push that can fail hands its item back, which costs copies of it.
         self.fields.reserve(1)?;
         self.fields.push_reserved(item);
+        Ok(())
+    }
+
+    // Appends a field with this name and the text of a field of this type, or changes nothing for want of memory. The text
+    // is written in its place, since to move a field costs more than to write its text.
+    pub(crate) fn push_written(
+        &mut self,
+        name: FieldName,
+        kind: u8,
+        english: bool,
+        bytes: &[u8],
+    ) -> Result<(), OutOfMemory>
+        requires kind { kind ≤ last_kind }
+        requires short { length bytes.now ≤ longest_field }
+        ensures ok { OnOk result (self.new
+            ≡ self.old ++ record { name = name; text = text_of english (record { kind = kind; bytes = bytes.now }) } ∷ []) }
+        ensures err { OnErr result (self.new ≡ self.old) }
+    {
+        self.fields.reserve(1)?;
+        let at = self.fields.len();
+        let text = FieldText::empty();
+        self.fields.push_reserved(Field { name, text });
+        write_text(&mut self.fields[at].text, kind, english, bytes);
         Ok(())
     }
 

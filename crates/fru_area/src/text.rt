@@ -17,18 +17,30 @@ const REPLACEMENT: u16 = 0xFFFD;
 /// Returns the text of a field of this type: 0 binary, 1 BCD plus, 2 6-bit ASCII, and 3 by language, which
 /// is Latin 1 where the area counts as English and else 2-byte Unicode (FRU definition 1.0, section 13).
 /// It takes no memory.
-#[tactic(auto, unfolding(crate::specs::Texts::text_of))]
 pub fn field_text(kind: u8, english: bool, bytes: &[u8]) -> FieldText
     requires kind { kind ≤ last_kind }
     requires short { length bytes.now ≤ longest_field }
     ensures { result ≡ text_of english (record { kind = kind; bytes = bytes.now }) }
 {
+    let mut text = FieldText::empty();
+    write_text(&mut text, kind, english, bytes);
+    text
+}
+
+// Writes the text of a field of this type into an empty text.
+#[tactic(auto, unfolding(crate::specs::Texts::text_of))]
+pub(crate) fn write_text(text: &mut FieldText, kind: u8, english: bool, bytes: &[u8])
+    requires empty { text.old ≡ [] }
+    requires kind { kind ≤ last_kind }
+    requires short { length bytes.now ≤ longest_field }
+    ensures { text.new ≡ text_of english (record { kind = kind; bytes = bytes.now }) }
+{
     match kind {
-        0 => binary_text(bytes),
-        1 => bcd_text(bytes),
-        2 => six_bit_text(bytes),
-        _ if english => latin_text(bytes),
-        _ => unicode_text(bytes),
+        0 => write_binary(text, bytes),
+        1 => write_bcd(text, bytes),
+        2 => write_six_bit(text, bytes),
+        _ if english => write_latin(text, bytes),
+        _ => write_unicode(text, bytes),
     }
 }
 
@@ -40,29 +52,29 @@ pub fn is_english_language(language: u8) -> bool
     language == 0 || language == 25
 }
 
-// Returns binary as lower-case hexadecimal.
-fn binary_text(bytes: &[u8]) -> FieldText
-    requires { length bytes.now ≤ longest_field }
-    ensures { result ≡ encode_lower bytes.now }
+// Writes binary as lower-case hexadecimal.
+fn write_binary(text: &mut FieldText, bytes: &[u8])
+    requires empty { text.old ≡ [] }
+    requires short { length bytes.now ≤ longest_field }
+    ensures { text.new ≡ encode_lower bytes.now }
 {
     let mut buffer = [0; 2 * LONGEST_FIELD];
     let digits = &mut buffer[..2 * bytes.len()];
     hex::encode_to_slice(bytes, digits).unwrap();
-    let text = str::from_utf8(digits).unwrap();
-    FieldText::of(text)
+    let digits = str::from_utf8(digits).unwrap();
+    text.push_str(digits);
 }
 
-// Returns BCD plus, two characters a byte.
-fn bcd_text(bytes: &[u8]) -> FieldText
-    requires { length bytes.now ≤ longest_field }
-    ensures { result ≡ bcd_text bytes.now }
+// Writes BCD plus, two characters a byte.
+fn write_bcd(text: &mut FieldText, bytes: &[u8])
+    requires empty { text.old ≡ [] }
+    requires short { length bytes.now ≤ longest_field }
+    ensures { text.new ≡ bcd_text bytes.now }
 {
-    let mut text = FieldText::empty();
     for byte in bytes {
         text.push_ascii(bcd_char(*byte / 16));
         text.push_ascii(bcd_char(*byte % 16));
     }
-    text
 }
 
 // The characters of BCD plus, by nibble.
@@ -77,19 +89,18 @@ fn bcd_char(nibble: u8) -> u8
     BCD_PLUS[nibble as usize]
 }
 
-// Returns 6-bit ASCII: three bytes hold four characters.
-fn six_bit_text(bytes: &[u8]) -> FieldText
-    requires { length bytes.now ≤ longest_field }
-    ensures { result ≡ six_bit_text bytes.now }
+// Writes 6-bit ASCII: three bytes hold four characters.
+fn write_six_bit(text: &mut FieldText, bytes: &[u8])
+    requires empty { text.old ≡ [] }
+    requires short { length bytes.now ≤ longest_field }
+    ensures { text.new ≡ six_bit_text bytes.now }
 {
-    let mut text = FieldText::empty();
     let mut rest = bytes;
     while !rest.is_empty() {
         let (group, later) = rest.split_at(rest.len().min(3));
-        push_six_bit(&mut text, group_bits(group), 8 * group.len() / 6);
+        push_six_bit(text, group_bits(group), 8 * group.len() / 6);
         rest = later;
     }
-    text
 }
 
 // Returns at most three bytes as one number, the low byte first.
@@ -119,14 +130,15 @@ fn push_six_bit(text: &mut FieldText, mut bits: u32, count: usize)
     }
 }
 
-// Returns Latin 1, a character a byte.
-fn latin_text(bytes: &[u8]) -> FieldText
-    requires { length bytes.now ≤ longest_field }
-    ensures { result ≡ latin_text bytes.now }
+// Writes Latin 1, a character a byte.
+fn write_latin(text: &mut FieldText, bytes: &[u8])
+    requires empty { text.old ≡ [] }
+    requires short { length bytes.now ≤ longest_field }
+    ensures { text.new ≡ latin_text bytes.now }
 {
     match ascii(bytes) {
-        Some(text) => FieldText::of(text),
-        None => wide_text(bytes),
+        Some(ascii) => text.push_str(ascii),
+        None => write_wide(text, bytes),
     }
 }
 
@@ -142,30 +154,28 @@ fn ascii(bytes: &[u8]) -> Option<&str>
     str::from_utf8(bytes).ok()
 }
 
-// Returns Latin 1, of which each character takes one byte or two.
-fn wide_text(bytes: &[u8]) -> FieldText
-    requires { length bytes.now ≤ longest_field }
-    ensures { result ≡ latin_text bytes.now }
+// Writes Latin 1, of which each character takes one byte or two.
+fn write_wide(text: &mut FieldText, bytes: &[u8])
+    requires empty { text.old ≡ [] }
+    requires short { length bytes.now ≤ longest_field }
+    ensures { text.new ≡ latin_text bytes.now }
 {
-    let mut text = FieldText::empty();
     for byte in bytes {
         text.push(char::from(*byte));
     }
-    text
 }
 
-// Returns 2-byte Unicode, the low byte first.
-fn unicode_text(bytes: &[u8]) -> FieldText
-    requires { length bytes.now ≤ longest_field }
-    ensures { result ≡ unicode_text bytes.now }
+// Writes 2-byte Unicode, the low byte first.
+fn write_unicode(text: &mut FieldText, bytes: &[u8])
+    requires empty { text.old ≡ [] }
+    requires short { length bytes.now ≤ longest_field }
+    ensures { text.new ≡ unicode_text bytes.now }
 {
-    let mut text = FieldText::empty();
     let mut rest = bytes;
     while let Some((c, later)) = first_char(rest) {
         text.push(c);
         rest = later;
     }
-    text
 }
 
 // Returns the first character of 2-byte Unicode, and the bytes behind it.

@@ -1,4 +1,4 @@
-use Rattle.std.proofs.Common.{Ok, arith, ap, sym, ◌∙◌, append-nil}
+use Rattle.std.proofs.Common.{Ok, arith, ap, sym, ◌∙◌, append-nil, refl}
 use Rattle.std.proofs.Math.Seq.{take-length}
 use Rattle.std.proofs.lemmas.Result.{err_from_is_err_and}
 use Rattle.fru_area.specs.RawFields.{raw_view}
@@ -30,10 +30,10 @@ loop-raw-preserved g c =
     record {
       fields = GoesOn-field c.args.area _ _ (raw_view c.in-Some.raw) _ _ _ read smaller
           (so_far-field c.args.area c.args.english _ _ c.next_name-next.result c.loop-raw.list _ (raw_view c.in-Some.raw) _
-          c.next_name-next.ensures.named c.field_text-text.ensures c.in_ok-push.ensures.ok)
+          c.next_name-next.ensures.named refl c.in_ok-push_written.ensures.ok)
           c.loop-raw.invariant.fields;
       number = omega (arith, smaller, c.next_name-next.ensures.limit);
-      front = front-more c.args.list.now c.loop-raw.list _ _ c.in_ok-push.ensures.ok c.loop-raw.invariant.front;
+      front = front-more c.args.list.now c.loop-raw.list _ _ c.in_ok-push_written.ensures.ok c.loop-raw.invariant.front;
     }
 
 pub returns-clause-fields : goal.returns-clause-fields

@@ -1,6 +1,6 @@
 use Rattle.std.proofs.Common.{◌≡◌, ◌+◌, ◌*◌, ◌≤◌, ◌++◌, length}
 use Rattle.fru_area.specs.Texts.{six_bit_text}
-use Rattle.fru_area.proofs.text.six_bit_text.Given as goal
+use Rattle.fru_area.proofs.text.write_six_bit.Given as goal
 
 abbrev pub invariant-loop-rest : goal.invariant-loop-rest
 invariant-loop-rest l = record {

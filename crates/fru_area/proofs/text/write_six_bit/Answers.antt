@@ -1,6 +1,6 @@
 use Rattle.std.proofs.Common.{ap, arith, length, length-append}
 use Rattle.fru_area.proofs.TextsLemmas.{six_bit_text_more, three_or_all, length-six_bit_chars}
-use Rattle.fru_area.proofs.text.six_bit_text.Goals as goal
+use Rattle.fru_area.proofs.text.write_six_bit.Goals as goal
 
 pub loop-rest-preserved : goal.loop-rest-preserved
 loop-rest-preserved c =

@@ -7,7 +7,7 @@ use Rattle.std.specs.Str.{IsUtf8, IsAscii}
 use Rattle.std.proofs.lemmas.Str.{IsUtf8-from_ascii}
 use Rattle.hex.proofs.HexLemmas.{IsAscii-encode_with}
 use Rattle.hex.specs.Hex.{lower_digits, encode_lower}
-use Rattle.fru_area.proofs.text.binary_text.Goals as goal
+use Rattle.fru_area.proofs.text.write_binary.Goals as goal
 
 IsAscii-tested : (bytes : List ℕ) → list_all (λ b. nat_lt b 128) bytes ≡ true → IsAscii bytes
 IsAscii-tested [] tested = IsAscii-nil
@@ -26,7 +26,7 @@ IsOk-from_cases :
 IsOk-from_cases (Ok x) P Q R holds cases = search rules
 IsOk-from_cases (Err e) P Q R holds cases = absurd (cases.0 holds)
 
-pub unwrap-text-requires : goal.unwrap-text-requires
-unwrap-text-requires c =
+pub unwrap-digits-requires : goal.unwrap-digits-requires
+unwrap-digits-requires c =
     let written = rw c.unwrap.ensures at c.encode_to_slice.ensures.written in
     IsOk-from_cases c.from_utf8.result _ _ _ (IsUtf8-encode_lower c.args.bytes.now _ written) c.from_utf8.ensures.cases

@@ -1,6 +1,6 @@
 use Rattle.std.proofs.Common.{◌≡◌, ◌+◌, ◌*◌, ◌<◌, ◌≤◌, ◌++◌, length}
 use Rattle.fru_area.specs.Texts.{unicode_text}
-use Rattle.fru_area.proofs.text.unicode_text.Given as goal
+use Rattle.fru_area.proofs.text.write_unicode.Given as goal
 
 abbrev pub invariant-loop-c : goal.invariant-loop-c
 invariant-loop-c l = record {

@@ -1,6 +1,6 @@
 use Rattle.std.proofs.Common.{ℕ, List, ◌++◌, ◌≤◌, encode_utf8, length, get_or, ap, sym, ◌∙◌, arith}
 use Rattle.fru_area.proofs.TextsLemmas.{length-encode_utf8-latin, latin_text_more, length-latin_more}
-use Rattle.fru_area.proofs.text.wide_text.Goals as goal
+use Rattle.fru_area.proofs.text.write_wide.Goals as goal
 
 pub push-requires : goal.push-requires
 push-requires c =
