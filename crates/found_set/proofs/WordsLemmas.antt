@@ -1,15 +1,15 @@
 -- Marks that are the bits of words.
-use Rattle.std.proofs.Common.{◌≡◌, ◌≢◌, ◌⊎◌, ◌∙◌, ℕ, zero, suc, ◌-◌, ◌*◌, ◌/◌, ◌%◌, ◌^◌, ◌<◌, ◌≤◌, ◌==◌, eqb, Bool, true, false, not, ◌&&◌, ◌||◌}
-use Rattle.std.proofs.Common.{List, [], ◌∷◌, length, get_or, set, replicate, refl, ap, ap₂, sym, arith, inl, inr, max, min, bit_and, bit_or}
+use Rattle.std.proofs.Common.{◌≡◌, ◌≢◌, ◌⊎◌, ◌∙◌, ℕ, zero, suc, ◌+◌, ◌-◌, ◌*◌, ◌/◌, ◌%◌, ◌^◌, ◌<◌, ◌≤◌, ◌==◌, eqb, Bool, true, false, not, ◌&&◌, ◌||◌}
+use Rattle.std.proofs.Common.{List, [], ◌∷◌, length, get_or, set, replicate, refl, ap, ap₂, sym, arith, inl, inr, max, min, bit_and, bit_or, bit_xor}
 use Rattle.std.specs.Int.{bit_at}
-use Rattle.std.proofs.lemmas.Nat.Bits.{bit_at-zero, bit_at-lt, bit_at-pow_same, bit_at-pow_other, bit_at_or, bit_at_and, bit_at_ones, bit_at_ones_above}
+use Rattle.std.proofs.lemmas.Nat.Bits.{bit_at-zero, bit_at-lt, bit_at-pow_same, bit_at-pow_other, bit_at_or, bit_at_and, bit_at_xor, bit_at_ones, bit_at_ones_above}
 use Rattle.std.proofs.lemmas.Nat.Bits.{bit_at_mask_inside, bit_at_mask_below}
 use Rattle.std.proofs.lemmas.List.{get_or_past, get_or-set_other, get_or-set_same, get_or-replicate, length-set, set-get_or, ext_get_or}
 use Rattle.std.proofs.lemmas.List.FromFn.{get_or-map-range_with_len, length-map-range_with_len}
 use Rattle.std.proofs.lemmas.Nat.{one_shl}
 use Rattle.std.proofs.lemmas.Bool.{cases_lt}
 use Rattle.std.proofs.lemmas.Bool.Decides.{nat_tests, eqb_tells}
-use Rattle.std.proofs.Math.Bool.{or-true, or-false}
+use Rattle.std.proofs.Math.Bool.{beq, or-true, or-false}
 use Rattle.found_set.specs.Marks.{is_marked, is_set, marks, AreMarked}
 use Rattle.found_set.specs.Found.{is_root}
 
@@ -174,3 +174,36 @@ put_is old new number small wide long bare told =
 
 pub bare_is : (old : List Bool) (number : ℕ) → is_marked old number ≡ false → old ≡ set old number false
 bare_is old number bare = sym (ap (set old number) (sym bare) ∙ set-get_or old number false)
+
+-- the bits of either word and not of both
+abbrev pub apart_words : List ℕ → List ℕ → List ℕ
+apart_words words others =
+    bit_xor (get_or words 0 0) (get_or others 0 0)
+    ∷ bit_xor (get_or words 1 0) (get_or others 1 0)
+    ∷ bit_xor (get_or words 2 0) (get_or others 2 0)
+    ∷ bit_xor (get_or words 3 0) (get_or others 3 0)
+    ∷ []
+
+apart_at : (words others : List ℕ) (k : ℕ) → k < 4 → get_or (apart_words words others) k 0 ≡ bit_xor (get_or words k 0) (get_or others k 0)
+apart_at words others zero lt = refl
+apart_at words others (suc zero) lt = refl
+apart_at words others (suc (suc zero)) lt = refl
+apart_at words others (suc (suc (suc zero))) lt = refl
+apart_at words others (suc (suc (suc (suc k)))) lt = absurd (omega (arith, lt))
+
+apart_bits : (bit other : ℕ) → bit < 2 → other < 2 → ((bit + other) % 2 == 1) ≡ not (beq (bit == 1) (other == 1))
+apart_bits zero zero lt lt_other = refl
+apart_bits zero (suc zero) lt lt_other = refl
+apart_bits (suc zero) zero lt lt_other = refl
+apart_bits (suc zero) (suc zero) lt lt_other = refl
+apart_bits (suc (suc bit)) other lt lt_other = absurd (omega (arith, lt))
+apart_bits zero (suc (suc other)) lt lt_other = absurd (omega (arith, lt_other))
+apart_bits (suc zero) (suc (suc other)) lt lt_other = absurd (omega (arith, lt_other))
+
+pub apart_set : (words others : List ℕ) (n : ℕ) → n < 256 → is_set (apart_words words others) n ≡ not (beq (is_set words n) (is_set others n))
+apart_set words others n small =
+    let word = get_or words (n / 64) 0 in
+    let other = get_or others (n / 64) 0 in
+    ap (λ (w : ℕ). bit_at w (n % 64) == 1) (apart_at words others (n / 64) (omega (arith, small)))
+    ∙ ap (λ (bit : ℕ). bit == 1) (bit_at_xor word other (n % 64))
+    ∙ apart_bits (bit_at word (n % 64)) (bit_at other (n % 64)) (bit_at-lt word (n % 64)) (bit_at-lt other (n % 64))

@@ -1,4 +1,5 @@
-ghost use Rattle.std.specs.Prelude.{◌≡◌, ◌<◌, ℕ, Bool, true, false, ◌||◌, ◌&&◌, ◌==◌, length, replicate, slice_set};
+ghost use Rattle.std.specs.Prelude.{◌≡◌, ◌<◌, ℕ, Bool, true, false, not, ◌||◌, ◌&&◌, ◌==◌, length, replicate, slice_set};
+ghost use Rattle.std.proofs.Math.Bool.{beq};
 ghost use Rattle.std.specs.List.{list_any};
 ghost use Rattle.probe_lang.specs.Sights.{has_hit, has_config};
 ghost use Rattle.found_set.specs.Marks.{is_marked, is_true, mark_count, AreMarked, AreTrue};
@@ -50,8 +51,8 @@ impl Marks {
         Marks { words: [0; 4] }
     }
 
-    // Returns a mark for each number.
-    pub(crate) fn all() -> Marks
+    /// Returns a mark for each number.
+    pub fn all() -> Marks
         ensures { AreMarked result (λ number. true) }
     {
         Marks {
@@ -74,6 +75,28 @@ impl Marks {
         ensures { result ≡ self.now }
     {
         Marks { words: self.words }
+    }
+
+    // Whether the same numbers are marked by others.
+    pub(crate) fn are_same(&self, others: &Marks) -> bool
+        ensures { result ≡ true → self.now ≡ others.now }
+    {
+        self.words == others.words
+    }
+
+    // Returns a mark for each number that is marked here or by others, and not by both.
+    pub(crate) fn differences(&self, others: &Marks) -> Marks
+        ensures { AreMarked result (λ number. not (beq (is_marked self.now number) (is_marked others.now number))) }
+    {
+        let (words, others) = (self.words, others.words);
+        Marks {
+            words: [
+                words[0] ^ others[0],
+                words[1] ^ others[1],
+                words[2] ^ others[2],
+                words[3] ^ others[3],
+            ],
+        }
     }
 
     // Returns these marks but for those of the root buses.
@@ -125,14 +148,21 @@ impl Marks {
     }
 }
 
-/// Returns a mark for each configuration that a set can hold, by its number: whether a hit of it is among these.
-pub fn touched_by(hits: &[Hit]) -> Marks
+/// Marks each configuration of which a hit is among these, by its number.
+pub fn mark_touched(marks: &mut Marks, hits: &[Hit])
+    ensures { AreMarked marks.new (λ number. is_marked marks.old number || has_config hits.now number) }
+{
+    for hit in hits {
+        marks.mark(hit.config as usize);
+    }
+}
+
+// Returns a mark for each configuration that a set can hold, by its number: whether a hit of it is among these.
+pub(crate) fn touched_by(hits: &[Hit]) -> Marks
     ensures { AreMarked result (has_config hits.now) }
 {
     let mut touched = Marks::none();
-    for hit in hits {
-        touched.mark(hit.config as usize);
-    }
+    mark_touched(&mut touched, hits);
     touched
 }
 
