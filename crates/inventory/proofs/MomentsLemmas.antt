@@ -1,5 +1,5 @@
 -- Entries with one more among them, and without one.
-use Rattle.std.proofs.Common.{◌≡◌, ℕ, zero, suc, ◌+◌, ◌<◌, List, [], ◌∷◌, ◌++◌, Bool, true, false, not, cond, ◌&&◌, Option, Some, length}
+use Rattle.std.proofs.Common.{◌≡◌, ℕ, zero, suc, ◌+◌, ◌<◌, List, [], ◌∷◌, ◌++◌, Bool, true, false, not, cond, ◌&&◌, ◌||◌, Option, Some, length}
 use Rattle.std.proofs.Common.{take, filter, find, map, get_or}
 use Rattle.std.proofs.Common.{refl, sym, ap, ap₂, ◌∙◌, append_assoc, subst, inl, inr}
 use Rattle.std.specs.Prelude.{slice_get}
@@ -19,7 +19,7 @@ use Rattle.found_set.specs.Found.{on_buses}
 use Rattle.probe_lang.specs.Presents.{unboxed, is_entry_at, are_by_place, with_entry, without_entry}
 use Rattle.inventory.specs.Boards.{hit_places, places_or_none}
 use Rattle.inventory.specs.Differences.{Moment, IsMarkedBy}
-use Rattle.inventory.specs.Moments.{hits_in, found_boards, boards_now, AreSeenAlike, IsAmong, IsApartBy, IsLone}
+use Rattle.inventory.specs.Moments.{hits_in, found_boards, boards_now, AreSameBut, AreSeenAlike, IsAmong, IsApartBy, IsLone}
 use Rattle.inventory.proofs.BoardLemmas.{and_first, and_second, place_cmp_eq, place_same}
 use Rattle.inventory.proofs.ListLemmas.{all_append, all_map, filter_all, filter_alike}
 
@@ -122,6 +122,12 @@ pub alike_bus : (reach reach_after : ℕ → Bool) (marks marks_after : List Boo
 alike_bus reach reach_after marks marks_after bus at one other marked marked_after small is e f same =
     subst (λ n. reach n ≡ reach_after n) is (sym (marked bus small) ∙ sym e ∙ same_answer one other same ∙ f ∙ marked_after bus small)
 
+pub alike_marks : (reach reach_after : ℕ → Bool) (marks marks_after : List Bool) (bus at : ℕ) → AreMarked marks reach → AreMarked marks_after reach_after
+    → bus < 256 → bus ≡ at → marks ≡ marks_after → reach at ≡ reach_after at
+alike_marks reach reach_after marks marks_after bus at marked marked_after small is same =
+    subst (λ n. reach n ≡ reach_after n) is
+    (sym (marked bus small) ∙ ap (λ (list : List Bool). is_marked list bus) same ∙ marked_after bus small)
+
 pub alike_more : (reach reach_after : ℕ → Bool) (boxes : List (Box Entry)) (i : ℕ) (box : Box Entry) (entry : Entry) → i < length boxes
     → box ≡ get_or boxes i box → entry ≡ box.value
     → AreSeenAlike reach reach_after (unboxed (take i boxes)) → reach entry.place.bus ≡ reach_after entry.place.bus
@@ -192,6 +198,26 @@ same_boards entry before after found reach found_after reach_after number one ot
     ap₂ (λ (is : Bool) (places : List Place). cond is (places_or_none match_one places) []) is_found
     (hits_stay reach reach_after number entry before.entries after.entries lone.apart (lone.alike reach reach_after marked.reach marked_after.reach)
     (sym hit ∙ not_true has none))
+
+-- a configuration that is not marked
+unmarked : (one other has : Bool) → (not (beq one other) || has) ≡ false → (beq one other ≡ true) × (not has ≡ true)
+unmarked true true true none = absurd (cc)
+unmarked true true false none = (refl, refl)
+unmarked true false has none = absurd (cc)
+unmarked false true has none = absurd (cc)
+unmarked false false true none = absurd (cc)
+unmarked false false false none = (refl, refl)
+
+pub same_unmarked : (entry : Entry) (before after : Moment) (old new : List Bool) → IsLone entry before after
+    → AreMarked old (λ config. not (beq (is_marked before.facts.found config) (is_marked after.facts.found config)))
+    → AreMarked new (λ config. is_marked old config || has_config entry.hits config) → AreSameBut new before after
+same_unmarked entry before after old new lone apart touched = λ number small none found reach found_after reach_after marked marked_after match_one.
+    let one = is_marked before.facts.found number in
+    let other = is_marked after.facts.found number in
+    let has = has_config entry.hits number in
+    let both = unmarked one other has (sym (touched number small ∙ ap (λ (b : Bool). b || has) (apart number small)) ∙ none) in
+    same_boards entry before after found reach found_after reach_after number one other has match_one lone small marked marked_after refl refl both.0 refl
+    both.1
 
 -- a configuration that is found has these boards
 pub boards_found : (match_one : Bool) (found reach : ℕ → Bool) (moment : Moment) (number : ℕ) → found number ≡ true

@@ -1,9 +1,9 @@
 -- The entries of a moment, and the boards of one configuration.
-use Rattle.std.specs.Prelude.{ℕ, ◌≡◌, Bool, false, IsTrue, ⊤, ◌⊎◌, if◌then◌else◌, List, [], ◌∷◌, ◌++◌, map, Option, Some, None}
+use Rattle.std.specs.Prelude.{ℕ, ◌≡◌, ◌<◌, Bool, false, IsTrue, ⊤, ◌⊎◌, if◌then◌else◌, List, [], ◌∷◌, ◌++◌, map, Option, Some, None}
 use Rattle.std.specs.List.{AllByRecursion}
 use Rattle.std.specs.List.Sorted.{IsStrictlySortedBy}
 use Rattle.std.specs.Option.{option_eq, option_cmp}
-use Rattle.found_set.specs.Marks.{AreMarked}
+use Rattle.found_set.specs.Marks.{is_marked, mark_count, AreMarked}
 use Rattle.std.specs.Ordering.{is_lt}
 use Rattle.bmc_base.specs.Places.{Place, place_cmp, place_eq}
 use Rattle.probe_lang.specs.declared.rows.Entry.{Entry}
@@ -11,7 +11,7 @@ use Rattle.probe_lang.specs.Sights.{entry_sight}
 use Rattle.cfg_json.specs.Configs.{Config}
 use Rattle.inventory.specs.Boards.{has_board, hit_places, places_or_none}
 use Rattle.inventory.specs.Indexes.{except}
-use Rattle.inventory.specs.Differences.{Moment, key_of}
+use Rattle.inventory.specs.Differences.{Moment, IsMarkedBy, key_of}
 use Rattle.inventory.specs.declared.board.BoardKey.{BoardKey}
 
 -- the places of the entries on reachable buses that a pattern of a configuration matches
@@ -65,6 +65,13 @@ pub record IsLone (entry : Entry) (before after : Moment) : Type 0 where
 abbrev pub IsLoneIf : Option Entry → Moment → Moment → Type 0
 IsLoneIf None before after = ⊤
 IsLoneIf (Some entry) before after = IsLone entry before after
+
+-- each configuration that is not marked has the same boards at both moments
+abbrev pub AreSameBut : List Bool → Moment → Moment → Type 0
+AreSameBut marks before after =
+    (number : ℕ) → number < mark_count → is_marked marks number ≡ false → (found reach found_after reach_after : ℕ → Bool)
+    → IsMarkedBy before.facts found reach → IsMarkedBy after.facts found_after reach_after → (match_one : Bool)
+    → boards_now match_one found reach before number ≡ boards_now match_one found_after reach_after after number
 
 -- a place has these before it and those behind it
 pub record IsBeside (place : Place) (front back : List Place) : Type 0 where

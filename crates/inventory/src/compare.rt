@@ -1,17 +1,15 @@
 ghost use Rattle.std.specs.Prelude.{◌≡◌, ◌+◌, ◌<◌, ◌≤◌, ◌++◌, ℕ, Bool, true, [], length, option_to_list, option_map, IfOk, OnOk, OnSome};
 ghost use Rattle.inventory.specs.Differences.{IsMarkedBy, boards_at, keys_left};
-ghost use Rattle.inventory.specs.Moments.{boards_now, left, plus_keys, IsApartBy, IsLoneIf};
-ghost use Rattle.probe_lang.specs.Sights.{has_config};
+ghost use Rattle.inventory.specs.Moments.{boards_now, left, plus_keys, AreSameBut, IsApartBy, IsLoneIf};
 
 use crate::boards::{list_boards, push_both, push_left};
 use crate::lone::{lone_swap, push_key};
 use crate::{BoardKeys, Difference, Moment};
 use bmc_base::{Ledger, OutOfMemory, Place};
 use cfg_json::{Config, Shelf};
-use found_set::{Marks, touched_by};
+use found_set::{Marks, mark_touched};
 use probe_lang::Entry;
 use std::alloc::Global;
-use std::marker::Model;
 
 // The keys of the boards that go and that come so far, and the boards of one configuration at both moments, in
 // memory that serves for each in turn.
@@ -49,88 +47,36 @@ impl Comparison {
     }
 }
 
-// An entry that alone comes or goes, with a mark for each configuration of which it has a hit.
-#[derive(Drop)]
-struct Lone<'e> {
-    entry: &'e Entry,
-    hits: Marks,
-}
-
-impl<'e> Model for Lone<'e> {
-    ghost use Rattle.probe_lang.specs.declared.rows.Entry.{Entry};
-    ghost use Rattle.probe_lang.specs.Sights.{has_config};
-    ghost use Rattle.found_set.specs.Marks.{AreMarked};
-
-    ghost Value = { Entry };
-
-    ghost view = { λ l. l.entry.now };
-
-    ghost invariant = { λ l. AreMarked l.hits (has_config l.entry.now.hits) };
-}
-
-impl<'e> Lone<'e> {
-    // Returns this entry with its marks.
-    fn new(entry: &'e Entry) -> Lone<'e>
-        ensures { result ≡ entry.now }
-    {
-        Lone {
-            entry,
-            hits: touched_by(entry.hits.as_slice()),
-        }
-    }
-
-    // Borrows the entry.
-    fn entry(&self) -> &'e Entry
-        ensures { result.now ≡ self.now }
-    {
-        self.entry
-    }
-
-    // Whether it has a hit of this configuration.
-    fn has_hit(&self, number: u32) -> bool
-        requires { number < 256 }
-        ensures { result ≡ has_config self.now.hits number }
-    {
-        self.hits.has(number as usize)
-    }
-}
-
 // Returns the entry that alone comes or goes, where each other FRU is seen as before.
-fn lone_change<'e>(changed: &'e Entry, before: &Moment<'_>, after: &Moment<'_>) -> Option<Lone<'e>>
+fn lone_change<'e>(changed: &'e Entry, before: &Moment<'_>, after: &Moment<'_>) -> Option<&'e Entry>
     requires { IsApartBy changed.now before.now.entries after.now.entries }
-    ensures { IsLoneIf result before.now after.now }
+    ensures { IsLoneIf (option_map (λ entry. entry.now) result) before.now after.now }
 {
     if before.is_seen_alike(after) {
-        Some(Lone::new(changed))
+        Some(changed)
     } else {
         None
     }
 }
 
-// Whether a configuration has the same boards at both moments: it is found at both or at neither, and what
-// changed has no hit of it.
-fn has_same_boards(
-    changed: Option<&Lone<'_>>,
-    before: &Moment<'_>,
-    after: &Moment<'_>,
-    number: u32,
-) -> bool
-    requires number { number < 256 }
-    requires changed { IsLoneIf (option_map (λ entry. entry.now) changed) before.now after.now }
-    ensures { (found reach found_after reach_after : ℕ → Bool) → IsMarkedBy before.now.facts found reach
-        → IsMarkedBy after.now.facts found_after reach_after → result ≡ true → (match_one : Bool)
-        → boards_now match_one found reach before.now number ≡ boards_now match_one found_after reach_after after.now number }
+// Marks the configurations whose boards may differ. Each other is found at both moments or at neither, and what changed
+// has no hit of it.
+fn configs_apart(changed: Option<&Entry>, before: &Moment<'_>, after: &Moment<'_>) -> Marks
+    requires { IsLoneIf (option_map (λ entry. entry.now) changed) before.now after.now }
+    ensures { AreSameBut result before.now after.now }
 {
-    match changed {
-        Some(lone) => before.found(number) == after.found(number) && !lone.has_hit(number),
-        None => false,
-    }
+    let Some(entry) = changed else {
+        return Marks::all();
+    };
+    let mut apart = before.found_apart(after);
+    mark_touched(&mut apart, entry.hits.as_slice());
+    apart
 }
 
 // Returns what changed where no list is needed to find the boards of a configuration that go and come: where it is
 // found at both moments.
 fn lone_of<'e>(
-    changed: Option<&Lone<'e>>,
+    changed: Option<&'e Entry>,
     before: &Moment<'_>,
     after: &Moment<'_>,
     number: u32,
@@ -143,7 +89,7 @@ fn lone_of<'e>(
 {
     let lone = changed?;
     if before.found(number) && after.found(number) {
-        Some(lone.entry())
+        Some(lone)
     } else {
         None
     }
@@ -183,7 +129,7 @@ fn push_lists(
 fn push_config(
     alloc: Global,
     comparison: &mut Comparison,
-    changed: Option<&Lone<'_>>,
+    changed: Option<&Entry>,
     before: &Moment<'_>,
     after: &Moment<'_>,
     number: u32,
@@ -212,7 +158,7 @@ fn push_shelf<L: Ledger>(
     alloc: Global,
     comparison: &mut Comparison,
     shelf: &Shelf<L>,
-    changed: Option<&Lone<'_>>,
+    changed: Option<&Entry>,
     before: &Moment<'_>,
     after: &Moment<'_>,
 ) -> Result<(), OutOfMemory>
@@ -225,8 +171,9 @@ fn push_shelf<L: Ledger>(
         → IsMarkedBy after.now.facts found_after reach_after → OnOk result (comparison.new.come ≡ comparison.old.come ++ keys_left (length shelf.now)
         (boards_at shelf.now found_after reach_after after.now) (boards_at shelf.now found reach before.now)) }
 {
+    let apart = configs_apart(changed, before, after);
     for number in 0..shelf.len() {
-        if has_same_boards(changed, before, after, number as u32) {
+        if !apart.has(number) {
             continue;
         }
         let Some(config) = shelf.at(number) else {
@@ -309,6 +256,6 @@ pub fn difference_by<L: Ledger>(
     // a shelf has at most 256 configurations
     let _count = shelf.len();
     let lone = lone_change(changed, before, after);
-    push_shelf(alloc, &mut comparison, shelf, lone.as_ref(), before, after)?;
+    push_shelf(alloc, &mut comparison, shelf, lone, before, after)?;
     Ok(comparison.into_difference())
 }

@@ -62,11 +62,28 @@ pub fn first_hit(entries: &[Box<Entry>], facts: &Facts, number: u32) -> Option<P
     None
 }
 
-/// Whether each FRU is on a bus that is reachable in both cases or in neither.
+// Tells the proof that FRUs are seen alike where the same buses are reachable, each of which is below 256. It does nothing: a
+// loop without effects is left out.
+fn tell_alike(entries: &[Box<Entry>], facts: &Facts, facts_after: &Facts)
+    requires { facts.now.reach ≡ facts_after.now.reach }
+    ensures { (reach reach_after : ℕ → Bool) → AreMarked facts.now.reach reach → AreMarked facts_after.now.reach reach_after
+        → AreSeenAlike reach reach_after (unboxed entries.now) }
+{
+    for entry in entries {
+        let _bus = entry.place.bus();
+    }
+}
+
+/// Whether each FRU is on a bus that is reachable in both cases or in neither. It looks at no FRU where the same buses are
+/// reachable.
 pub fn are_seen_alike(entries: &[Box<Entry>], facts: &Facts, facts_after: &Facts) -> bool
     ensures { (reach reach_after : ℕ → Bool) → AreMarked facts.now.reach reach → AreMarked facts_after.now.reach reach_after → result ≡ true
         → AreSeenAlike reach reach_after (unboxed entries.now) }
 {
+    if facts.reach_alike(facts_after) {
+        tell_alike(entries, facts, facts_after);
+        return true;
+    }
     for entry in entries {
         let bus = entry.place.bus();
         if facts.reach(bus) != facts_after.reach(bus) {

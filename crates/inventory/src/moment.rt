@@ -1,4 +1,5 @@
-ghost use Rattle.std.specs.Prelude.{◌≡◌, ◌++◌, ◌≤◌, ℕ, Bool, true, false, ◌&&◌, IsTrue, OnOk, length, map, slice_get, find, option_map};
+ghost use Rattle.std.specs.Prelude.{◌≡◌, ◌++◌, ◌≤◌, ℕ, Bool, true, false, not, ◌&&◌, IsTrue, OnOk, length, map, slice_get, find, option_map};
+ghost use Rattle.std.proofs.Math.Bool.{beq};
 ghost use Rattle.found_set.specs.Marks.{AreMarked, is_marked};
 ghost use Rattle.probe_lang.specs.Presents.{unboxed, is_entry_at, are_by_place, holds_place, with_entry, without_entry};
 ghost use Rattle.probe_lang.specs.Sights.{entry_sight, has_config};
@@ -8,7 +9,7 @@ ghost use Rattle.inventory.specs.Moments.{hits_in, AreSeenAlike};
 
 use crate::hits::{are_seen_alike, first_hit, is_hit, push_hits};
 use bmc_base::{OutOfMemory, Place};
-use found_set::Facts;
+use found_set::{Facts, Marks};
 use fru_record::FruRecord;
 use match_rows::count_before;
 use probe_lang::Entry;
@@ -107,6 +108,13 @@ impl<'a> Moment<'a> {
         ensures order { IsTrue (are_by_place self.now.entries) }
     {
         self.facts.found(number)
+    }
+
+    // Returns a mark for each configuration, by its number, that is found at one of both moments alone.
+    pub(crate) fn found_apart(&self, after: &Moment<'_>) -> Marks
+        ensures { AreMarked result (λ config. not (beq (is_marked self.now.facts.found config) (is_marked after.now.facts.found config))) }
+    {
+        self.facts.found_apart(&after.facts)
     }
 
     // Appends the places of the FRUs on reachable buses that a pattern of this configuration matches.

@@ -1,4 +1,5 @@
-use Rattle.std.proofs.Common.{◌∙◌, ◌≡◌, ap, sym, ℕ, Bool, arith, option_map}
+use Rattle.std.proofs.Common.{◌∙◌, ◌≡◌, ◌<◌, ap, sym, ℕ, Bool, false, arith, option_map}
+use Rattle.found_set.specs.Marks.{is_marked}
 use Rattle.cfg_json.specs.Configs.{Config}
 use Rattle.inventory.specs.Moments.{boards_now}
 use Rattle.inventory.specs.Differences.{Moment, IsMarkedBy, boards_at}
@@ -25,16 +26,18 @@ loop-number-preserved g c =
           (there found reach c.args.before.now);
     }
 
-pub loop-number-preserved-then-has_same_boards : goal.loop-number-preserved-then-has_same_boards
-loop-number-preserved-then-has_same_boards g c =
+pub loop-number-preserved-then-not-has : goal.loop-number-preserved-then-not-has
+loop-number-preserved-then-not-has g c =
     let number = c.loop-number.number in
     let configs = c.args.shelf.now in
+    let small : number < 256 = omega (arith, c.loop-number-test.true, c.len-number-end.ensures.value, c.requires.few) in
+    let none : is_marked c.configs_apart-apart.result number ≡ false = sym c.has.ensures.value ∙ c.if-not-has.true in
     let same : (found reach found_after reach_after : ℕ → Bool) → IsMarkedBy c.args.before.now.facts found reach
     → IsMarkedBy c.args.after.now.facts found_after reach_after
     → boards_at configs found reach c.args.before.now number ≡ boards_at configs found_after reach_after c.args.after.now number =
     λ found reach found_after reach_after marked marked_after.
     same_there configs found reach found_after reach_after c.args.before.now c.args.after.now number
-    (c.has_same_boards.ensures found reach found_after reach_after marked marked_after c.if-has_same_boards.true) in
+    (c.configs_apart-apart.ensures number small none found reach found_after reach_after marked marked_after) in
     record {
       gone = λ found reach found_after reach_after marked marked_after. config_skipped number (boards_at configs found reach c.args.before.now)
           (boards_at configs found_after reach_after c.args.after.now) _ _

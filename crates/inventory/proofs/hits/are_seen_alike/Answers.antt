@@ -19,3 +19,6 @@ returns c =
     λ reach reach_after marked marked_after yes. subst (λ boxes. AreSeenAlike reach reach_after (unboxed boxes))
     (take_all c.loop-entry.entry-index c.args.entries.now all)
     (c.loop-entry.invariant reach reach_after marked marked_after)
+
+pub returns-then-reach_alike : goal.returns-then-reach_alike
+returns-then-reach_alike c = λ reach reach_after marked marked_after yes. c.tell_alike.ensures reach reach_after marked marked_after
