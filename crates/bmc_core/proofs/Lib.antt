@@ -9,3 +9,4 @@ pub mod StateLemmas
 pub mod TickedLemmas
 pub mod FailsafeLemmas
 pub mod CoreLemmas
+pub mod HealthLemmas

@@ -4,5 +4,6 @@ pub mod Logging
 pub mod Cores
 pub mod Acting
 pub mod Failsafe
+pub mod Health
 pub mod Acts
 pub mod Lists

@@ -6,6 +6,7 @@ mod acting;
 mod board_list;
 mod core_state;
 mod fault;
+mod input_health;
 mod lists;
 mod logging;
 mod senses;

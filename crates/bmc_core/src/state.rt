@@ -6,6 +6,7 @@ ghost use Rattle.bmc_core.specs.Failsafe.{IsFailsafe};
 ghost use Rattle.bmc_core.specs.States.{StateStands, ticked_state};
 
 use crate::acting::renew_zones;
+use crate::input_health::{InputHealth, health_after};
 use crate::senses::Senses;
 use crate::{Act, CoreFault};
 use bmc_base::{Ledger, Name, OutOfMemory, Place, Steps};
@@ -17,23 +18,27 @@ use std::alloc::Global;
 use std::marker::Model;
 
 /// The state of a core: what is known of the bus and of the sensors, the zones over a bank of boxes, and what the last act
-/// changed. Beside that it keeps a panel, on which each tick notes what zones and fans showed before it.
+/// changed. Beside that it keeps a panel, on which each tick notes what zones and fans showed before it, and what is known of the
+/// inputs of controllers.
 #[derive(Drop)]
 pub(crate) struct State<L: Ledger, C: Controller> {
     senses: Senses<L>,
     zones: Zones<C>,
     strict: bool,
     panel: Panel,
+    health: InputHealth,
 }
 
 impl<L: Ledger, C: Controller> Model for State<L, C> {
     ghost use Rattle.bmc_core.specs.States.{StateView, IsState};
+    ghost use Rattle.bmc_core.specs.Health.{IsTrueOf};
 
     ghost Value = { StateView };
 
     ghost view = { λ s. record { senses = s.senses; zones = s.zones; strict = s.strict } };
 
-    ghost invariant = { λ s. IsState (record { senses = s.senses; zones = s.zones; strict = s.strict }) };
+    ghost invariant = { λ s. IsState (record { senses = s.senses; zones = s.zones; strict = s.strict })
+        × IsTrueOf s.senses.sensors.slots s.zones.held s.health };
 }
 
 impl<L: Ledger, C: Controller> State<L, C> {
@@ -51,6 +56,7 @@ impl<L: Ledger, C: Controller> State<L, C> {
             zones,
             strict,
             panel: Panel::new(),
+            health: InputHealth::Unknown,
         })
     }
 
@@ -79,6 +85,7 @@ impl<L: Ledger, C: Controller> State<L, C> {
         ensures applies { StateApplies self.old (Configure config) result self.new }
         ensures counted { IsCounted result self.old.senses (Configure config) steps.old steps.new }
     {
+        self.health = InputHealth::Unknown;
         match self.senses.configure(alloc, config, steps) {
             Ok(()) => {
                 renew_zones(&mut self.zones, self.senses.watch(), self.senses.sensors());
@@ -100,6 +107,7 @@ impl<L: Ledger, C: Controller> State<L, C> {
         ensures applies { StateApplies self.old (Plug place bytes.now) result self.new }
         ensures counted { IsCounted result self.old.senses (Plug place bytes.now) steps.old steps.new }
     {
+        self.health = InputHealth::Unknown;
         match self.senses.plug(alloc, place, bytes, steps) {
             Ok(()) => {
                 renew_zones(&mut self.zones, self.senses.watch(), self.senses.sensors());
@@ -115,6 +123,7 @@ impl<L: Ledger, C: Controller> State<L, C> {
         ensures applies { StateApplies self.old (Unplug place) result self.new }
         ensures counted { IsCounted result self.old.senses (Unplug place) steps.old steps.new }
     {
+        self.health = InputHealth::Unknown;
         match self.senses.unplug(alloc, place, steps) {
             Ok(()) => {
                 renew_zones(&mut self.zones, self.senses.watch(), self.senses.sensors());
@@ -129,6 +138,7 @@ impl<L: Ledger, C: Controller> State<L, C> {
     fn read(&mut self, name: &Name, raw: i64) -> Result<(), CoreFault>
         ensures { StateApplies self.old (Read name.now raw) result self.new }
     {
+        self.health = InputHealth::Unknown;
         self.senses.read(name, raw)
     }
 
@@ -136,6 +146,7 @@ impl<L: Ledger, C: Controller> State<L, C> {
     fn lose(&mut self, name: &Name) -> Result<(), CoreFault>
         ensures { StateApplies self.old (Lose name.now) result self.new }
     {
+        self.health = InputHealth::Unknown;
         self.senses.lose(name)
     }
 
@@ -151,8 +162,11 @@ impl<L: Ledger, C: Controller> State<L, C> {
         self.panel
             .note(self.zones.zone_rows(), self.zones.fan_rows());
         self.senses.count_tick();
+        let now = self.senses.ticks();
+        let good = self.health.is_good_at(now);
         let sensors = self.senses.sensors().table();
-        self.zones.tick(sensors, self.senses.ticks(), self.strict);
+        self.zones.tick(sensors, now, self.strict, good);
+        self.health = health_after(self.health, good, &self.zones, sensors, now);
         self.senses
             .tell_tick(&self.panel, self.zones.zone_rows(), self.zones.fan_rows());
     }

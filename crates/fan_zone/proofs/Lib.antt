@@ -25,6 +25,7 @@ pub mod Sitting
 pub mod SetMeaning
 pub mod Clearing
 pub mod OwnBoxes
+pub mod SteadyLemmas
 pub mod SettingsLaw
 pub mod MachineLemmas
 pub mod ValuesLaw

@@ -15,4 +15,5 @@ pub mod Settings
 pub mod IsSets
 pub mod IsTicks
 pub mod Laws
+pub mod Steady
 pub mod Machine

@@ -1,10 +1,11 @@
-ghost use Rattle.std.specs.Prelude.{◌≡◌, ◌<◌, IsSome, None, Some, length, slice_get};
+ghost use Rattle.std.specs.Prelude.{◌≡◌, ◌<◌, false, IsSome, None, Some, length, slice_get};
 ghost use Rattle.std.specs.List.{All};
 ghost use Rattle.std.specs.Option.{ForSome};
 ghost use Rattle.ctl_face.specs.Ranges.{IsMilli, IsValidSample};
 ghost use Rattle.fan_zone.specs.Boxes.{box_at};
 ghost use Rattle.fan_zone.specs.Passes.{fan_sample, pass, sample_of, shown_setpoint, step_box, thermal_sample, thermal_setpoint};
 ghost use Rattle.fan_zone.specs.Sound.{AreInZones, AreSeated, AreSmall, AreSmallRows, HasSmallSetpoint, IsSeated};
+ghost use Rattle.fan_zone.specs.Steady.{is_due};
 
 use crate::bank::Bank;
 use crate::held::{Held, Role};
@@ -103,8 +104,8 @@ fn step_box<C: Controller>(bank: &mut Bank<C>, number: usize, sample: Option<Sam
     }
 }
 
-/// Steps the thermal controllers that take part.
-pub(crate) fn step_thermals<C: Controller>(
+// Steps the thermal controllers that take part.
+fn step_all_thermals<C: Controller>(
     bank: &mut Bank<C>,
     held: &[Held],
     sensors: &SensorTable,
@@ -120,6 +121,28 @@ pub(crate) fn step_thermals<C: Controller>(
     for one in held {
         let sample = thermal_sample(sensors, now, one);
         step_box(bank, one.number, sample);
+    }
+}
+
+/// Steps the thermal controllers that take part. Where no controller is due there are none.
+#[tactic(auto, using(crate::proofs::SteadyLemmas::none_due))]
+pub(crate) fn step_thermals<C: Controller>(
+    bank: &mut Bank<C>,
+    held: &[Held],
+    sensors: &SensorTable,
+    now: u64,
+    due: bool,
+)
+    requires seats { AreSeated bank.old held.now }
+    requires small { AreSmall bank.old }
+    requires setpoints { All HasSmallSetpoint held.now }
+    requires due { due ≡ false → is_due held.now ≡ false }
+    ensures state { bank.new ≡ pass (thermal_sample sensors.now.slots now) held.now bank.old }
+    ensures seats { AreSeated bank.new held.now }
+    ensures small { AreSmall bank.new }
+{
+    if due {
+        step_all_thermals(bank, held, sensors, now);
     }
 }
 

@@ -1,8 +1,10 @@
 ghost use Rattle.std.specs.Prelude.{◌≡◌, option_copied};
 ghost use Rattle.fan_zone.specs.Inputs.{good_input, good_inputs, has_bad_input, input_of, is_bad_input, sensor_of};
 ghost use Rattle.fan_zone.specs.Best.{better, better_with};
+ghost use Rattle.fan_zone.specs.Steady.{earlier, has_bad_input_now, IsGoodFor};
+ghost use Rattle.sensor_core.specs.Sensors.{is_bad};
 
-use crate::held::Role;
+use crate::held::{Held, Role};
 use bmc_base::Milli;
 use sensor_core::{Sensor, SensorTable};
 
@@ -108,4 +110,65 @@ pub(crate) fn input(
         best = better_with(role, best, good_input(sensors, now, *input));
     }
     best
+}
+
+// The earlier one of two ticks, if there are both.
+fn earlier(until: Option<u64>, other: Option<u64>) -> Option<u64>
+    ensures { result ≡ earlier until other }
+{
+    match (until, other) {
+        (Some(one), Some(other)) => Some(one.min(other)),
+        _ => None,
+    }
+}
+
+// A tick up to which a sensor is not bad, as long as it stays as it is. There is none where it is bad now.
+fn sensor_good_until(sensor: &Sensor, now: u64) -> Option<u64>
+    ensures { IsGoodFor (is_bad sensor.now) now result }
+{
+    if sensor.is_bad(now) {
+        return None;
+    }
+    let timeout = sensor.setting().timeout;
+    if timeout == 0 {
+        return Some(u64::MAX);
+    }
+    let age = sensor.age(now).unwrap_or(0);
+    Some(now.saturating_add(u64::from(timeout).saturating_sub(age)))
+}
+
+// A tick up to which an input is not bad.
+fn input_good_until(sensors: &SensorTable, now: u64, input: Option<usize>) -> Option<u64>
+    ensures { IsGoodFor (λ tick. is_bad_input sensors.now.slots tick input) now result }
+{
+    match sensor_of(sensors, input) {
+        None => None,
+        Some(sensor) => sensor_good_until(sensor, now),
+    }
+}
+
+// A tick up to which none of some inputs is bad.
+fn inputs_good_until(sensors: &SensorTable, now: u64, inputs: &[Option<usize>]) -> Option<u64>
+    ensures { IsGoodFor (λ tick. has_bad_input sensors.now.slots tick inputs.now) now result }
+{
+    let mut until = Some(u64::MAX);
+    for input in inputs {
+        until = earlier(until, input_good_until(sensors, now, *input));
+    }
+    until
+}
+
+/// A tick up to which no input of some controllers is bad, as long as the sensors stay as they are. There is none where one is bad
+/// now.
+pub(crate) fn good_until(sensors: &SensorTable, now: u64, held: &[Held]) -> Option<u64>
+    ensures { IsGoodFor (λ tick. has_bad_input_now sensors.now.slots tick held.now) now result }
+{
+    let mut until = Some(u64::MAX);
+    for one in held {
+        until = earlier(
+            until,
+            inputs_good_until(sensors, now, one.inputs.as_slice()),
+        );
+    }
+    until
 }

@@ -1,4 +1,4 @@
-ghost use Rattle.std.specs.Prelude.{◌≡◌, ◌<◌, None, Some, length, map, slice_get, pos};
+ghost use Rattle.std.specs.Prelude.{◌≡◌, ◌<◌, true, None, Some, length, map, slice_get, pos};
 ghost use Rattle.std.specs.List.{All};
 ghost use Rattle.std.specs.Option.{ForSome};
 ghost use Rattle.ctl_face.specs.Ranges.{IsMilli};
@@ -6,6 +6,7 @@ ghost use Rattle.fan_zone.specs.Rows.{commanded, failsafe_percent, fan_row, held
 ghost use Rattle.fan_zone.specs.Rows.{raised, thermal_output, zone_row};
 ghost use Rattle.fan_zone.specs.RowSteps.{IsCommanded, bare_row, with_held};
 ghost use Rattle.fan_zone.specs.Sound.{AreInZones, AreSeated, AreSmall, AreSmallPlans, AreSmallRows, HasSmallRow, IsSeated};
+ghost use Rattle.fan_zone.specs.Steady.{AreShown, is_due};
 ghost use Rattle.fan_zone.specs.Ticks.{aged};
 
 use crate::bank::Bank;
@@ -83,8 +84,8 @@ fn show_held<C: Controller>(
     }
 }
 
-/// Shows the setpoint and the mode of each zone.
-pub(crate) fn show_zones<C: Controller>(
+// Shows the setpoint and the mode of each zone.
+fn show_all_zones<C: Controller>(
     rows: &mut [ZoneRow],
     plans: &[ZonePlan],
     held: &[Held],
@@ -104,6 +105,30 @@ pub(crate) fn show_zones<C: Controller>(
     // A controller touches the row of its own zone alone, so a tick costs zones plus controllers, and not their product.
     for one in held {
         show_held(&mut rows[one.zone], one, bank, sensors, now);
+    }
+}
+
+/// Shows the setpoint and the mode of each zone. Where they are known to stay as they are, nothing is done.
+pub(crate) fn show_zones<C: Controller>(
+    rows: &mut [ZoneRow],
+    plans: &[ZonePlan],
+    held: &[Held],
+    bank: &Bank<C>,
+    sensors: &SensorTable,
+    now: u64,
+    stay: bool,
+)
+    requires seats { AreSeated bank.now held.now }
+    requires small { AreSmall bank.now }
+    requires plans { length plans.now ≡ length rows.old }
+    requires zones { AreInZones rows.old held.now }
+    requires lows { AreSmallPlans plans.now }
+    requires stay { stay ≡ true → AreShown sensors.now.slots now plans.now held.now bank.now rows.old }
+    ensures rows { rows.new ≡ numbered (zone_row sensors.now.slots now plans.now held.now bank.now) 0 rows.old }
+    ensures small { AreSmallRows rows.new }
+{
+    if !stay {
+        show_all_zones(rows, plans, held, bank, sensors, now);
     }
 }
 
@@ -230,4 +255,11 @@ pub(crate) fn grow_ages(held: &mut [Held])
         let one = &mut held[number];
         one.age = ((u16::from(one.age) + 1) % 10) as u8;
     }
+}
+
+/// Whether one of some controllers is at the first of ten ticks of its run.
+pub(crate) fn is_some_due(held: &[Held]) -> bool
+    ensures { result ≡ is_due held.now }
+{
+    held.iter().any(|one| one.age == 0)
 }

@@ -439,6 +439,7 @@ fn assert_shown<C: Controller>(rt: &impl Abort, zones: &Zones<C>, row: &Row, now
 }
 
 // The ticks of a row, from this one on.
+#[tactic(auto, using(crate::proofs::SteadyLemmas::none_bad))]
 fn tick<C: Controller>(
     rt: &impl Abort,
     zones: &mut Zones<C>,
@@ -450,7 +451,8 @@ fn tick<C: Controller>(
 {
     for n in 0..row.ticks {
         let now = first.saturating_add(n);
-        zones.tick(table, now, row.strict);
+        let good = zones.good_until(table, now).is_some();
+        zones.tick(table, now, row.strict, good);
         assert_shown(rt, zones, row, now);
     }
 }

@@ -1,4 +1,4 @@
-ghost use Rattle.std.specs.Prelude.{◌≡◌, ◌<◌, ◌≤◌, ◌^◌, [], IfOk, length, map};
+ghost use Rattle.std.specs.Prelude.{◌≡◌, ◌<◌, ◌≤◌, ◌^◌, true, false, [], IfOk, length, map};
 ghost use Rattle.std.specs.List.{All};
 ghost use Rattle.ctl_face.specs.Seen.{unloaded};
 ghost use Rattle.fan_zone.specs.IsSets.{IsSet};
@@ -7,15 +7,17 @@ ghost use Rattle.fan_zone.specs.Settings.{CanSet, set_to};
 ghost use Rattle.fan_zone.specs.Live.{items_of};
 ghost use Rattle.fan_zone.specs.Failsafe.{IsFailsafe};
 ghost use Rattle.fan_zone.specs.Sound.{most_fans, most_zones};
+ghost use Rattle.fan_zone.specs.Steady.{has_bad_input_now, IsGoodFor};
 ghost use Rattle.fan_zone.specs.Ticks.{no_zones, ticked};
 
 use crate::bank::Bank;
 use crate::held::Held;
 use crate::passes::{step_fans, step_thermals};
+use crate::reading::good_until;
 use crate::renew::{renew_fans, renew_zones};
 use crate::rows::{FanPlan, FanRow, ZonePlan, ZoneRow};
 use crate::seats::renew_seats;
-use crate::showing::{grow_ages, show_fans, show_zones};
+use crate::showing::{grow_ages, is_some_due, show_fans, show_zones};
 use bmc_base::OutOfMemory;
 use cfg_json::Item;
 use ctl_face::Controller;
@@ -46,14 +48,19 @@ pub struct Zones<C: Controller> {
     next_zone_rows: Vec<ZoneRow>,
     next_fan_plans: Vec<FanPlan>,
     next_fan_rows: Vec<FanRow>,
+    // Whether a controller may be at the first of ten ticks of its run. Where none is, no thermal controller steps.
+    due: bool,
+    // Whether it is known that no zone shows failsafe, and each the setpoint that its controllers give now.
+    steady: bool,
 }
 
 impl<C: Controller> Model for Zones<C> {
     ghost use Rattle.fan_zone.specs.Ticks.{ZonesView, view_of};
-    ghost use Rattle.std.specs.Prelude.{length};
+    ghost use Rattle.std.specs.Prelude.{◌≡◌, true, false, length};
     ghost use Rattle.std.specs.Vec.{vec_capacity};
     ghost use Rattle.fan_zone.specs.Settings.{HasRoom};
     ghost use Rattle.fan_zone.specs.Sound.{IsSound, most_zones, most_fans};
+    ghost use Rattle.fan_zone.specs.Steady.{is_due, IsSteady};
 
     ghost Value = { ZonesView };
 
@@ -65,7 +72,9 @@ impl<C: Controller> Model for Zones<C> {
         × HasRoom z.next_zone_plans.items most_zones (vec_capacity z.zone_plans) (vec_capacity z.next_zone_plans)
         × HasRoom z.next_zone_rows.items most_zones (vec_capacity z.zone_rows) (vec_capacity z.next_zone_rows)
         × HasRoom z.next_fan_plans.items most_fans (vec_capacity z.fan_plans) (vec_capacity z.next_fan_plans)
-        × HasRoom z.next_fan_rows.items most_fans (vec_capacity z.fan_rows) (vec_capacity z.next_fan_rows) };
+        × HasRoom z.next_fan_rows.items most_fans (vec_capacity z.fan_rows) (vec_capacity z.next_fan_rows)
+        × (z.due ≡ false → is_due z.held.items ≡ false)
+        × (z.steady ≡ true → IsSteady (view_of z.bank z.held.items z.zone_plans.items z.zone_rows.items z.fan_plans.items z.fan_rows.items)) };
 }
 
 impl<C: Controller> Zones<C> {
@@ -91,6 +100,8 @@ impl<C: Controller> Zones<C> {
             next_zone_rows: Vec::with_capacity(alloc, MOST_ZONES)?,
             next_fan_plans: Vec::with_capacity(alloc, MOST_FANS)?,
             next_fan_rows: Vec::with_capacity(alloc, MOST_FANS)?,
+            due: true,
+            steady: false,
         })
     }
 
@@ -126,18 +137,33 @@ impl<C: Controller> Zones<C> {
             sensors,
             live,
         );
+        self.due = true;
+        self.steady = false;
+    }
+
+    /// Returns a tick up to which no input of a controller is bad, as long as the sensors stay as they are: the last one, where no
+    /// reading is later than `now`. There is none where an input is bad at tick `now`.
+    pub fn good_until(&self, sensors: &SensorTable, now: u64) -> Option<u64>
+        ensures { IsGoodFor (λ tick. has_bad_input_now sensors.now.slots tick self.now.held) now result }
+    {
+        good_until(sensors, now, &self.held)
     }
 
     /// Makes one tick, at tick `now`. First each thermal controller whose turn it is steps, at the 1st, 11th, 21st and so on
     /// tick of its run, where one of its inputs is good; then each zone shows its setpoint, and whether it is in failsafe; then
     /// each fan controller steps by the setpoint of its zone; and then each fan shows its duty. In failsafe a fan gets the
     /// zone's FailSafePercent at the least, and in strict mode exactly that. Takes no memory.
-    pub fn tick(&mut self, sensors: &SensorTable, now: u64, strict: bool)
+    ///
+    /// `good` may be true only where no input is bad at this tick. Then zones whose thermal controllers do not step show what they
+    /// showed, and their inputs are not looked at again.
+    pub fn tick(&mut self, sensors: &SensorTable, now: u64, strict: bool, good: bool)
+        requires good { good ≡ true → has_bad_input_now sensors.now.slots now self.old.held ≡ false }
         ensures ticked { self.new ≡ ticked sensors.now.slots now strict self.old }
         ensures failsafe { IsFailsafe sensors.now.slots now strict self.new }
         ensures steps { StepsOwnBoxes sensors.now.slots now self.old self.new }
     {
-        step_thermals(&mut self.bank, &self.held, sensors, now);
+        let stay = good & self.steady & !self.due;
+        step_thermals(&mut self.bank, &self.held, sensors, now, self.due);
         show_zones(
             &mut self.zone_rows,
             &self.zone_plans,
@@ -145,6 +171,7 @@ impl<C: Controller> Zones<C> {
             &self.bank,
             sensors,
             now,
+            stay,
         );
         step_fans(&mut self.bank, &self.held, &self.zone_rows, sensors, now);
         show_fans(
@@ -157,6 +184,8 @@ impl<C: Controller> Zones<C> {
             strict,
         );
         grow_ages(&mut self.held);
+        self.due = is_some_due(&self.held);
+        self.steady = good;
     }
 
     /// Borrows what is shown of the zones, in item order. There are at most 32.

@@ -9,9 +9,11 @@ use Rattle.bmc_core.proofs.state.State.lose.Goals as goal
 pub invariant_of-self : goal.invariant_of-self
 invariant_of-self g c =
     let old : StateView = record { senses = c.self.inside.senses; zones = c.self.inside.zones; strict = c.self.inside.strict } in
-    let new : StateView = record { senses = c.lose.new.self; zones = c.self.inside.zones; strict = c.self.inside.strict } in
-    state_next old new (Lose c.args.name.now) c.lose.result c.self.invariant
-    (sensed old new (Lose c.args.name.now) c.lose.result refl refl refl c.lose.ensures.notes c.lose.ensures.names refl refl) c.self.invariant.enough
+    let new : StateView = record { senses = c.lose.new.self; zones = c.self.inside.zones; strict = c.self.inside.strict } in (
+      state_next old new (Lose c.args.name.now) c.lose.result c.self.invariant.0
+          (sensed old new (Lose c.args.name.now) c.lose.result refl refl refl c.lose.ensures.notes c.lose.ensures.names refl refl) c.self.invariant.0.enough,
+      tt,
+    )
 
 pub returns : goal.returns
 returns g c =

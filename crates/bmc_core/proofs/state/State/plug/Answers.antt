@@ -17,13 +17,13 @@ pub renew_zones-requires-clause-few : goal.renew_zones-requires-clause-few
 renew_zones-requires-clause-few g c =
     let old : StateView = record { senses = c.self.inside.senses; zones = c.self.inside.zones; strict = c.self.inside.strict } in
     subst (λ (watch : WatchView). length (acting (live (view_items watch))) ≤ most_acting) (sym c.watch.ensures)
-    (few_acting old (Plug c.args.place c.args.bytes.now) c.plug.new.self refl refl c.in-Ok.ensures.notes c.self.invariant)
+    (few_acting old (Plug c.args.place c.args.bytes.now) c.plug.new.self refl refl c.in-Ok.ensures.notes c.self.invariant.0)
 
 pub renew_zones-requires-clause-fit : goal.renew_zones-requires-clause-fit
 renew_zones-requires-clause-fit g c =
     let old : StateView = record { senses = c.self.inside.senses; zones = c.self.inside.zones; strict = c.self.inside.strict } in
     subst (λ (watch : WatchView). All IsValidConfig watch.configs → CanSet c.self.inside.zones (acting (live (view_items watch)))) (sym c.watch.ensures)
-    (can_take old (Plug c.args.place c.args.bytes.now) c.plug.new.self refl refl c.in-Ok.ensures.notes c.self.invariant)
+    (can_take old (Plug c.args.place c.args.bytes.now) c.plug.new.self refl refl c.in-Ok.ensures.notes c.self.invariant.0)
 
 pub invariant_of-self : goal.invariant_of-self
 invariant_of-self g c =
@@ -31,18 +31,23 @@ invariant_of-self g c =
     let new : StateView = record { senses = c.plug.new.self; zones = c.renew_zones.new.zones; strict = c.self.inside.strict } in
     let renewed : AreRenewed c.self.inside.zones c.plug.new.self.watch c.plug.new.self.sensors c.renew_zones.new.zones =
     subst₂ (λ (watch : WatchView) (sensors : LiveSensors). AreRenewed c.self.inside.zones watch sensors c.renew_zones.new.zones)
-    c.watch.ensures c.sensors.ensures c.renew_zones.ensures in
-    state_next old new (Plug c.args.place c.args.bytes.now) (Ok tt) c.self.invariant
-    (happened old (Plug c.args.place c.args.bytes.now) c.plug.new.self refl refl c.in-Ok.ensures.notes c.in-Ok.ensures.slots c.renew_zones.new.zones renewed)
-    (bank_kept c.self.inside.zones c.renew_zones.new.zones c.plug.new.self.watch c.plug.new.self.sensors renewed c.self.invariant.enough)
+    c.watch.ensures c.sensors.ensures c.renew_zones.ensures in (
+      state_next old new (Plug c.args.place c.args.bytes.now) (Ok tt) c.self.invariant.0
+          (happened old (Plug c.args.place c.args.bytes.now) c.plug.new.self refl refl c.in-Ok.ensures.notes c.in-Ok.ensures.slots
+          c.renew_zones.new.zones renewed)
+          (bank_kept c.self.inside.zones c.renew_zones.new.zones c.plug.new.self.watch c.plug.new.self.sensors renewed c.self.invariant.0.enough),
+      tt,
+    )
 
 pub invariant_of-self-in-Err : goal.invariant_of-self-in-Err
 invariant_of-self-in-Err g c =
     let old : StateView = record { senses = c.self.inside.senses; zones = c.self.inside.zones; strict = c.self.inside.strict } in
-    let new : StateView = record { senses = c.plug.new.self; zones = c.self.inside.zones; strict = c.self.inside.strict } in
-    state_next old new (Plug c.args.place c.args.bytes.now) (Err c.in-Err.fault) c.self.invariant
-    (not_done old new (Plug c.args.place c.args.bytes.now) c.in-Err.fault c.in-Err.ensures.notes refl refl)
-    c.self.invariant.enough
+    let new : StateView = record { senses = c.plug.new.self; zones = c.self.inside.zones; strict = c.self.inside.strict } in (
+      state_next old new (Plug c.args.place c.args.bytes.now) (Err c.in-Err.fault) c.self.invariant.0
+          (not_done old new (Plug c.args.place c.args.bytes.now) c.in-Err.fault c.in-Err.ensures.notes refl refl)
+          c.self.invariant.0.enough,
+      tt,
+    )
 
 pub returns-in-Ok-clause-applies : goal.returns-in-Ok-clause-applies
 returns-in-Ok-clause-applies g c =

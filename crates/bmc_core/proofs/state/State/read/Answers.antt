@@ -9,10 +9,13 @@ use Rattle.bmc_core.proofs.state.State.read.Goals as goal
 pub invariant_of-self : goal.invariant_of-self
 invariant_of-self g c =
     let old : StateView = record { senses = c.self.inside.senses; zones = c.self.inside.zones; strict = c.self.inside.strict } in
-    let new : StateView = record { senses = c.read.new.self; zones = c.self.inside.zones; strict = c.self.inside.strict } in
-    state_next old new (Read c.args.name.now (to_z w64 (of_z w64 c.args.raw))) c.read.result c.self.invariant
-    (sensed old new (Read c.args.name.now (to_z w64 (of_z w64 c.args.raw))) c.read.result refl refl refl c.read.ensures.notes c.read.ensures.names refl refl)
-    c.self.invariant.enough
+    let new : StateView = record { senses = c.read.new.self; zones = c.self.inside.zones; strict = c.self.inside.strict } in (
+      state_next old new (Read c.args.name.now (to_z w64 (of_z w64 c.args.raw))) c.read.result c.self.invariant.0
+          (sensed old new (Read c.args.name.now (to_z w64 (of_z w64 c.args.raw))) c.read.result refl refl refl c.read.ensures.notes c.read.ensures.names
+          refl refl)
+          c.self.invariant.0.enough,
+      tt,
+    )
 
 pub returns : goal.returns
 returns g c =

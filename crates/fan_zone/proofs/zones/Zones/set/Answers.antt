@@ -1,4 +1,5 @@
 use Rattle.std.proofs.Common.{◌≡◌, ap, sym, ◌∙◌, subst, arith, length}
+use Rattle.std.proofs.lemmas.Bool.{true≢false}
 use Rattle.fan_zone.specs.Ticks.{ZonesView, view_of}
 use Rattle.fan_zone.specs.Live.{items_of}
 use Rattle.fan_zone.specs.Sound.{IsSound}
@@ -73,6 +74,8 @@ invariant_of-self g c =
         now = omega (arith, fan_rows.next, c.renew_fans.ensures.rows_room);
         next = omega (arith, fan_rows.now, c.renew_fans.ensures.spare_rows);
       },
+      λ e. absurd (true≢false e),
+      λ e. absurd (true≢false (sym e)),
     )
 
 pub returns : goal.returns

@@ -1,9 +1,11 @@
-use Rattle.std.proofs.Common.{arith, ◌≡◌, ap, sym, ◌∙◌, subst, List, length, map}
+use Rattle.std.proofs.Common.{arith, false, not, ◌&&◌, ◌≡◌, ap, sym, ◌∙◌, subst, List, length, map}
 use Rattle.std.specs.Vec.{with_items}
+use Rattle.std.proofs.lemmas.Bool.{and_parts, not-true}
 use Rattle.std.proofs.lemmas.List.{with_items_is}
-use Rattle.fan_zone.specs.Ticks.{ZonesView, ticked, aged}
+use Rattle.fan_zone.specs.Ticks.{ZonesView, ticked, aged, view_of}
 use Rattle.fan_zone.specs.Failsafe.{IsFailsafe}
 use Rattle.fan_zone.specs.Sound.{AreSpare, IsSound, AreSeated, number_of, IsTyped, HasSmallSetpoint, AreSmallRows}
+use Rattle.fan_zone.specs.declared.rows.ZonePlan.{ZonePlan}
 use Rattle.fan_zone.specs.declared.rows.ZoneRow.{ZoneRow}
 use Rattle.fan_zone.specs.declared.held.Held.{Held}
 use Rattle.fan_zone.specs.IsTicks.{StepsOwnBoxes}
@@ -13,6 +15,9 @@ use Rattle.fan_zone.proofs.SoundLaw.{sound_aged, typed_pass, length-pass}
 use Rattle.std.specs.List.{All}
 use Rattle.ctl_face.specs.Seen.{Seen}
 use Rattle.fan_zone.specs.Passes.{pass, thermal_sample, fan_sample}
+use Rattle.fan_zone.specs.Rows.{numbered, zone_row}
+use Rattle.fan_zone.specs.Steady.{AreShown, has_bad_input_now, is_due, steady_row}
+use Rattle.fan_zone.proofs.SteadyLemmas.{rows_steady, steady_after, steady_twice, shown_when_steady, none_due}
 use Rattle.fan_zone.proofs.FailsafeLaw.{ticked_failsafe}
 use Rattle.fan_zone.proofs.zones.Zones.tick.Goals as goal
 
@@ -134,6 +139,26 @@ invariant_of-self g c =
       c.self.invariant.4,
       c.self.invariant.5,
       c.self.invariant.6,
+      λ e. ap is_due (sym c.deref-10.ensures.value) ∙ (sym c.is_some_due-self-inside.ensures ∙ e),
+      λ good.
+          let slots = c.args.sensors.now.slots in
+          let now = c.args.now in
+          let thermal = c.step_thermals.new.bank in
+          let bad : has_bad_input_now slots now old.held ≡ false =
+          subst (λ (v : ZonesView). has_bad_input_now slots now v.held ≡ false) (sym c.self.view_is) (c.requires.good good) in
+          let shown : rows ≡ numbered (zone_row slots now old.zone_plans old.held thermal) 0 old.zone_rows =
+          cc (rows_is, c.show_zones.ensures.rows, c.deref-2.ensures.value, c.deref-3.ensures.value, c.deref_mut.ensures.value) in
+          let seated : AreSeated thermal old.held = subst (λ (h : List Held). AreSeated thermal h) c.deref.ensures.value c.step_thermals.ensures.seats in
+          let before : rows ≡ numbered (steady_row old.zone_plans old.held thermal) 0 rows = steady_twice old.zone_plans old.held thermal rows old.zone_rows
+          (shown ∙ rows_steady slots now old.zone_plans old.held thermal old.zone_rows bad) in
+          let after = steady_after slots now c.deref-5.result.now old.held thermal c.self.invariant.0.apart (λ k d lt. (seated k d lt).within)
+          old.zone_plans rows before in
+          let passed = pass (fan_sample slots now c.deref-5.result.now) old.held thermal in
+          record {
+            rows_are = subst (λ (b : List Seen). rows ≡ numbered (steady_row old.zone_plans held b) 0 rows) (sym fan_pass)
+                (subst (λ (h : List Held). rows ≡ numbered (steady_row old.zone_plans h passed) 0 rows) (sym ages) after);
+            small = subst AreSmallRows (sym rows_is) c.show_zones.ensures.small;
+          },
     )
 
 pub step_thermals-requires-clause-setpoints : goal.step_thermals-requires-clause-setpoints
@@ -144,3 +169,21 @@ step_fans-requires-clause-rows g c =
     let rows_is : (with_items c.self.inside.zone_rows c.show_zones.new.rows).items ≡ c.show_zones.new.rows =
     with_items_is c.self.inside.zone_rows c.show_zones.new.rows (c.show_zones.auto.rows ∙ c.deref_mut.ensures.len) in
     subst (λ (r : List ZoneRow). AreSmallRows r) (sym (c.deref-5.ensures.value ∙ rows_is)) c.show_zones.ensures.small
+
+pub show_zones-requires-clause-stay : goal.show_zones-requires-clause-stay
+show_zones-requires-clause-stay g c e =
+    let i = c.self.inside in
+    let slots = c.args.sensors.now.slots in
+    let now = c.args.now in
+    let old = view_of i.bank i.held.items i.zone_plans.items i.zone_rows.items i.fan_plans.items i.fan_rows.items in
+    let parts = and_parts (c.args.good && i.steady) (not i.due) e in
+    let more = and_parts c.args.good i.steady parts.0 in
+    let bad : has_bad_input_now slots now old.held ≡ false =
+    subst (λ (v : ZonesView). has_bad_input_now slots now v.held ≡ false) (sym c.self.view_is) (c.requires.good more.0) in
+    let none : old.bank ≡ c.step_thermals.new.bank = none_due slots now old.held old.bank (c.self.invariant.7 (not-true i.due parts.1))
+    ∙ (ap (λ (h : List Held). pass (thermal_sample slots now) h old.bank) (sym c.deref.ensures.value) ∙ sym c.step_thermals.ensures.state) in
+    subst (λ (rows : List ZoneRow). AreShown slots now c.deref-2.result.now c.deref-3.result.now c.step_thermals.new.bank rows) (sym c.deref_mut.ensures.value)
+    (subst (λ (plans : List ZonePlan). AreShown slots now plans c.deref-3.result.now c.step_thermals.new.bank old.zone_rows) (sym c.deref-2.ensures.value)
+    (subst (λ (held : List Held). AreShown slots now old.zone_plans held c.step_thermals.new.bank old.zone_rows) (sym c.deref-3.ensures.value)
+    (subst (λ (bank : List Seen). AreShown slots now old.zone_plans old.held bank old.zone_rows) none
+    (shown_when_steady slots now old (c.self.invariant.8 more.1) bad))))

@@ -2,7 +2,7 @@ use Rattle.std.proofs.Common.{arith, ◌<◌, length, subst, sym}
 use Rattle.fan_zone.specs.declared.rows.ZoneRow.{ZoneRow}
 use Rattle.fan_zone.specs.declared.held.Held.{Held}
 use Rattle.fan_zone.proofs.Shown.{shown_start, shown_more, shown_end}
-use Rattle.fan_zone.proofs.showing.show_zones.Goals as goal
+use Rattle.fan_zone.proofs.showing.show_all_zones.Goals as goal
 
 pub loop-one-init : goal.loop-one-init
 loop-one-init g c =
