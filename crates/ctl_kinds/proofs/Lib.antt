@@ -1,2 +1,3 @@
+pub mod SettledLemmas
 pub mod SmallLemmas
 pub mod WideLemmas

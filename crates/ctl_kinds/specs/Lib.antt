@@ -1,2 +1,3 @@
 pub mod Pid
+pub mod Settled
 pub mod Stepwise

@@ -7,6 +7,7 @@ ghost use Rattle.ctl_face.specs.Pid.{derivative, error_of, feed_forward, has_sle
 ghost use Rattle.ctl_face.specs.Pid.{pace, pid_step, proportional};
 ghost use Rattle.ctl_face.specs.Pid.{slewed, with_fall, with_rise};
 ghost use Rattle.ctl_face.specs.Ranges.{IsMilli, IsValidPid, IsValidSample, IsWithin};
+ghost use Rattle.ctl_kinds.specs.Settled.{IsSettled};
 
 use crate::small::small_step;
 use crate::wide::{Micro, Wide};
@@ -212,7 +213,7 @@ fn wide_step(setting: &PidSetting, old: CtlState, sample: Sample) -> CtlState
 
 // Makes one step. The state is written in place, which saves a copy of it a step.
 #[inline(always)]
-pub(crate) fn take_step(setting: &PidSetting, state: &mut CtlState, sample: Sample)
+fn take_step(setting: &PidSetting, state: &mut CtlState, sample: Sample)
     requires setting { IsValidPid setting.now }
     requires output { ForSome state.old.output IsMilli }
     requires sample { IsValidSample sample }
@@ -224,4 +225,30 @@ pub(crate) fn take_step(setting: &PidSetting, state: &mut CtlState, sample: Samp
         Some(next) => *state = next,
         None => *state = wide_step(setting, *state, sample),
     }
+}
+
+// Makes one step, unless the sample is one that leaves the state as it is, and keeps the sample if it does now. A controller whose
+// sample stays mostly settles, and then a step costs no more than to see that.
+#[inline(always)]
+pub(crate) fn settle(
+    setting: &PidSetting,
+    state: &mut CtlState,
+    settled: &mut Option<Sample>,
+    sample: Sample,
+)
+    requires setting { IsValidPid setting.now }
+    requires output { ForSome state.old.output IsMilli }
+    requires sample { IsValidSample sample }
+    requires settled { ForSome settled.old (IsSettled setting.now state.old) }
+    ensures state { state.new ≡ pid_step setting.now state.old sample }
+    ensures given { IsSome state.new.output }
+    ensures small { ForSome state.new.output IsMilli }
+    ensures settled { ForSome settled.new (IsSettled setting.now state.new) }
+{
+    if *settled == Some(sample) {
+        return;
+    }
+    let before = *state;
+    take_step(setting, state, sample);
+    *settled = if *state == before { Some(sample) } else { None };
 }

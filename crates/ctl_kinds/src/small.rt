@@ -94,6 +94,10 @@ fn derivative(setting: &PidSetting, before: Option<i64>, error: Milli) -> Option
     ensures value { IfSome result (λ part. part.0 ≡ derivative setting.now before error.0) }
     ensures small { IfSome result (λ part. IsWithin (10 ^ 13) part.0) }
 {
+    // Most settings have no such part.
+    if setting.d == 0 {
+        return Some(Milli(0));
+    }
     match before {
         None => Some(Milli(0)),
         Some(before) => {
