@@ -1,14 +1,22 @@
--- What is known of the inputs of controllers stays true at ticks.
-use Rattle.std.proofs.Common.{◌≡◌, ◌∙◌, ℕ, ◌≤◌, ◌||◌, Bool, true, false, List, [], ◌∷◌, map, nat_le, Option, ap, refl}
-use Rattle.std.proofs.lemmas.Bool.{false≢true, leb-true}
+-- What is known of the inputs of controllers stays true at ticks and at good readings.
+use Rattle.std.proofs.Common.{◌≡◌, ◌∙◌, ℕ, ◌+◌, ◌-◌, ◌==◌, ◌≤◌, ℤ, ◌||◌, ◌&&◌, Bool, true, false, not, nat_lt, nat_eq, min, List, [], ◌∷◌, map}
+use Rattle.std.proofs.Common.{if◌then◌else◌, Option, Some, None, option_map, option_and_then, slice_index_or, ap, refl, sym, subst, arith}
+use Rattle.std.proofs.Math.Nat.{min-le_left, min-le_right}
+use Rattle.std.proofs.lemmas.Bool.{false≢true, true≢false, leb-true, le-ltb, eqb-true, eq-eqb, or_from, or_parts}
+use Rattle.std.proofs.lemmas.Option.{same_Some}
+use Rattle.std.specs.List.{list_any}
+use Rattle.bmc_base.specs.Counts.{last_count}
+use Rattle.live_sensors.specs.Sensors.{ChangesSlot, LiveSensors, sensor_in, slot_of}
+use Rattle.sensor_core.specs.Updates.{good_after}
+use Rattle.fan_zone.proofs.Taken.{any_mapped}
 use Rattle.bmc_core.specs.declared.input_health.InputHealth.{InputHealth}
 use Rattle.bmc_core.specs.declared.input_health.InputHealth.TheVariants as known
-use Rattle.bmc_core.specs.Health.{IsTrueOf, is_good_at}
+use Rattle.bmc_core.specs.Health.{IsTrueOf, is_good_at, good_until, health_behind}
 use Rattle.fan_zone.specs.declared.held.Held.{Held}
-use Rattle.fan_zone.specs.Inputs.{has_bad_input}
+use Rattle.fan_zone.specs.Inputs.{has_bad_input, is_bad_input, is_bad_sensor, sensor_of}
 use Rattle.fan_zone.specs.Steady.{has_bad_input_now}
 use Rattle.fan_zone.specs.Ticks.{aged}
-use Rattle.sensor_core.specs.Sensors.{Sensor}
+use Rattle.sensor_core.specs.Sensors.{Sensor, is_bad}
 
 -- where it is known that none is bad, none is
 pub good_inputs : (slots : List (Option Sensor)) (held : List Held) (health : InputHealth) (now : ℕ) → IsTrueOf slots held health → is_good_at health now ≡ true
@@ -28,3 +36,83 @@ true_aged slots held known.Unknown is = tt
 true_aged slots held known.Unasked is = tt
 true_aged slots held known.Bad is = tt
 true_aged slots held (known.GoodUntil last) is = λ later le. bad_aged slots later held ∙ is later le
+
+-- ---- a good reading
+
+-- a sensor that was read is not stale as long as its timeout is
+young : (timeout tick later : ℕ) → later ≤ good_until timeout tick → (not (timeout == 0) && nat_lt timeout (later - tick)) ≡ false
+young timeout tick later le = of (timeout == 0) le
+  where
+    of : (never : Bool) → later ≤ (if never then last_count else min (tick + timeout) last_count) → (not never && nat_lt timeout (later - tick)) ≡ false
+    of true within = refl
+    of false within = le-ltb timeout (later - tick) (omega (arith, within, min-le_left (tick + timeout) last_count))
+
+read_good : (sensor : Sensor) (raw : ℤ) (tick later : ℕ) → later ≤ good_until sensor.setting.timeout tick → is_bad (good_after sensor raw tick) later ≡ false
+read_good sensor raw tick later le = young sensor.setting.timeout tick later le
+
+changed_good : (change : Sensor → Sensor) (later : ℕ) (was : Option Sensor) → ((sensor : Sensor) → was ≡ Some sensor → is_bad (change sensor) later ≡ false)
+    → is_bad_sensor later was ≡ false → is_bad_sensor later (option_map change was) ≡ false
+changed_good change later None good is = is
+changed_good change later (Some sensor) good is = good sensor refl
+
+-- where the sensor in a slot is not bad as it is changed, an input that was not bad is not
+input_stays : (old new : List (Option Sensor)) (slot : ℕ) (change : Sensor → Sensor) (later : ℕ) → ChangesSlot old new slot change
+    → ((sensor : Sensor) → slice_index_or old slot None ≡ Some sensor → is_bad (change sensor) later ≡ false)
+    → (input : Option ℕ) → is_bad_input old later input ≡ false → is_bad_input new later input ≡ false
+input_stays old new slot change later changes good None is = is
+input_stays old new slot change later changes good (Some other) is = of (nat_eq other slot) refl
+  where
+    of : (same : Bool) → nat_eq other slot ≡ same → is_bad_input new later (Some other) ≡ false
+    of true e =
+        let at : other ≡ slot = eqb-true other slot e in
+        let was : is_bad_sensor later (slice_index_or old slot None) ≡ false =
+        subst (λ (n : ℕ). is_bad_sensor later (slice_index_or old n None) ≡ false) at is in
+        subst (λ (n : ℕ). is_bad_sensor later (slice_index_or new n None) ≡ false) (sym at)
+        (ap (is_bad_sensor later) changes.changed ∙ changed_good change later (slice_index_or old slot None) good was)
+    of false e = ap (is_bad_sensor later) (changes.others other (λ same. true≢false (sym (eq-eqb other slot same) ∙ e))) ∙ is
+
+none_still : {X : Type 0} (test other : X → Bool) → ((x : X) → test x ≡ false → other x ≡ false) → (xs : List X) → list_any test xs ≡ false
+    → list_any other xs ≡ false
+none_still test other still [] none = refl
+none_still test other still (x ∷ xs) none =
+    let parts = or_parts (test x) (list_any test xs) none in
+    or_from (other x) (list_any other xs) (still x parts.0) (none_still test other still xs parts.1)
+
+inputs_stay : (old new : List (Option Sensor)) (later : ℕ)
+    → ((input : Option ℕ) → is_bad_input old later input ≡ false → is_bad_input new later input ≡ false)
+    → (inputs : List (Option ℕ)) → has_bad_input old later inputs ≡ false → has_bad_input new later inputs ≡ false
+inputs_stay old new later still inputs none = any_mapped (is_bad_sensor later) (sensor_of new) inputs
+    ∙ none_still (is_bad_input old later) (is_bad_input new later) still inputs
+    (sym (any_mapped (is_bad_sensor later) (sensor_of old) inputs) ∙ none)
+
+held_stay : (old new : List (Option Sensor)) (later : ℕ)
+    → ((input : Option ℕ) → is_bad_input old later input ≡ false → is_bad_input new later input ≡ false)
+    → (held : List Held) → has_bad_input_now old later held ≡ false → has_bad_input_now new later held ≡ false
+held_stay old new later still held none =
+    none_still (λ (one : Held). has_bad_input old later one.inputs) (λ (one : Held). has_bad_input new later one.inputs)
+    (λ one. inputs_stay old new later still one.inputs) held none
+
+-- a good reading of the sensor in a slot
+pub true_behind : (old new : List (Option Sensor)) (slot : ℕ) (raw : ℤ) (tick : ℕ) (sensor : Sensor) (held : List Held) (health : InputHealth) (was_bad : Bool)
+    → ChangesSlot old new slot (λ one. good_after one raw tick) → slice_index_or old slot None ≡ Some sensor → IsTrueOf old held health
+    → IsTrueOf new held (health_behind health was_bad sensor.setting.timeout tick)
+true_behind old new slot raw tick sensor held known.Unknown was_bad changes at is = tt
+true_behind old new slot raw tick sensor held known.Unasked was_bad changes at is = tt
+true_behind old new slot raw tick sensor held known.Bad true changes at is = tt
+true_behind old new slot raw tick sensor held known.Bad false changes at is = tt
+true_behind old new slot raw tick sensor held (known.GoodUntil last) was_bad changes at is = λ later le.
+    let until = good_until sensor.setting.timeout tick in
+    let first : later ≤ last = omega (arith, le, min-le_left last until) in
+    let second : later ≤ until = omega (arith, le, min-le_right last until) in
+    held_stay old new later
+    (input_stays old new slot (λ one. good_after one raw tick) later changes
+    (λ one has. subst (λ (it : Sensor). is_bad (good_after it raw tick) later ≡ false) (same_Some sensor one (sym at ∙ has))
+    (read_good sensor raw tick later second)))
+    held (is later first)
+
+-- the sensor of a name stands in the slot of the name
+pub sensor_at_slot : (sensors : LiveSensors) (name : List ℕ) (slot : ℕ) (sensor : Sensor) → slot_of sensors name ≡ Some slot
+    → sensor_in sensors name ≡ Some sensor
+    → slice_index_or sensors.slots slot None ≡ Some sensor
+sensor_at_slot sensors name slot sensor has is =
+    sym (ap (λ (its : Option ℕ). option_and_then (λ (n : ℕ). slice_index_or sensors.slots n None) its) has) ∙ is

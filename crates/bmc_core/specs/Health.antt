@@ -1,5 +1,6 @@
 -- What is known of the inputs of controllers between ticks.
-use Rattle.std.specs.Prelude.{ℕ, nat_le, Bool, false, List, Option}
+use Rattle.std.specs.Prelude.{ℕ, ◌+◌, ◌==◌, min, nat_le, Bool, false, if◌then◌else◌, List, Option}
+use Rattle.bmc_base.specs.Counts.{last_count}
 use Rattle.bmc_core.specs.declared.input_health.InputHealth.{InputHealth}
 use Rattle.bmc_core.specs.declared.input_health.InputHealth.TheVariants as known
 use Rattle.fan_zone.specs.declared.held.Held.{Held}
@@ -12,6 +13,17 @@ IsTrueOf slots held known.Unknown = Unit {0}
 IsTrueOf slots held known.Unasked = Unit {0}
 IsTrueOf slots held known.Bad = Unit {0}
 IsTrueOf slots held (known.GoodUntil last) = IsGoodUntil slots last held
+
+-- the last tick at which a sensor with this timeout is good that was read now; where it has none, the last one that is counted
+abbrev pub good_until : ℕ → ℕ → ℕ
+good_until timeout now = if timeout == 0 then last_count else min (now + timeout) last_count
+
+-- what is known behind a good reading now of a sensor with this timeout, which was bad before or not
+abbrev pub health_behind : InputHealth → Bool → ℕ → ℕ → InputHealth
+health_behind known.Unknown was_bad timeout now = known.Unknown
+health_behind known.Unasked was_bad timeout now = known.Unasked
+health_behind known.Bad was_bad timeout now = if was_bad then known.Unasked else known.Bad
+health_behind (known.GoodUntil last) was_bad timeout now = known.GoodUntil (min last (good_until timeout now))
 
 -- whether it is known that none is bad at a tick
 abbrev pub is_good_at : InputHealth → ℕ → Bool

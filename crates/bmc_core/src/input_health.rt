@@ -1,18 +1,18 @@
 ghost use Rattle.std.specs.Prelude.{◌≡◌};
-ghost use Rattle.bmc_core.specs.Health.{is_good_at, IsTrueOf};
+ghost use Rattle.bmc_core.specs.Health.{good_until, health_behind, is_good_at, IsTrueOf};
 
 use ctl_face::Controller;
 use fan_zone::Zones;
 use sensor_core::SensorTable;
 
-/// What is known of the inputs of all controllers, as long as nothing happens but ticks.
+/// What is known of the inputs of all controllers, as long as nothing happens but good readings and ticks.
 #[derive(Clone, Copy)]
 pub(crate) enum InputHealth {
     /// Something else happened since the last tick.
     Unknown,
     /// Nothing else happened since the last tick, and they were not looked at.
     Unasked,
-    /// One of them is bad, and stays so.
+    /// One of them is bad, and stays so until it is read.
     Bad,
     /// None of them is bad up to this tick.
     GoodUntil(u64),
@@ -28,10 +28,35 @@ impl InputHealth {
             _ => false,
         }
     }
+
+    /// What is known behind a good reading at tick `now` of a sensor with this timeout, which was bad before or not. A good reading
+    /// makes no input bad, and its own sensor is good from now on for as long as the timeout is.
+    pub(crate) fn after_reading(self, was_bad: bool, timeout: u32, now: u64) -> InputHealth
+        ensures { result ≡ health_behind self was_bad timeout now }
+    {
+        match self {
+            InputHealth::GoodUntil(last) => {
+                InputHealth::GoodUntil(last.min(good_until(timeout, now)))
+            }
+            InputHealth::Bad if was_bad => InputHealth::Unasked,
+            other => other,
+        }
+    }
 }
 
-/// What is known after a tick, at which it was known or not that none of them is bad. They are looked at behind two ticks in a row:
-/// where a reading comes before each tick, it would be in vain.
+// The last tick at which a sensor with this timeout is good, where its last reading is one of now.
+fn good_until(timeout: u32, now: u64) -> u64
+    ensures { result ≡ good_until timeout now }
+{
+    if timeout == 0 {
+        u64::MAX
+    } else {
+        now.saturating_add(u64::from(timeout))
+    }
+}
+
+/// What is known after a tick, at which it was known or not that none of them is bad. They are looked at behind two ticks in a row
+/// with no more than good readings before the second one: where a loss comes before each tick, it would be in vain.
 pub(crate) fn health_after<C: Controller>(
     health: InputHealth,
     good: bool,
@@ -47,10 +72,10 @@ pub(crate) fn health_after<C: Controller>(
     }
     match health {
         InputHealth::Unknown => InputHealth::Unasked,
-        InputHealth::Unasked => match zones.good_until(sensors, now) {
+        InputHealth::Bad => InputHealth::Bad,
+        InputHealth::Unasked | InputHealth::GoodUntil(_) => match zones.good_until(sensors, now) {
             None => InputHealth::Bad,
             Some(last) => InputHealth::GoodUntil(last),
         },
-        InputHealth::Bad | InputHealth::GoodUntil(_) => InputHealth::Bad,
     }
 }

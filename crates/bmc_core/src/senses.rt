@@ -1,13 +1,16 @@
-ghost use Rattle.std.specs.Prelude.{◌≡◌, ◌≤◌, [], Err, IfOk, length};
+ghost use Rattle.std.specs.Prelude.{◌≡◌, ◌≤◌, List, [], Err, IfOk, length};
 ghost use Rattle.bmc_base.specs.Counts.{raised};
 ghost use Rattle.bmc_machine.specs.Histories.{Configure, Plug, Unplug, Read, Lose};
 ghost use Rattle.bmc_core.specs.declared.fault.CoreFault.{CoreFault as Fault};
 ghost use Rattle.bmc_core.specs.Acts.{answer_of, Notes, IsCounted};
+ghost use Rattle.bmc_core.specs.Health.{IsTrueOf};
 ghost use Rattle.bmc_core.specs.Senses.{KeepsSlots, SensesStand, quiet_senses};
 ghost use Rattle.bmc_watch.specs.Panels.{panel_changes};
 ghost use Rattle.fan_zone.specs.Sound.{most_zones, most_fans};
+ghost use Rattle.fan_zone.specs.declared.held.Held.{Held};
 
 use crate::CoreFault;
+use crate::input_health::InputHealth;
 use bmc_base::{Ledger, Name, OutOfMemory, Place, Steps};
 use bmc_report::{Change, Refusal};
 use bmc_watch::{Glimpse, Panel, Watch};
@@ -154,19 +157,29 @@ impl<L: Ledger> Senses<L> {
         answer(self.watch.unplug(alloc, place, &mut self.sensors, steps))
     }
 
-    /// Takes a good reading of a sensor.
+    /// Takes a good reading of a sensor, and notes in `health` what is known of inputs then.
     #[inline(always)]
-    pub(crate) fn read(&mut self, name: &Name, raw: i64) -> Result<(), CoreFault>
+    pub(crate) fn read(
+        &mut self,
+        name: &Name,
+        raw: i64,
+        health: &mut InputHealth,
+    ) -> Result<(), CoreFault>
         ensures notes { Notes self.old (Read name.now raw) result self.new }
         ensures names { self.new.sensors.names ≡ self.old.sensors.names }
+        ensures health { (held : List Held) → IsTrueOf self.old.sensors.slots held health.old → IsTrueOf self.new.sensors.slots held health.new }
     {
         let Some(slot) = self.sensors.slot(name) else {
             return self.refuse(Refusal::UnknownSensor);
         };
         let tick = self.ticks;
-        let before = Glimpse::of(self.sensors.at(slot));
+        let sensor = self.sensors.at(slot);
+        let before = Glimpse::of(sensor);
+        let was_bad = sensor.is_bad(tick);
+        let timeout = sensor.setting().timeout;
         match self.sensors.good(slot, raw, tick) {
             Ok(()) => {
+                *health = health.after_reading(was_bad, timeout, tick);
                 self.watch
                     .tell_reading(name, &before, self.sensors.at(slot));
                 Ok(())

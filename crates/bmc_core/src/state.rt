@@ -138,8 +138,7 @@ impl<L: Ledger, C: Controller> State<L, C> {
     fn read(&mut self, name: &Name, raw: i64) -> Result<(), CoreFault>
         ensures { StateApplies self.old (Read name.now raw) result self.new }
     {
-        self.health = InputHealth::Unknown;
-        self.senses.read(name, raw)
+        self.senses.read(name, raw, &mut self.health)
     }
 
     // Takes the loss of a reading of a sensor.

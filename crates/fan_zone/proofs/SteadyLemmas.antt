@@ -1,12 +1,12 @@
 -- Ticks at which no input is bad, and rows of zones that stay as they are.
-use Rattle.std.proofs.Common.{◌≡◌, ℕ, zero, suc, ◌+◌, ◌<◌, ◌≤◌, ℤ, Bool, true, false, not, ◌&&◌, ◌||◌, if◌then◌else◌, nat_eq}
+use Rattle.std.proofs.Common.{◌≡◌, ℕ, ◌+◌, ◌<◌, ◌≤◌, ℤ, Bool, true, false, not, ◌&&◌, ◌||◌, if◌then◌else◌, nat_eq}
 use Rattle.std.proofs.Common.{List, [], ◌∷◌, length, map, take, get_or, Option, Some, None, min, slice_get}
-use Rattle.std.proofs.Common.{refl, ap, sym, ◌∙◌, subst, arith}
+use Rattle.std.proofs.Common.{refl, ap, sym, ◌∙◌, arith}
 use Rattle.std.proofs.Math.Bool.{and-false}
 use Rattle.std.proofs.Math.Nat.{min-le_left, min-le_right}
-use Rattle.std.proofs.lemmas.Bool.{not-true, or_from, or_parts}
+use Rattle.std.proofs.lemmas.Bool.{false≢true, false_from_ne_true, not-true, or_from, or_parts}
 use Rattle.std.proofs.lemmas.List.{take_all}
-use Rattle.std.proofs.lemmas.List.Folds.{list_any_more}
+use Rattle.std.proofs.lemmas.List.Folds.{list_any_at, list_any_more}
 use Rattle.std.proofs.lemmas.Option.{none-some, same_Some, slice_get-get_or}
 use Rattle.std.specs.Int.{int_max}
 use Rattle.std.specs.List.{All, fold, list_any}
@@ -22,8 +22,8 @@ use Rattle.fan_zone.specs.declared.rows.ZoneRow.{ZoneRow}
 use Rattle.fan_zone.specs.Inputs.{has_bad_input, is_bad_input, is_bad_sensor, sensor_of, input_of, good_inputs}
 use Rattle.fan_zone.specs.IsTicks.{stepped_by}
 use Rattle.fan_zone.specs.Passes.{fan_sample, fan_sample_at, milli, pass, shown_setpoint, step_box, thermal_sample, thermal_sample_at, thermal_setpoint}
-use Rattle.fan_zone.specs.Rows.{is_in_failsafe, min_thermal, numbered, output_of, setpoint_of, thermal_output, thermal_outputs, with_output, zone_row}
-use Rattle.fan_zone.specs.Sound.{AreSmallRows, Differ, number_of}
+use Rattle.fan_zone.specs.Rows.{is_in_failsafe, min_thermal, numbered, setpoint_of, thermal_output, thermal_outputs, with_output, zone_row}
+use Rattle.fan_zone.specs.Sound.{Differ, number_of}
 use Rattle.fan_zone.specs.Steady.{AreShown, earlier, IsGoodFor, IsSteady, has_bad_input_now, is_due, steady_row}
 use Rattle.fan_zone.specs.Ticks.{ZonesView, aged}
 use Rattle.fan_zone.proofs.Numbered.{all_tail, numbered_same, numbered_twice}
@@ -105,6 +105,20 @@ pub inputs_end : (slots : List (Option Sensor)) (now : ℕ) (inputs : List (Opti
 inputs_end slots now inputs until n w le = good_alike _ _ now until
     (λ tick. ap (list_any (is_bad_input slots tick)) (take_all n inputs le) ∙ sym (any_mapped (is_bad_sensor tick) (sensor_of slots) inputs))
     w.good
+
+-- what holds of none of some things holds of no one of them
+none_at : {X : Type 0} (test : X → Bool) (xs : List X) (n : ℕ) (x : X) → list_any test xs ≡ false → n < length xs → x ≡ get_or xs n x → test x ≡ false
+none_at test xs n x none lt at = false_from_ne_true (test x)
+    (λ is. false≢true (sym none ∙ list_any_at test xs n x lt (ap test (sym at) ∙ is)))
+
+pub good_input_at : (slots : List (Option Sensor)) (now : ℕ) (inputs : List (Option ℕ)) (n : ℕ) (input : Option ℕ)
+    → has_bad_input slots now inputs ≡ false → n < length inputs → input ≡ get_or inputs n input → is_bad_input slots now input ≡ false
+good_input_at slots now inputs n input none lt at =
+    none_at (is_bad_input slots now) inputs n input (sym (any_mapped (is_bad_sensor now) (sensor_of slots) inputs) ∙ none) lt at
+
+pub good_inputs_at : (slots : List (Option Sensor)) (now : ℕ) (held : List Held) (n : ℕ) (one : Held)
+    → has_bad_input_now slots now held ≡ false → n < length held → one ≡ get_or held n one → has_bad_input slots now one.inputs ≡ false
+good_inputs_at slots now held n one none lt at = none_at (λ (x : Held). has_bad_input slots now x.inputs) held n one none lt at
 
 -- what the walk over controllers keeps
 pub record HeldGood (slots : List (Option Sensor)) (now : ℕ) (held : List Held) (until : Option ℕ) (n : ℕ) : Type 0 where

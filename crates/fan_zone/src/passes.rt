@@ -1,11 +1,12 @@
-ghost use Rattle.std.specs.Prelude.{◌≡◌, ◌<◌, false, IsSome, None, Some, length, slice_get};
+ghost use Rattle.std.specs.Prelude.{◌≡◌, ◌<◌, true, false, IsSome, None, Some, length, slice_get};
 ghost use Rattle.std.specs.List.{All};
 ghost use Rattle.std.specs.Option.{ForSome};
 ghost use Rattle.ctl_face.specs.Ranges.{IsMilli, IsValidSample};
 ghost use Rattle.fan_zone.specs.Boxes.{box_at};
 ghost use Rattle.fan_zone.specs.Passes.{fan_sample, pass, sample_of, shown_setpoint, step_box, thermal_sample, thermal_setpoint};
 ghost use Rattle.fan_zone.specs.Sound.{AreInZones, AreSeated, AreSmall, AreSmallRows, HasSmallSetpoint, IsSeated};
-ghost use Rattle.fan_zone.specs.Steady.{is_due};
+ghost use Rattle.fan_zone.specs.Inputs.{has_bad_input};
+ghost use Rattle.fan_zone.specs.Steady.{has_bad_input_now, is_due};
 
 use crate::bank::Bank;
 use crate::held::{Held, Role};
@@ -50,8 +51,9 @@ fn sample_of(input: i64, setpoint: Milli) -> Sample
 }
 
 // What a thermal controller steps on at this tick, if it takes part.
-fn thermal_sample(sensors: &SensorTable, now: u64, held: &Held) -> Option<Sample>
-    requires { HasSmallSetpoint held.now }
+fn thermal_sample(sensors: &SensorTable, now: u64, held: &Held, good: bool) -> Option<Sample>
+    requires small { HasSmallSetpoint held.now }
+    requires good { good ≡ true → has_bad_input sensors.now.slots now held.now.inputs ≡ false }
     ensures value { result ≡ thermal_sample sensors.now.slots now held.now }
     ensures valid { ForSome result IsValidSample }
 {
@@ -59,7 +61,7 @@ fn thermal_sample(sensors: &SensorTable, now: u64, held: &Held) -> Option<Sample
     if held.age != 0 {
         return None;
     }
-    let input = input(sensors, now, held.role, held.inputs.as_slice())?;
+    let input = input(sensors, now, held.role, held.inputs.as_slice(), good)?;
     Some(sample_of(input, setpoint))
 }
 
@@ -76,15 +78,22 @@ fn shown_setpoint(rows: &[ZoneRow], zone: usize) -> Milli
 }
 
 // What a fan controller steps on at this tick.
-fn fan_sample(sensors: &SensorTable, now: u64, rows: &[ZoneRow], held: &Held) -> Option<Sample>
-    requires { AreSmallRows rows.now }
+fn fan_sample(
+    sensors: &SensorTable,
+    now: u64,
+    rows: &[ZoneRow],
+    held: &Held,
+    good: bool,
+) -> Option<Sample>
+    requires rows { AreSmallRows rows.now }
+    requires good { good ≡ true → has_bad_input sensors.now.slots now held.now.inputs ≡ false }
     ensures value { result ≡ fan_sample sensors.now.slots now rows.now held.now }
     ensures valid { ForSome result IsValidSample }
 {
     if thermal_setpoint(held.role).is_some() {
         return None;
     }
-    let input = input(sensors, now, held.role, held.inputs.as_slice());
+    let input = input(sensors, now, held.role, held.inputs.as_slice(), good);
     let setpoint = shown_setpoint(rows, held.zone);
     Some(sample_of(input.unwrap_or(0), setpoint))
 }
@@ -110,21 +119,24 @@ fn step_all_thermals<C: Controller>(
     held: &[Held],
     sensors: &SensorTable,
     now: u64,
+    good: bool,
 )
     requires seats { AreSeated bank.old held.now }
     requires small { AreSmall bank.old }
     requires setpoints { All HasSmallSetpoint held.now }
+    requires good { good ≡ true → has_bad_input_now sensors.now.slots now held.now ≡ false }
     ensures state { bank.new ≡ pass (thermal_sample sensors.now.slots now) held.now bank.old }
     ensures seats { AreSeated bank.new held.now }
     ensures small { AreSmall bank.new }
 {
     for one in held {
-        let sample = thermal_sample(sensors, now, one);
+        let sample = thermal_sample(sensors, now, one, good);
         step_box(bank, one.number, sample);
     }
 }
 
-/// Steps the thermal controllers that take part. Where no controller is due there are none.
+/// Steps the thermal controllers that take part. Where no controller is due there are none. `good` may be true only where no input
+/// is bad.
 #[tactic(auto, using(crate::proofs::SteadyLemmas::none_due))]
 pub(crate) fn step_thermals<C: Controller>(
     bank: &mut Bank<C>,
@@ -132,37 +144,41 @@ pub(crate) fn step_thermals<C: Controller>(
     sensors: &SensorTable,
     now: u64,
     due: bool,
+    good: bool,
 )
     requires seats { AreSeated bank.old held.now }
     requires small { AreSmall bank.old }
     requires setpoints { All HasSmallSetpoint held.now }
     requires due { due ≡ false → is_due held.now ≡ false }
+    requires good { good ≡ true → has_bad_input_now sensors.now.slots now held.now ≡ false }
     ensures state { bank.new ≡ pass (thermal_sample sensors.now.slots now) held.now bank.old }
     ensures seats { AreSeated bank.new held.now }
     ensures small { AreSmall bank.new }
 {
     if due {
-        step_all_thermals(bank, held, sensors, now);
+        step_all_thermals(bank, held, sensors, now, good);
     }
 }
 
-/// Steps the fan controllers.
+/// Steps the fan controllers. `good` may be true only where no input is bad.
 pub(crate) fn step_fans<C: Controller>(
     bank: &mut Bank<C>,
     held: &[Held],
     rows: &[ZoneRow],
     sensors: &SensorTable,
     now: u64,
+    good: bool,
 )
     requires seats { AreSeated bank.old held.now }
     requires small { AreSmall bank.old }
     requires rows { AreSmallRows rows.now }
+    requires good { good ≡ true → has_bad_input_now sensors.now.slots now held.now ≡ false }
     ensures state { bank.new ≡ pass (fan_sample sensors.now.slots now rows.now) held.now bank.old }
     ensures seats { AreSeated bank.new held.now }
     ensures small { AreSmall bank.new }
 {
     for one in held {
-        let sample = fan_sample(sensors, now, rows, one);
+        let sample = fan_sample(sensors, now, rows, one, good);
         step_box(bank, one.number, sample);
     }
 }

@@ -1,4 +1,4 @@
-ghost use Rattle.std.specs.Prelude.{◌≡◌, option_copied};
+ghost use Rattle.std.specs.Prelude.{◌≡◌, true, false, option_copied};
 ghost use Rattle.fan_zone.specs.Inputs.{good_input, good_inputs, has_bad_input, input_of, is_bad_input, sensor_of};
 ghost use Rattle.fan_zone.specs.Best.{better, better_with};
 ghost use Rattle.fan_zone.specs.Steady.{earlier, has_bad_input_now, IsGoodFor};
@@ -28,17 +28,18 @@ fn is_bad_input(sensors: &SensorTable, now: u64, input: Option<usize>) -> bool
     }
 }
 
-// The value of an input that is not bad.
-fn good_input(sensors: &SensorTable, now: u64, input: Option<usize>) -> Option<Milli>
+// The value of an input that is not bad. Where it is known to be good, that is not asked again.
+fn good_input(sensors: &SensorTable, now: u64, input: Option<usize>, good: bool) -> Option<Milli>
+    requires { good ≡ true → is_bad_input sensors.now.slots now input ≡ false }
     ensures { result ≡ good_input sensors.now.slots now input }
 {
     match sensor_of(sensors, input) {
         None => None,
         Some(sensor) => {
-            if sensor.is_bad(now) {
-                None
-            } else {
+            if good || !sensor.is_bad(now) {
                 sensor.value()
+            } else {
+                None
             }
         }
     }
@@ -96,18 +97,20 @@ fn better_with(role: Role, best: Option<i64>, value: Option<Milli>) -> Option<i6
     }
 }
 
-/// The input of a step, in thousandths.
+/// The input of a step, in thousandths. `good` may be true only where none of the inputs is bad.
 pub(crate) fn input(
     sensors: &SensorTable,
     now: u64,
     role: Role,
     inputs: &[Option<usize>],
+    good: bool,
 ) -> Option<i64>
+    requires { good ≡ true → has_bad_input sensors.now.slots now inputs.now ≡ false }
     ensures { result ≡ input_of role (good_inputs sensors.now.slots now inputs.now) }
 {
     let mut best = None;
     for input in inputs {
-        best = better_with(role, best, good_input(sensors, now, *input));
+        best = better_with(role, best, good_input(sensors, now, *input, good));
     }
     best
 }

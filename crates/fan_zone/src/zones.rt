@@ -154,8 +154,8 @@ impl<C: Controller> Zones<C> {
     /// each fan controller steps by the setpoint of its zone; and then each fan shows its duty. In failsafe a fan gets the
     /// zone's FailSafePercent at the least, and in strict mode exactly that. Takes no memory.
     ///
-    /// `good` may be true only where no input is bad at this tick. Then zones whose thermal controllers do not step show what they
-    /// showed, and their inputs are not looked at again.
+    /// `good` may be true only where no input is bad at this tick. Then it is not asked of each input again, and at a tick at which no
+    /// controller is due zones are left as they are.
     pub fn tick(&mut self, sensors: &SensorTable, now: u64, strict: bool, good: bool)
         requires good { good ≡ true → has_bad_input_now sensors.now.slots now self.old.held ≡ false }
         ensures ticked { self.new ≡ ticked sensors.now.slots now strict self.old }
@@ -163,7 +163,7 @@ impl<C: Controller> Zones<C> {
         ensures steps { StepsOwnBoxes sensors.now.slots now self.old self.new }
     {
         let stay = good & self.steady & !self.due;
-        step_thermals(&mut self.bank, &self.held, sensors, now, self.due);
+        step_thermals(&mut self.bank, &self.held, sensors, now, self.due, good);
         show_zones(
             &mut self.zone_rows,
             &self.zone_plans,
@@ -173,7 +173,14 @@ impl<C: Controller> Zones<C> {
             now,
             stay,
         );
-        step_fans(&mut self.bank, &self.held, &self.zone_rows, sensors, now);
+        step_fans(
+            &mut self.bank,
+            &self.held,
+            &self.zone_rows,
+            sensors,
+            now,
+            good,
+        );
         show_fans(
             &mut self.fan_rows,
             &self.fan_plans,

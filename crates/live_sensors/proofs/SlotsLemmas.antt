@@ -74,7 +74,12 @@ pub changes : (now old new : LiveSensors) (slot : ℕ) (change : Sensor → Sens
     → new.names ≡ old.names → new.room ≡ old.room → at new.slots slot ≡ option_map change (at old.slots slot)
     → ((other : ℕ) → other ≢ slot → at new.slots other ≡ at old.slots other) → Changes now new slot change
 changes now old new slot change is tied names room changed others =
-    subst (λ (before : LiveSensors). Changes before new slot change) is (record { names = names; room = room; sensors = sensors })
+    subst (λ (before : LiveSensors). Changes before new slot change) is (record {
+      names = names;
+      room = room;
+      slots = record { changed = changed; others = others };
+      sensors = sensors;
+    })
   where
     sensors : (name : List ℕ) → slot_of old name ≡ Some slot → (other : List ℕ)
         → sensor_in new other ≡ cond (bytes_eq name other) (option_map change (sensor_in old other)) (sensor_in old other)

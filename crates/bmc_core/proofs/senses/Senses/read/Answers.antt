@@ -1,8 +1,13 @@
 -- A name without a sensor is refused, and so is a raw number out of its range; else the sensor takes the reading.
-use Rattle.std.proofs.Common.{rules, ◌≡◌, ◌∙◌, ℤ, refl, sym, ap, subst, w64, to_z, of_z}
+use Rattle.std.proofs.Common.{rules, ◌≡◌, ◌∙◌, ℤ, List, Option, refl, sym, ap, subst, w64, to_z, of_z}
 use Rattle.live_sensors.specs.Sensors.{LiveSensors}
 use Rattle.bmc_machine.specs.Histories.{Read}
+use Rattle.sensor_core.specs.Sensors.{Sensor}
+use Rattle.sensor_core.specs.declared.setting.SensorSetting.{SensorSetting}
+use Rattle.bmc_core.specs.declared.input_health.InputHealth.{InputHealth}
 use Rattle.bmc_core.specs.Acts.{Notes}
+use Rattle.bmc_core.specs.Health.{IsTrueOf, health_behind}
+use Rattle.bmc_core.proofs.HealthLemmas.{sensor_at_slot, true_behind}
 use Rattle.bmc_core.specs.Senses.{SensesView, quiet_senses}
 use Rattle.bmc_core.proofs.NotesLemmas.{read_unknown, read_outside, read_told, slot_stays}
 use Rattle.bmc_core.proofs.senses.Senses.read.Goals as goal
@@ -22,10 +27,10 @@ returns-in-Ok-clause-notes g c =
     let same : to_z w64 (of_z w64 c.args.raw) ≡ c.args.raw = search rules in
     subst (λ (raw : ℤ). Notes c.args.self.now (Read c.args.name.now raw) _ new) same
     (subst (λ (senses : SensesView). Notes senses (Read c.args.name.now (to_z w64 (of_z w64 c.args.raw))) _ new) c.self.view_is
-    (read_told old new c.args.name.now c.in-Some.slot c.slot.result c.at.result.now c.at-in-Ok.result.now c.good.new.self c.slot.ensures.sensor c.in-Some.is
-    c.slot.ensures.slot (c.at.ensures c.args.name.now has)
-    (c.at-in-Ok.ensures c.args.name.now (slot_stays c.self.inside.sensors c.good.new.self c.args.name.now c.in-Some.slot c.in-Ok.ensures.changes.names has))
-    (c.tell_reading.ensures c.at.result.now c.of-before.ensures) refl refl _ c.self.inside.ticks (c.in-Ok.ensures.range.0 refl) refl c.in-Ok.ensures.changes
+    (read_told old new c.args.name.now c.in-Some.slot c.slot.result c.at-sensor.result.now c.at.result.now c.good.new.self c.slot.ensures.sensor c.in-Some.is
+    c.slot.ensures.slot (c.at-sensor.ensures c.args.name.now has)
+    (c.at.ensures c.args.name.now (slot_stays c.self.inside.sensors c.good.new.self c.args.name.now c.in-Some.slot c.in-Ok.ensures.changes.names has))
+    (c.tell_reading.ensures c.at-sensor.result.now c.of-before.ensures) refl refl _ c.self.inside.ticks (c.in-Ok.ensures.range.0 refl) refl c.in-Ok.ensures.changes
     c.in-Ok.ensures.takes _ refl))
 
 pub returns-in-Err-clause-notes : goal.returns-in-Err-clause-notes
@@ -39,3 +44,27 @@ returns-in-Err-clause-notes g c =
     (c.refuse-in-Err.ensures.left
     ∙ ap (λ (sensors : LiveSensors). quiet_senses (record { watch = c.self.inside.watch; sensors = sensors; ticks = c.self.inside.ticks }))
     c.in-Err.ensures.same)))
+
+pub returns-in-Ok-clause-health : goal.returns-in-Ok-clause-health
+returns-in-Ok-clause-health g c = λ held is.
+    let old = c.self.inside.sensors in
+    let new = c.good.new.self in
+    let name = c.args.name.now in
+    let slot = c.in-Some.slot in
+    let sensor : Sensor = c.at-sensor.result.now in
+    let health = c.args.health.now in
+    let was_bad = c.is_bad-was_bad.result in
+    let has = sym c.slot.ensures.slot ∙ c.in-Some.is in
+    let here = sensor_at_slot old name slot sensor has (c.at-sensor.ensures name has) in
+    let was : IsTrueOf old.slots held health = subst (λ (view : SensesView). IsTrueOf view.sensors.slots held health) (sym c.self.view_is) is in
+    let known = true_behind old.slots new.slots slot _ c.self.inside.ticks sensor held health was_bad c.in-Ok.ensures.changes.slots here was in
+    subst (λ (it : InputHealth). IsTrueOf new.slots held it) (sym c.after_reading.ensures)
+    (subst (λ (setting : SensorSetting). IsTrueOf new.slots held (health_behind health was_bad setting.timeout c.self.inside.ticks))
+    (sym c.setting.ensures.value) known)
+
+pub returns-in-Err-clause-health : goal.returns-in-Err-clause-health
+returns-in-Err-clause-health g c = λ held is.
+    let slots : c.refuse-in-Err.new.self.sensors.slots ≡ c.args.self.now.sensors.slots =
+    ap (λ (view : SensesView). view.sensors.slots) c.refuse-in-Err.ensures.left
+    ∙ (ap (λ (sensors : LiveSensors). sensors.slots) c.in-Err.ensures.same ∙ ap (λ (view : SensesView). view.sensors.slots) c.self.view_is) in
+    subst (λ (sensors : List (Option Sensor)). IsTrueOf sensors held c.args.health.now) (sym slots) is

@@ -14,7 +14,7 @@ invariant_of-self g c =
           (sensed old new (Read c.args.name.now (to_z w64 (of_z w64 c.args.raw))) c.read.result refl refl refl c.read.ensures.notes c.read.ensures.names
           refl refl)
           c.self.invariant.0.enough,
-      tt,
+      c.read.ensures.health c.self.inside.zones.held c.self.invariant.1,
     )
 
 pub returns : goal.returns

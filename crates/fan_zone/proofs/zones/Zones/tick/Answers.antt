@@ -164,11 +164,25 @@ invariant_of-self g c =
 pub step_thermals-requires-clause-setpoints : goal.step_thermals-requires-clause-setpoints
 step_thermals-requires-clause-setpoints g c = subst (λ (h : List Held). All HasSmallSetpoint h) (sym c.deref.ensures.value) c.self.invariant.0.setpoints
 
+pub step_thermals-requires-clause-good : goal.step_thermals-requires-clause-good
+step_thermals-requires-clause-good g c = λ good.
+    let slots = c.args.sensors.now.slots in
+    let now = c.args.now in
+    subst (λ (held : List Held). has_bad_input_now slots now held ≡ false) (sym c.deref.ensures.value)
+    (subst (λ (view : ZonesView). has_bad_input_now slots now view.held ≡ false) (sym c.self.view_is) (c.requires.good good))
+
 pub step_fans-requires-clause-rows : goal.step_fans-requires-clause-rows
 step_fans-requires-clause-rows g c =
     let rows_is : (with_items c.self.inside.zone_rows c.show_zones.new.rows).items ≡ c.show_zones.new.rows =
     with_items_is c.self.inside.zone_rows c.show_zones.new.rows (c.show_zones.auto.rows ∙ c.deref_mut.ensures.len) in
     subst (λ (r : List ZoneRow). AreSmallRows r) (sym (c.deref-5.ensures.value ∙ rows_is)) c.show_zones.ensures.small
+
+pub step_fans-requires-clause-good : goal.step_fans-requires-clause-good
+step_fans-requires-clause-good g c = λ good.
+    let slots = c.args.sensors.now.slots in
+    let now = c.args.now in
+    subst (λ (held : List Held). has_bad_input_now slots now held ≡ false) (sym c.deref-4.ensures.value)
+    (subst (λ (view : ZonesView). has_bad_input_now slots now view.held ≡ false) (sym c.self.view_is) (c.requires.good good))
 
 pub show_zones-requires-clause-stay : goal.show_zones-requires-clause-stay
 show_zones-requires-clause-stay g c e =
