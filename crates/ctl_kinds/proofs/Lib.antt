@@ -1,3 +1,3 @@
-pub mod SettledLemmas
+pub mod SteadyLemmas
 pub mod SmallLemmas
 pub mod WideLemmas

@@ -1,3 +1,3 @@
 pub mod Pid
-pub mod Settled
+pub mod Steady
 pub mod Stepwise

@@ -5,7 +5,7 @@ use Rattle.ctl_face.specs.Ranges.{IsMilli, IsValidPid}
 use Rattle.ctl_face.specs.Seen.{Seen}
 use Rattle.ctl_face.specs.declared.kind.Kind.TheVariants.{Pid}
 use Rattle.ctl_face.specs.declared.setting.Setting.TheVariants.{Pid as PidOf}
-use Rattle.ctl_kinds.specs.Settled.{IsSettled}
+use Rattle.ctl_kinds.specs.Steady.{IsSteady}
 use Rattle.ctl_kinds.specs.declared.pid.PidBox.TheInside.{Inside}
 
 abbrev pub pid_seen : Inside → Seen
@@ -15,4 +15,4 @@ pid_seen inside = record { kind = Pid; setting = option_map PidOf inside.setting
 pub record IsSoundPid (inside : Inside) : Type 0 where
   pub valid : ForSome inside.setting IsValidPid
   pub small : ForSome inside.state.output IsMilli
-  pub settled : ForSome inside.setting (λ setting. ForSome inside.settled (IsSettled setting inside.state))
+  pub steady : ForSome inside.setting (λ setting. ForSome inside.steady (IsSteady setting inside.state))

@@ -2,7 +2,7 @@ ghost use Rattle.std.specs.Prelude.{◌≡◌};
 ghost use Rattle.ctl_face.specs.Seen.{unloaded};
 
 use crate::blank::BLANK;
-use crate::pid_parts::settle;
+use crate::pid_parts::step_unless_steady;
 use bmc_base::Milli;
 use ctl_face::{Controller, CtlState, Kind, PidSetting, Sample, Setting};
 use std::marker::Model;
@@ -12,8 +12,8 @@ use std::marker::Model;
 pub struct PidBox {
     setting: Option<PidSetting>,
     state: CtlState,
-    // A sample that leaves the state as it is, if one is known: that of the last step, where the controller has settled.
-    settled: Option<Sample>,
+    // A sample that leaves the state as it is, if one is known: that of the last step, where the controller is steady.
+    steady: Option<Sample>,
 }
 
 impl Model for PidBox {
@@ -35,7 +35,7 @@ impl PidBox {
         PidBox {
             setting: None,
             state: BLANK,
-            settled: None,
+            steady: None,
         }
     }
 }
@@ -54,13 +54,13 @@ impl Controller for PidBox {
             Setting::Stepwise(_) => unreachable!(),
         }
         self.state = BLANK;
-        self.settled = None;
+        self.steady = None;
     }
 
     fn step(&mut self, sample: Sample) -> Milli {
         match &self.setting {
             Some(setting) => {
-                settle(setting, &mut self.state, &mut self.settled, sample);
+                step_unless_steady(setting, &mut self.state, &mut self.steady, sample);
                 Milli(self.state.output.unwrap())
             }
             None => unreachable!(),
@@ -70,7 +70,7 @@ impl Controller for PidBox {
     fn clear(&mut self) {
         self.setting = None;
         self.state = BLANK;
-        self.settled = None;
+        self.steady = None;
     }
 
     fn state(&self) -> CtlState {

@@ -7,7 +7,7 @@ ghost use Rattle.ctl_face.specs.Pid.{derivative, error_of, feed_forward, has_sle
 ghost use Rattle.ctl_face.specs.Pid.{pace, pid_step, proportional};
 ghost use Rattle.ctl_face.specs.Pid.{slewed, with_fall, with_rise};
 ghost use Rattle.ctl_face.specs.Ranges.{IsMilli, IsValidPid, IsValidSample, IsWithin};
-ghost use Rattle.ctl_kinds.specs.Settled.{IsSettled};
+ghost use Rattle.ctl_kinds.specs.Steady.{IsSteady};
 
 use crate::small::small_step;
 use crate::wide::{Micro, Wide};
@@ -227,28 +227,28 @@ fn take_step(setting: &PidSetting, state: &mut CtlState, sample: Sample)
     }
 }
 
-// Makes one step, unless the sample is one that leaves the state as it is, and keeps the sample if it does now. A controller whose
-// sample stays mostly settles, and then a step costs no more than to see that.
+// Makes one step, unless the sample is known to leave the state as it is, and keeps the sample if it does so now. While the sample
+// of a controller stays, its state soon does too: then a step costs no more than to see that.
 #[inline(always)]
-pub(crate) fn settle(
+pub(crate) fn step_unless_steady(
     setting: &PidSetting,
     state: &mut CtlState,
-    settled: &mut Option<Sample>,
+    steady: &mut Option<Sample>,
     sample: Sample,
 )
     requires setting { IsValidPid setting.now }
     requires output { ForSome state.old.output IsMilli }
     requires sample { IsValidSample sample }
-    requires settled { ForSome settled.old (IsSettled setting.now state.old) }
+    requires steady { ForSome steady.old (IsSteady setting.now state.old) }
     ensures state { state.new ≡ pid_step setting.now state.old sample }
     ensures given { IsSome state.new.output }
     ensures small { ForSome state.new.output IsMilli }
-    ensures settled { ForSome settled.new (IsSettled setting.now state.new) }
+    ensures steady { ForSome steady.new (IsSteady setting.now state.new) }
 {
-    if *settled == Some(sample) {
+    if *steady == Some(sample) {
         return;
     }
     let before = *state;
     take_step(setting, state, sample);
-    *settled = if *state == before { Some(sample) } else { None };
+    *steady = if *state == before { Some(sample) } else { None };
 }

@@ -325,7 +325,7 @@ const PIDS: &[(PidSetting, &[(Sample, CtlState)])] = &[
             55 -55 => 0 -110 3_372;
         },
     ),
-    // a controller that settles, moves by its input, by its setpoint, and settles again
+    // a controller that is steady, moves by its input, by its setpoint, and is steady again
     (
         PidSetting {
             setpoint: Milli(50_000),
