@@ -93,14 +93,17 @@ held_stay old new later still held none =
     (λ one. inputs_stay old new later still one.inputs) held none
 
 -- a good reading of the sensor in a slot
-pub true_behind : (old new : List (Option Sensor)) (slot : ℕ) (raw : ℤ) (tick : ℕ) (sensor : Sensor) (held : List Held) (health : InputHealth) (was_bad : Bool)
+pub true_behind : (old new : List (Option Sensor)) (slot : ℕ) (raw : ℤ) (tick : ℕ) (sensor : Sensor) (held : List Held) (health : InputHealth)
     → ChangesSlot old new slot (λ one. good_after one raw tick) → slice_index_or old slot None ≡ Some sensor → IsTrueOf old held health
-    → IsTrueOf new held (health_behind health was_bad sensor.setting.timeout tick)
-true_behind old new slot raw tick sensor held known.Unknown was_bad changes at is = tt
-true_behind old new slot raw tick sensor held known.Unasked was_bad changes at is = tt
-true_behind old new slot raw tick sensor held known.Bad true changes at is = tt
-true_behind old new slot raw tick sensor held known.Bad false changes at is = tt
-true_behind old new slot raw tick sensor held (known.GoodUntil last) was_bad changes at is = λ later le.
+    → IsTrueOf new held (health_behind health sensor tick)
+true_behind old new slot raw tick sensor held known.Unknown changes at is = tt
+true_behind old new slot raw tick sensor held known.Unasked changes at is = tt
+true_behind old new slot raw tick sensor held known.Bad changes at is = unsure (is_bad sensor tick)
+  where
+    unsure : (was_bad : Bool) → IsTrueOf new held (if was_bad then known.Unasked else known.Bad)
+    unsure true = tt
+    unsure false = tt
+true_behind old new slot raw tick sensor held (known.GoodUntil last) changes at is = λ later le.
     let until = good_until sensor.setting.timeout tick in
     let first : later ≤ last = omega (arith, le, min-le_left last until) in
     let second : later ≤ until = omega (arith, le, min-le_right last until) in

@@ -5,7 +5,7 @@ use Rattle.bmc_core.specs.declared.input_health.InputHealth.{InputHealth}
 use Rattle.bmc_core.specs.declared.input_health.InputHealth.TheVariants as known
 use Rattle.fan_zone.specs.declared.held.Held.{Held}
 use Rattle.fan_zone.specs.Steady.{IsGoodUntil}
-use Rattle.sensor_core.specs.Sensors.{Sensor}
+use Rattle.sensor_core.specs.Sensors.{Sensor, is_bad}
 
 -- what is known is true of these controllers, where these are the sensors
 abbrev pub IsTrueOf : List (Option Sensor) → List Held → InputHealth → Type 0
@@ -18,12 +18,12 @@ IsTrueOf slots held (known.GoodUntil last) = IsGoodUntil slots last held
 abbrev pub good_until : ℕ → ℕ → ℕ
 good_until timeout now = if timeout == 0 then last_count else min (now + timeout) last_count
 
--- what is known behind a good reading now of a sensor with this timeout, which was bad before or not
-abbrev pub health_behind : InputHealth → Bool → ℕ → ℕ → InputHealth
-health_behind known.Unknown was_bad timeout now = known.Unknown
-health_behind known.Unasked was_bad timeout now = known.Unasked
-health_behind known.Bad was_bad timeout now = if was_bad then known.Unasked else known.Bad
-health_behind (known.GoodUntil last) was_bad timeout now = known.GoodUntil (min last (good_until timeout now))
+-- what is known behind a good reading now of what is this sensor before it
+abbrev pub health_behind : InputHealth → Sensor → ℕ → InputHealth
+health_behind known.Unknown sensor now = known.Unknown
+health_behind known.Unasked sensor now = known.Unasked
+health_behind known.Bad sensor now = if is_bad sensor now then known.Unasked else known.Bad
+health_behind (known.GoodUntil last) sensor now = known.GoodUntil (min last (good_until sensor.setting.timeout now))
 
 -- whether it is known that none is bad at a tick
 abbrev pub is_good_at : InputHealth → ℕ → Bool

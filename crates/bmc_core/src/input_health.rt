@@ -3,7 +3,7 @@ ghost use Rattle.bmc_core.specs.Health.{good_until, health_behind, is_good_at, I
 
 use ctl_face::Controller;
 use fan_zone::Zones;
-use sensor_core::SensorTable;
+use sensor_core::{Sensor, SensorTable};
 
 /// What is known of the inputs of all controllers, as long as nothing happens but good readings and ticks.
 #[derive(Clone, Copy)]
@@ -29,16 +29,17 @@ impl InputHealth {
         }
     }
 
-    /// What is known behind a good reading at tick `now` of a sensor with this timeout, which was bad before or not. A good reading
-    /// makes no input bad, and its own sensor is good from now on for as long as the timeout is.
-    pub(crate) fn after_reading(self, was_bad: bool, timeout: u32, now: u64) -> InputHealth
-        ensures { result ≡ health_behind self was_bad timeout now }
+    /// What is known behind a good reading, at tick `now`, of what is this sensor before it. The reading makes no input bad, and the
+    /// sensor is good then for as long as its timeout is.
+    pub(crate) fn after_reading(self, sensor: &Sensor, now: u64) -> InputHealth
+        ensures { result ≡ health_behind self sensor.now now }
     {
         match self {
             InputHealth::GoodUntil(last) => {
-                InputHealth::GoodUntil(last.min(good_until(timeout, now)))
+                let until = good_until(sensor.setting().timeout, now);
+                InputHealth::GoodUntil(last.min(until))
             }
-            InputHealth::Bad if was_bad => InputHealth::Unasked,
+            InputHealth::Bad if sensor.is_bad(now) => InputHealth::Unasked,
             other => other,
         }
     }

@@ -175,11 +175,10 @@ impl<L: Ledger> Senses<L> {
         let tick = self.ticks;
         let sensor = self.sensors.at(slot);
         let before = Glimpse::of(sensor);
-        let was_bad = sensor.is_bad(tick);
-        let timeout = sensor.setting().timeout;
+        let known = health.after_reading(sensor, tick);
         match self.sensors.good(slot, raw, tick) {
             Ok(()) => {
-                *health = health.after_reading(was_bad, timeout, tick);
+                *health = known;
                 self.watch
                     .tell_reading(name, &before, self.sensors.at(slot));
                 Ok(())

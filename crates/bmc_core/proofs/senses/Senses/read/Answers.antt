@@ -3,10 +3,9 @@ use Rattle.std.proofs.Common.{rules, ◌≡◌, ◌∙◌, ℤ, List, Option, re
 use Rattle.live_sensors.specs.Sensors.{LiveSensors}
 use Rattle.bmc_machine.specs.Histories.{Read}
 use Rattle.sensor_core.specs.Sensors.{Sensor}
-use Rattle.sensor_core.specs.declared.setting.SensorSetting.{SensorSetting}
 use Rattle.bmc_core.specs.declared.input_health.InputHealth.{InputHealth}
 use Rattle.bmc_core.specs.Acts.{Notes}
-use Rattle.bmc_core.specs.Health.{IsTrueOf, health_behind}
+use Rattle.bmc_core.specs.Health.{IsTrueOf}
 use Rattle.bmc_core.proofs.HealthLemmas.{sensor_at_slot, true_behind}
 use Rattle.bmc_core.specs.Senses.{SensesView, quiet_senses}
 use Rattle.bmc_core.proofs.NotesLemmas.{read_unknown, read_outside, read_told, slot_stays}
@@ -53,14 +52,11 @@ returns-in-Ok-clause-health g c = λ held is.
     let slot = c.in-Some.slot in
     let sensor : Sensor = c.at-sensor.result.now in
     let health = c.args.health.now in
-    let was_bad = c.is_bad-was_bad.result in
     let has = sym c.slot.ensures.slot ∙ c.in-Some.is in
     let here = sensor_at_slot old name slot sensor has (c.at-sensor.ensures name has) in
     let was : IsTrueOf old.slots held health = subst (λ (view : SensesView). IsTrueOf view.sensors.slots held health) (sym c.self.view_is) is in
-    let known = true_behind old.slots new.slots slot _ c.self.inside.ticks sensor held health was_bad c.in-Ok.ensures.changes.slots here was in
-    subst (λ (it : InputHealth). IsTrueOf new.slots held it) (sym c.after_reading.ensures)
-    (subst (λ (setting : SensorSetting). IsTrueOf new.slots held (health_behind health was_bad setting.timeout c.self.inside.ticks))
-    (sym c.setting.ensures.value) known)
+    subst (λ (it : InputHealth). IsTrueOf new.slots held it) (sym c.after_reading-known.ensures)
+    (true_behind old.slots new.slots slot _ c.self.inside.ticks sensor held health c.in-Ok.ensures.changes.slots here was)
 
 pub returns-in-Err-clause-health : goal.returns-in-Err-clause-health
 returns-in-Err-clause-health g c = λ held is.
