@@ -98,6 +98,7 @@ fn better_with(role: Role, best: Option<i64>, value: Option<Milli>) -> Option<i6
 }
 
 /// The input of a step, in thousandths. `good` may be true only where none of the inputs is bad.
+#[inline(always)]
 pub(crate) fn input(
     sensors: &SensorTable,
     now: u64,
