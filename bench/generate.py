@@ -37,9 +37,11 @@
   ticks     COUNT zones with two fans, three controllers and four sensors each;
             each line lets 100 ticks pass, but for each tenth, which reads a
             sensor. The last zone takes its temperatures from the first
+  busy      the zones of ticks; each fourth line lets one tick pass, and the
+            others each read a sensor, in an order that jumps about
 
-COUNT is at most 256, and 255 for mux and still, 31 for trays, 32 for ticks,
-4,096 for readings and lists; left out, it is as many. LINES does not count the
+COUNT is at most 256, and 255 for mux and still, 31 for trays, 32 for ticks and
+busy, 4,096 for readings and lists; left out, it is as many. LINES does not count the
 configurations and the first FRUs. The same words give the same script."""
 
 import json
@@ -55,7 +57,7 @@ from record import board_area, chassis_area, product_area, record
 WORKLOADS = dict.fromkeys(("plugs", "refused", "comments", "long", "toolong", "records"), 256)
 WORKLOADS |= dict.fromkeys(("present", "boards", "regex", "found", "idle", "under", "risers", "blades"), 256)
 WORKLOADS |= dict.fromkeys(("mux", "still"), 255)
-WORKLOADS |= {"trays": 31, "passive": 256, "readings": 4096, "lists": 4096, "ticks": 32}
+WORKLOADS |= {"trays": 31, "passive": 256, "readings": 4096, "lists": 4096, "ticks": 32, "busy": 32}
 TEXTS = ["Norrland Systems AB", "Riser, 2 x16", "NSR2404200117", "310-00511-01", "FRU 2.1"]
 RECORD = record(board=board_area(TEXTS)).hex().upper()
 # A step that shares no factor with a power of 2, so that the places jump about and each gets its turn.
@@ -268,18 +270,35 @@ def zone(number, temps):
     ]
 
 
-def ticks(lines, zones):
-    last = max(1, zones - 1)
+def regulated(zones, last):
+    """Zones with their sensors, each of which is read. There are so many pairs of temperatures."""
     temps = [[f"Temp {number}.{at}" for at in range(2)] for number in range(last)]
     for number, names in enumerate(temps):
         yield config(number, "TRUE", Exposes=[{"Name": name, "Type": "Sensor"} for name in names])
     for number in range(zones):
         yield config(last + number, "TRUE", Exposes=zone(number, temps[number % last]))
-    tachs = [f"read Tach {number}.{at} {4 + number % 3}\n" for number in range(zones) for at in range(2)]
-    warm = [f"read {name} {40 + at * 7 % 31}\n" for at, name in enumerate(sum(temps, []))]
-    yield from tachs + warm
+    yield from (f"read Tach {number}.{at} {4 + number % 3}\n" for number in range(zones) for at in range(2))
+    yield from (f"read {name} {40 + at * 7 % 31}\n" for at, name in enumerate(sum(temps, [])))
+
+
+def ticks(lines, zones):
+    last = max(1, zones - 1)
+    yield from regulated(zones, last)
     for at in range(lines):
         yield f"read Temp {at // 10 % last}.0 {40 + at * 7 % 31}\n" if at % 10 == 9 else "tick 100\n"
+
+
+def busy(lines, zones):
+    last = max(1, zones - 1)
+    yield from regulated(zones, last)
+    for at in range(lines):
+        sensor = at * STEP % (2 * zones + 2 * last)
+        if at % 4 == 3:
+            yield "tick 1\n"
+        elif sensor < 2 * zones:
+            yield f"read Tach {sensor // 2}.{sensor % 2} {3 + at * 7 % 5}\n"
+        else:
+            yield f"read Temp {sensor // 2 - zones}.{sensor % 2} {40 + at * 7 % 31}\n"
 
 
 def script(workload, lines, count=None):
