@@ -1,22 +1,23 @@
 -- What is known of the inputs of controllers stays true at ticks and at good readings.
 use Rattle.std.proofs.Common.{◌≡◌, ◌∙◌, ℕ, ◌+◌, ◌-◌, ◌==◌, ◌≤◌, ℤ, ◌||◌, ◌&&◌, Bool, true, false, not, nat_lt, nat_eq, min, List, [], ◌∷◌, map}
-use Rattle.std.proofs.Common.{if◌then◌else◌, Option, Some, None, option_map, option_and_then, slice_index_or, ap, refl, sym, subst, arith}
+use Rattle.std.proofs.Common.{if◌then◌else◌, Option, Some, None, option_map, option_and_then, is_none, slice_index_or, ap, refl, sym, subst, arith}
+use Rattle.std.proofs.Math.Bool.{and-true}
 use Rattle.std.proofs.Math.Nat.{min-le_left, min-le_right}
 use Rattle.std.proofs.lemmas.Bool.{false≢true, true≢false, leb-true, le-ltb, eqb-true, eq-eqb, or_from, or_parts}
 use Rattle.std.proofs.lemmas.Option.{same_Some}
 use Rattle.std.specs.List.{list_any}
 use Rattle.bmc_base.specs.Counts.{last_count}
 use Rattle.live_sensors.specs.Sensors.{ChangesSlot, LiveSensors, sensor_in, slot_of}
-use Rattle.sensor_core.specs.Updates.{good_after}
+use Rattle.sensor_core.specs.Updates.{good_after, lost_after}
 use Rattle.fan_zone.proofs.Taken.{any_mapped}
 use Rattle.bmc_core.specs.declared.input_health.InputHealth.{InputHealth}
 use Rattle.bmc_core.specs.declared.input_health.InputHealth.TheVariants as known
-use Rattle.bmc_core.specs.Health.{IsTrueOf, is_good_at, good_until, health_behind}
+use Rattle.bmc_core.specs.Health.{IsTrueOf, is_good_at, good_until, health_after_reading, health_after_loss}
 use Rattle.fan_zone.specs.declared.held.Held.{Held}
 use Rattle.fan_zone.specs.Inputs.{has_bad_input, is_bad_input, is_bad_sensor, sensor_of}
 use Rattle.fan_zone.specs.Steady.{has_bad_input_now}
 use Rattle.fan_zone.specs.Ticks.{aged}
-use Rattle.sensor_core.specs.Sensors.{Sensor, is_bad}
+use Rattle.sensor_core.specs.Sensors.{Sensor, has_failed, is_bad, is_stale}
 
 -- where it is known that none is bad, none is
 pub good_inputs : (slots : List (Option Sensor)) (held : List Held) (health : InputHealth) (now : ℕ) → IsTrueOf slots held health → is_good_at health now ≡ true
@@ -50,14 +51,15 @@ young timeout tick later le = of (timeout == 0) le
 read_good : (sensor : Sensor) (raw : ℤ) (tick later : ℕ) → later ≤ good_until sensor.setting.timeout tick → is_bad (good_after sensor raw tick) later ≡ false
 read_good sensor raw tick later le = young sensor.setting.timeout tick later le
 
-changed_good : (change : Sensor → Sensor) (later : ℕ) (was : Option Sensor) → ((sensor : Sensor) → was ≡ Some sensor → is_bad (change sensor) later ≡ false)
+changed_good : (change : Sensor → Sensor) (later : ℕ) (was : Option Sensor)
+    → ((sensor : Sensor) → was ≡ Some sensor → is_bad sensor later ≡ false → is_bad (change sensor) later ≡ false)
     → is_bad_sensor later was ≡ false → is_bad_sensor later (option_map change was) ≡ false
 changed_good change later None good is = is
-changed_good change later (Some sensor) good is = good sensor refl
+changed_good change later (Some sensor) good is = good sensor refl is
 
--- where the sensor in a slot is not bad as it is changed, an input that was not bad is not
+-- where the sensor in a slot is not made bad, no input is
 input_stays : (old new : List (Option Sensor)) (slot : ℕ) (change : Sensor → Sensor) (later : ℕ) → ChangesSlot old new slot change
-    → ((sensor : Sensor) → slice_index_or old slot None ≡ Some sensor → is_bad (change sensor) later ≡ false)
+    → ((sensor : Sensor) → slice_index_or old slot None ≡ Some sensor → is_bad sensor later ≡ false → is_bad (change sensor) later ≡ false)
     → (input : Option ℕ) → is_bad_input old later input ≡ false → is_bad_input new later input ≡ false
 input_stays old new slot change later changes good None is = is
 input_stays old new slot change later changes good (Some other) is = of (nat_eq other slot) refl
@@ -93,25 +95,58 @@ held_stay old new later still held none =
     (λ one. inputs_stay old new later still one.inputs) held none
 
 -- a good reading of the sensor in a slot
-pub true_behind : (old new : List (Option Sensor)) (slot : ℕ) (raw : ℤ) (tick : ℕ) (sensor : Sensor) (held : List Held) (health : InputHealth)
+pub true_after_reading : (old new : List (Option Sensor)) (slot : ℕ) (raw : ℤ) (tick : ℕ) (sensor : Sensor) (held : List Held) (health : InputHealth)
     → ChangesSlot old new slot (λ one. good_after one raw tick) → slice_index_or old slot None ≡ Some sensor → IsTrueOf old held health
-    → IsTrueOf new held (health_behind health sensor tick)
-true_behind old new slot raw tick sensor held known.Unknown changes at is = tt
-true_behind old new slot raw tick sensor held known.Unasked changes at is = tt
-true_behind old new slot raw tick sensor held known.Bad changes at is = unsure (is_bad sensor tick)
+    → IsTrueOf new held (health_after_reading health sensor tick)
+true_after_reading old new slot raw tick sensor held known.Unknown changes at is = tt
+true_after_reading old new slot raw tick sensor held known.Unasked changes at is = tt
+true_after_reading old new slot raw tick sensor held known.Bad changes at is = unsure (is_bad sensor tick)
   where
     unsure : (was_bad : Bool) → IsTrueOf new held (if was_bad then known.Unasked else known.Bad)
     unsure true = tt
     unsure false = tt
-true_behind old new slot raw tick sensor held (known.GoodUntil last) changes at is = λ later le.
+true_after_reading old new slot raw tick sensor held (known.GoodUntil last) changes at is = λ later le.
     let until = good_until sensor.setting.timeout tick in
     let first : later ≤ last = omega (arith, le, min-le_left last until) in
     let second : later ≤ until = omega (arith, le, min-le_right last until) in
     held_stay old new later
     (input_stays old new slot (λ one. good_after one raw tick) later changes
-    (λ one has. subst (λ (it : Sensor). is_bad (good_after it raw tick) later ≡ false) (same_Some sensor one (sym at ∙ has))
+    (λ one has was. subst (λ (it : Sensor). is_bad (good_after it raw tick) later ≡ false) (same_Some sensor one (sym at ∙ has))
     (read_good sensor raw tick later second)))
     held (is later first)
+
+-- ---- a loss
+
+-- where it does not make the sensor fail, a sensor that is not bad stays so
+lost_good : (sensor : Sensor) (later : ℕ) → (has_failed (lost_after sensor) && not (has_failed sensor)) ≡ false → is_bad sensor later ≡ false
+    → is_bad (lost_after sensor) later ≡ false
+lost_good sensor later stays good =
+    let working : has_failed sensor ≡ false =
+    (or_parts (is_none sensor.value) (has_failed sensor) (or_parts (is_none sensor.value || has_failed sensor) (is_stale sensor later) good).0).1 in
+    let works : has_failed (lost_after sensor) ≡ false =
+    sym (and-true (has_failed (lost_after sensor))) ∙ (ap (λ (failed : Bool). has_failed (lost_after sensor) && not failed) (sym working) ∙ stays) in
+    ap (λ (failed : Bool). is_none sensor.value || failed || is_stale sensor later) (works ∙ sym working) ∙ good
+
+-- a loss of the sensor in a slot
+pub true_after_loss : (old new : List (Option Sensor)) (slot : ℕ) (was : Sensor) (held : List Held) (health : InputHealth)
+    → ChangesSlot old new slot lost_after → slice_index_or old slot None ≡ Some was → IsTrueOf old held health
+    → IsTrueOf new held (health_after_loss health (has_failed was) (lost_after was))
+true_after_loss old new slot was held health changes at is = of (has_failed (lost_after was) && not (has_failed was)) refl
+  where
+    kept : (known : InputHealth) → (has_failed (lost_after was) && not (has_failed was)) ≡ false → IsTrueOf old held known → IsTrueOf new held known
+    kept known.Unknown stays true_of = tt
+    kept known.Unasked stays true_of = tt
+    kept known.Bad stays true_of = tt
+    kept (known.GoodUntil last) stays true_of = λ later le.
+        held_stay old new later
+        (input_stays old new slot lost_after later changes
+        (λ one has. subst (λ (it : Sensor). is_bad it later ≡ false → is_bad (lost_after it) later ≡ false) (same_Some was one (sym at ∙ has))
+        (lost_good was later stays)))
+        held (true_of later le)
+
+    of : (fails : Bool) → (has_failed (lost_after was) && not (has_failed was)) ≡ fails → IsTrueOf new held (if fails then known.Unknown else health)
+    of true e = tt
+    of false e = kept health e is
 
 -- the sensor of a name stands in the slot of the name
 pub sensor_at_slot : (sensors : LiveSensors) (name : List ℕ) (slot : ℕ) (sensor : Sensor) → slot_of sensors name ≡ Some slot

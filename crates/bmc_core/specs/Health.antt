@@ -1,11 +1,11 @@
 -- What is known of the inputs of controllers between ticks.
-use Rattle.std.specs.Prelude.{ℕ, ◌+◌, ◌==◌, min, nat_le, Bool, false, if◌then◌else◌, List, Option}
+use Rattle.std.specs.Prelude.{ℕ, ◌+◌, ◌==◌, min, nat_le, Bool, false, not, ◌&&◌, if◌then◌else◌, List, Option}
 use Rattle.bmc_base.specs.Counts.{last_count}
 use Rattle.bmc_core.specs.declared.input_health.InputHealth.{InputHealth}
 use Rattle.bmc_core.specs.declared.input_health.InputHealth.TheVariants as known
 use Rattle.fan_zone.specs.declared.held.Held.{Held}
 use Rattle.fan_zone.specs.Steady.{IsGoodUntil}
-use Rattle.sensor_core.specs.Sensors.{Sensor, is_bad}
+use Rattle.sensor_core.specs.Sensors.{Sensor, has_failed, is_bad}
 
 -- what is known is true of these controllers, where these are the sensors
 abbrev pub IsTrueOf : List (Option Sensor) → List Held → InputHealth → Type 0
@@ -18,12 +18,16 @@ IsTrueOf slots held (known.GoodUntil last) = IsGoodUntil slots last held
 abbrev pub good_until : ℕ → ℕ → ℕ
 good_until timeout now = if timeout == 0 then last_count else min (now + timeout) last_count
 
--- what is known behind a good reading now of what is this sensor before it
-abbrev pub health_behind : InputHealth → Sensor → ℕ → InputHealth
-health_behind known.Unknown sensor now = known.Unknown
-health_behind known.Unasked sensor now = known.Unasked
-health_behind known.Bad sensor now = if is_bad sensor now then known.Unasked else known.Bad
-health_behind (known.GoodUntil last) sensor now = known.GoodUntil (min last (good_until sensor.setting.timeout now))
+-- what is known after a good reading now of this sensor, given as it was before
+abbrev pub health_after_reading : InputHealth → Sensor → ℕ → InputHealth
+health_after_reading known.Unknown sensor now = known.Unknown
+health_after_reading known.Unasked sensor now = known.Unasked
+health_after_reading known.Bad sensor now = if is_bad sensor now then known.Unasked else known.Bad
+health_after_reading (known.GoodUntil last) sensor now = known.GoodUntil (min last (good_until sensor.setting.timeout now))
+
+-- what is known after a loss of this sensor, given as it is then, which had failed before or not
+abbrev pub health_after_loss : InputHealth → Bool → Sensor → InputHealth
+health_after_loss health had_failed sensor = if has_failed sensor && not had_failed then known.Unknown else health
 
 -- whether it is known that none is bad at a tick
 abbrev pub is_good_at : InputHealth → ℕ → Bool

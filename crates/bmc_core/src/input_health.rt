@@ -1,11 +1,11 @@
 ghost use Rattle.std.specs.Prelude.{◌≡◌};
-ghost use Rattle.bmc_core.specs.Health.{good_until, health_behind, is_good_at, IsTrueOf};
+ghost use Rattle.bmc_core.specs.Health.{good_until, health_after_reading, health_after_loss, is_good_at, IsTrueOf};
 
 use ctl_face::Controller;
 use fan_zone::Zones;
 use sensor_core::{Sensor, SensorTable};
 
-/// What is known of the inputs of all controllers, as long as nothing happens but good readings and ticks.
+/// What is known of the inputs of all controllers, as long as nothing happens but readings, losses and ticks.
 #[derive(Clone, Copy)]
 pub(crate) enum InputHealth {
     /// Something else happened since the last tick.
@@ -29,10 +29,10 @@ impl InputHealth {
         }
     }
 
-    /// What is known behind a good reading, at tick `now`, of what is this sensor before it. The reading makes no input bad, and the
-    /// sensor is good then for as long as its timeout is.
+    /// What is known after a good reading at tick `now` of this sensor, given as it was before. The reading makes no input bad, and
+    /// the sensor is good from then on for as long as its timeout is.
     pub(crate) fn after_reading(self, sensor: &Sensor, now: u64) -> InputHealth
-        ensures { result ≡ health_behind self sensor.now now }
+        ensures { result ≡ health_after_reading self sensor.now now }
     {
         match self {
             InputHealth::GoodUntil(last) => {
@@ -43,9 +43,21 @@ impl InputHealth {
             other => other,
         }
     }
+
+    /// What is known after a loss of this sensor, given as it is then, which had failed before or not. Only the loss with which a
+    /// sensor fails makes an input bad.
+    pub(crate) fn after_loss(self, had_failed: bool, sensor: &Sensor) -> InputHealth
+        ensures { result ≡ health_after_loss self had_failed sensor.now }
+    {
+        if sensor.is_failed() && !had_failed {
+            InputHealth::Unknown
+        } else {
+            self
+        }
+    }
 }
 
-// The last tick at which a sensor with this timeout is good, where its last reading is one of now.
+// The last tick at which a sensor with this timeout is good that is read at tick `now`.
 fn good_until(timeout: u32, now: u64) -> u64
     ensures { result ≡ good_until timeout now }
 {
@@ -56,8 +68,8 @@ fn good_until(timeout: u32, now: u64) -> u64
     }
 }
 
-/// What is known after a tick, at which it was known or not that none of them is bad. They are looked at behind two ticks in a row
-/// with no more than good readings before the second one: where a loss comes before each tick, it would be in vain.
+/// What is known after a tick at which it was known, or not, that none of them is bad. They are looked at behind the second tick
+/// since something else happened: where a FRU comes or goes before each tick, that would be in vain.
 pub(crate) fn health_after<C: Controller>(
     health: InputHealth,
     good: bool,

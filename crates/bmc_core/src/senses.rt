@@ -187,18 +187,22 @@ impl<L: Ledger> Senses<L> {
         }
     }
 
-    /// Takes the loss of a reading of a sensor.
-    pub(crate) fn lose(&mut self, name: &Name) -> Result<(), CoreFault>
+    /// Takes the loss of a reading of a sensor, and notes in `health` what is known of inputs then.
+    pub(crate) fn lose(&mut self, name: &Name, health: &mut InputHealth) -> Result<(), CoreFault>
         ensures notes { Notes self.old (Lose name.now) result self.new }
         ensures names { self.new.sensors.names ≡ self.old.sensors.names }
+        ensures health { (held : List Held) → IsTrueOf self.old.sensors.slots held health.old → IsTrueOf self.new.sensors.slots held health.new }
     {
         let Some(slot) = self.sensors.slot(name) else {
             return self.refuse(Refusal::UnknownSensor);
         };
-        let before = Glimpse::of(self.sensors.at(slot));
+        let sensor = self.sensors.at(slot);
+        let before = Glimpse::of(sensor);
+        let had_failed = sensor.is_failed();
         self.sensors.lost(slot);
-        self.watch
-            .tell_reading(name, &before, self.sensors.at(slot));
+        let sensor = self.sensors.at(slot);
+        *health = health.after_loss(had_failed, sensor);
+        self.watch.tell_reading(name, &before, sensor);
         Ok(())
     }
 }

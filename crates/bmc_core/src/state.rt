@@ -145,8 +145,7 @@ impl<L: Ledger, C: Controller> State<L, C> {
     fn lose(&mut self, name: &Name) -> Result<(), CoreFault>
         ensures { StateApplies self.old (Lose name.now) result self.new }
     {
-        self.health = InputHealth::Unknown;
-        self.senses.lose(name)
+        self.senses.lose(name, &mut self.health)
     }
 
     /// Lets a tick pass: it is counted, controllers step, and zones and fans show what comes of it. It is never refused, and

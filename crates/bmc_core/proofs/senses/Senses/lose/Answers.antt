@@ -1,5 +1,11 @@
 -- A name without a sensor is refused; else its sensor takes the loss.
-use Rattle.std.proofs.Common.{◌∙◌, refl, sym, ap, subst}
+use Rattle.std.proofs.Common.{◌≡◌, ◌∙◌, Bool, option_map, refl, sym, ap, subst}
+use Rattle.std.proofs.lemmas.Option.{same_Some}
+use Rattle.sensor_core.specs.Sensors.{Sensor}
+use Rattle.sensor_core.specs.Updates.{lost_after}
+use Rattle.bmc_core.specs.Health.{IsTrueOf, health_after_loss}
+use Rattle.bmc_core.specs.declared.input_health.InputHealth.{InputHealth}
+use Rattle.bmc_core.proofs.HealthLemmas.{sensor_at_slot, true_after_loss}
 use Rattle.bmc_machine.specs.Histories.{Lose}
 use Rattle.bmc_core.specs.Acts.{Notes}
 use Rattle.bmc_core.specs.Senses.{SensesView, quiet_senses}
@@ -19,8 +25,29 @@ returns-clause-notes g c =
     let new : SensesView = record { watch = c.tell_reading.new.self; sensors = c.lost.new.self; ticks = c.self.inside.ticks } in
     let has = sym c.slot.ensures.slot ∙ c.in-Some.is in
     subst (λ (senses : SensesView). Notes senses (Lose c.args.name.now) _ new) c.self.view_is
-    (lose_told old new c.args.name.now c.in-Some.slot c.slot.result c.at.result.now c.at-2.result.now c.lost.new.self c.slot.ensures.sensor c.in-Some.is
-    c.slot.ensures.slot (c.at.ensures c.args.name.now has)
-    (c.at-2.ensures c.args.name.now (slot_stays c.self.inside.sensors c.lost.new.self c.args.name.now c.in-Some.slot c.lost.ensures.changes.names has))
-    (c.tell_reading.ensures c.at.result.now c.of-before.ensures) refl refl
+    (lose_told old new c.args.name.now c.in-Some.slot c.slot.result c.at-sensor.result.now c.at-sensor-2.result.now c.lost.new.self c.slot.ensures.sensor c.in-Some.is
+    c.slot.ensures.slot (c.at-sensor.ensures c.args.name.now has)
+    (c.at-sensor-2.ensures c.args.name.now (slot_stays c.self.inside.sensors c.lost.new.self c.args.name.now c.in-Some.slot c.lost.ensures.changes.names has))
+    (c.tell_reading.ensures c.at-sensor.result.now c.of-before.ensures) refl refl
     c.lost.ensures.changes _ refl)
+
+pub returns-clause-health : goal.returns-clause-health
+returns-clause-health g c = λ held is.
+    let old = c.self.inside.sensors in
+    let new = c.lost.new.self in
+    let name = c.args.name.now in
+    let slot = c.in-Some.slot in
+    let health = c.args.health.now in
+    let was : Sensor = c.at-sensor.result.now in
+    let now : Sensor = c.at-sensor-2.result.now in
+    let has = sym c.slot.ensures.slot ∙ c.in-Some.is in
+    let stays = slot_stays old new name slot c.lost.ensures.changes.names has in
+    let here = sensor_at_slot old name slot was has (c.at-sensor.ensures name has) in
+    let there = sensor_at_slot new name slot now stays (c.at-sensor-2.ensures name stays) in
+    let made : now ≡ lost_after was =
+    same_Some now (lost_after was) (sym there ∙ (c.lost.ensures.changes.slots.changed ∙ ap (option_map lost_after) here)) in
+    let before : IsTrueOf old.slots held health = subst (λ (view : SensesView). IsTrueOf view.sensors.slots held health) (sym c.self.view_is) is in
+    subst (λ (it : InputHealth). IsTrueOf new.slots held it) (sym c.after_loss.ensures)
+    (subst (λ (it : Sensor). IsTrueOf new.slots held (health_after_loss health c.is_failed-had_failed.result it)) (sym made)
+    (subst (λ (failed : Bool). IsTrueOf new.slots held (health_after_loss health failed (lost_after was))) (sym c.is_failed-had_failed.ensures)
+    (true_after_loss old.slots new.slots slot was held health c.lost.ensures.changes.slots here before)))

@@ -6,7 +6,7 @@ use Rattle.sensor_core.specs.Sensors.{Sensor}
 use Rattle.bmc_core.specs.declared.input_health.InputHealth.{InputHealth}
 use Rattle.bmc_core.specs.Acts.{Notes}
 use Rattle.bmc_core.specs.Health.{IsTrueOf}
-use Rattle.bmc_core.proofs.HealthLemmas.{sensor_at_slot, true_behind}
+use Rattle.bmc_core.proofs.HealthLemmas.{sensor_at_slot, true_after_reading}
 use Rattle.bmc_core.specs.Senses.{SensesView, quiet_senses}
 use Rattle.bmc_core.proofs.NotesLemmas.{read_unknown, read_outside, read_told, slot_stays}
 use Rattle.bmc_core.proofs.senses.Senses.read.Goals as goal
@@ -56,7 +56,7 @@ returns-in-Ok-clause-health g c = λ held is.
     let here = sensor_at_slot old name slot sensor has (c.at-sensor.ensures name has) in
     let was : IsTrueOf old.slots held health = subst (λ (view : SensesView). IsTrueOf view.sensors.slots held health) (sym c.self.view_is) is in
     subst (λ (it : InputHealth). IsTrueOf new.slots held it) (sym c.after_reading-known.ensures)
-    (true_behind old.slots new.slots slot _ c.self.inside.ticks sensor held health c.in-Ok.ensures.changes.slots here was)
+    (true_after_reading old.slots new.slots slot _ c.self.inside.ticks sensor held health c.in-Ok.ensures.changes.slots here was)
 
 pub returns-in-Err-clause-health : goal.returns-in-Err-clause-health
 returns-in-Err-clause-health g c = λ held is.

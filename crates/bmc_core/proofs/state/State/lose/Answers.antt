@@ -12,7 +12,7 @@ invariant_of-self g c =
     let new : StateView = record { senses = c.lose.new.self; zones = c.self.inside.zones; strict = c.self.inside.strict } in (
       state_next old new (Lose c.args.name.now) c.lose.result c.self.invariant.0
           (sensed old new (Lose c.args.name.now) c.lose.result refl refl refl c.lose.ensures.notes c.lose.ensures.names refl refl) c.self.invariant.0.enough,
-      tt,
+      c.lose.ensures.health c.self.inside.zones.held c.self.invariant.1,
     )
 
 pub returns : goal.returns
