@@ -41,8 +41,9 @@
             others each read a sensor, in an order that jumps about
 
 COUNT is at most 256, and 255 for mux and still, 31 for trays, 32 for ticks and
-busy, 4,096 for readings and lists; left out, it is as many. LINES does not count the
-configurations and the first FRUs. The same words give the same script."""
+busy, 4,096 for readings and lists; left out, it is as many. LINES does not
+count the configurations and the first FRUs. The same words give the same
+script."""
 
 import json
 import os
