@@ -16,7 +16,8 @@ option_same (Some one) None same = absurd (cc)
 option_same (Some one) (Some other) same = ap Some (number_same one other same)
 
 pub state_same : (one other : CtlState)
-    → (int_eq one.integral other.integral && (option_eq int_eq one.error other.error && (option_eq int_eq one.base other.base && option_eq int_eq one.output other.output))) ≡ true
+    → (int_eq one.integral other.integral && (option_eq int_eq one.error other.error
+    && (option_eq int_eq one.base other.base && option_eq int_eq one.output other.output))) ≡ true
     → one ≡ other
 state_same one other same =
     let first = and_parts _ _ same in

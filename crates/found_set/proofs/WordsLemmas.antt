@@ -2,7 +2,8 @@
 use Rattle.std.proofs.Common.{◌≡◌, ◌≢◌, ◌⊎◌, ◌∙◌, ℕ, zero, suc, ◌+◌, ◌-◌, ◌*◌, ◌/◌, ◌%◌, ◌^◌, ◌<◌, ◌≤◌, ◌==◌, eqb, Bool, true, false, not, ◌&&◌, ◌||◌}
 use Rattle.std.proofs.Common.{List, [], ◌∷◌, length, get_or, set, replicate, refl, ap, ap₂, sym, arith, inl, inr, max, min, bit_and, bit_or, bit_xor}
 use Rattle.std.specs.Int.{bit_at}
-use Rattle.std.proofs.lemmas.Nat.Bits.{bit_at-zero, bit_at-lt, bit_at-pow_same, bit_at-pow_other, bit_at_or, bit_at_and, bit_at_xor, bit_at_ones, bit_at_ones_above}
+use Rattle.std.proofs.lemmas.Nat.Bits.{bit_at-zero, bit_at-lt, bit_at-pow_same, bit_at-pow_other, bit_at_or, bit_at_and, bit_at_xor}
+use Rattle.std.proofs.lemmas.Nat.Bits.{bit_at_ones, bit_at_ones_above}
 use Rattle.std.proofs.lemmas.Nat.Bits.{bit_at_mask_inside, bit_at_mask_below}
 use Rattle.std.proofs.lemmas.List.{get_or_past, get_or-set_other, get_or-set_same, get_or-replicate, length-set, set-get_or, ext_get_or}
 use Rattle.std.proofs.lemmas.List.FromFn.{get_or-map-range_with_len, length-map-range_with_len}
@@ -65,7 +66,8 @@ roots_by n (inl lt) =
     ap₂ (λ (at bit : ℕ). bit_at (get_or (65535 ∷ 0 ∷ 0 ∷ 0 ∷ []) at 0) bit == 1) (in_first n lt) rest ∙ low n lt (cases_lt n 16)
 roots_by n (inr le) =
     ap (λ (at : ℕ). bit_at (get_or (65535 ∷ blank) at 0) (n % 64) == 1) (in_later n le)
-    ∙ ap (λ (word : ℕ). bit_at word (n % 64) == 1) (later 65535 (n / 64 - 1) ∙ zeros (n / 64 - 1)) ∙ ap (λ (bit : ℕ). bit == 1) (bit_at-zero (n % 64)) ∙ sym (no_root n (omega (arith, le)))
+    ∙ ap (λ (word : ℕ). bit_at word (n % 64) == 1) (later 65535 (n / 64 - 1) ∙ zeros (n / 64 - 1))
+    ∙ ap (λ (bit : ℕ). bit == 1) (bit_at-zero (n % 64)) ∙ sym (no_root n (omega (arith, le)))
 
 pub roots_set : (n : ℕ) → is_set (65535 ∷ 0 ∷ 0 ∷ 0 ∷ []) n ≡ is_root n
 roots_set n = roots_by n (cases_lt n 64)
@@ -73,7 +75,8 @@ roots_set n = roots_by n (cases_lt n 64)
 -- all bits but those of the root buses
 masked : (word n : ℕ) → n < 64 → (n < 16) ⊎ (16 ≤ n) → (bit_at (bit_and word 18446744073709486080) n == 1) ≡ (not (is_root n) && (bit_at word n == 1))
 masked word n lt (inl below) =
-    let none : bit_at (bit_and word 18446744073709486080) n ≡ 0 = bit_at_and word 18446744073709486080 n ∙ ap (min (bit_at word n)) (bit_at_mask_below 16 64 n below)
+    let none : bit_at (bit_and word 18446744073709486080) n ≡ 0 =
+    bit_at_and word 18446744073709486080 n ∙ ap (min (bit_at word n)) (bit_at_mask_below 16 64 n below)
     ∙ omega arith in
     ap (λ (bit : ℕ). bit == 1) none ∙ ap (λ (root : Bool). not root && (bit_at word n == 1)) (sym (root_below n below))
 masked word n lt (inr above) =

@@ -32,7 +32,8 @@ loop-i-preserved g c =
     let long : length c.args.earlier.now.found ≡ 256 = c.changes-has_changed.ensures.count in
     let put : c.mark_if.new.self ≡ set found i c.find-is_found.result = c.mark_if.ensures in record {
       many = ap length put ∙ length-set found i c.find-is_found.result ∙ c.loop-i.invariant.many;
-      told = λ test given still. ap (λ (list : List Bool). found_from c.args.rules.now (drop (i + 1) c.args.rules.now) test (take (i + 1) list)) put ∙ marked_on c.args.rules.now i c.index-rules-i.result found c.find-is_found.result test (omega arith) (omega arith)
+      told = λ test given still. ap (λ (list : List Bool). found_from c.args.rules.now (drop (i + 1) c.args.rules.now) test (take (i + 1) list)) put
+          ∙ marked_on c.args.rules.now i c.index-rules-i.result found c.find-is_found.result test (omega arith) (omega arith)
           c.index-rules-i.is (found_again c.args.names.now.names c.args.rules.now i c.index-rules-i.result c.args.marks.now found c.args.earlier.now.found
           c.args.earlier.now.touched c.loop-i.has_changed (list_any asks_found c.index-rules-i.result.probe.words) c.mark-mark.result c.find-is_found.result
           (omega arith) (omega arith) c.index-rules-i.is refl
@@ -40,7 +41,8 @@ loop-i-preserved g c =
           c.find-is_found.ensures.value c.find-is_found.ensures.few c.loop-i.invariant.none c.requires.named c.loop-i.invariant.same test given still)
           ∙ c.loop-i.invariant.told test given still;
       none = λ n h. ap (λ (list : List Bool). is_marked list n) put ∙ none_later found i c.find-is_found.result c.loop-i.invariant.none n h;
-      same = λ unchanged. ap (take (i + 1)) put ∙ still_same c.args.earlier.now.found found c.loop-i.has_changed c.changes-has_changed.result i c.find-is_found.result (omega arith) (omega arith)
+      same = λ unchanged. ap (take (i + 1)) put
+          ∙ still_same c.args.earlier.now.found found c.loop-i.has_changed c.changes-has_changed.result i c.find-is_found.result (omega arith) (omega arith)
           c.loop-i.invariant.same c.changes-has_changed.ensures.value unchanged;
       counted = within_sum _ _ _ i 1 (i + 1) c.loop-i.invariant.counted c.find-is_found.ensures.counted (omega arith);
     }
@@ -57,5 +59,6 @@ returns-clause-found g c = λ test given still n small.
     let found = c.loop-i.found in
     let rules = c.args.rules.now in
     let all : take i found ≡ found_from rules rules test [] =
-    sym (ap (λ (rest : List Rule). found_from rules rest test (take i found)) (drop_all i rules c.loop-i-test.false)) ∙ c.loop-i.invariant.told test given still in
+    sym (ap (λ (rest : List Rule). found_from rules rest test (take i found)) (drop_all i rules c.loop-i-test.false))
+    ∙ c.loop-i.invariant.told test given still in
     front found i n (omega (arith, c.loop-i.invariant.many)) c.loop-i.invariant.none (cases_lt n i) ∙ ap (λ (list : List Bool). is_marked list n) all

@@ -25,8 +25,8 @@ returns-clause-notes g c =
     let new : SensesView = record { watch = c.tell_reading.new.self; sensors = c.lost.new.self; ticks = c.self.inside.ticks } in
     let has = sym c.slot.ensures.slot ∙ c.in-Some.is in
     subst (λ (senses : SensesView). Notes senses (Lose c.args.name.now) _ new) c.self.view_is
-    (lose_told old new c.args.name.now c.in-Some.slot c.slot.result c.at-sensor.result.now c.at-sensor-2.result.now c.lost.new.self c.slot.ensures.sensor c.in-Some.is
-    c.slot.ensures.slot (c.at-sensor.ensures c.args.name.now has)
+    (lose_told old new c.args.name.now c.in-Some.slot c.slot.result c.at-sensor.result.now c.at-sensor-2.result.now c.lost.new.self c.slot.ensures.sensor
+    c.in-Some.is c.slot.ensures.slot (c.at-sensor.ensures c.args.name.now has)
     (c.at-sensor-2.ensures c.args.name.now (slot_stays c.self.inside.sensors c.lost.new.self c.args.name.now c.in-Some.slot c.lost.ensures.changes.names has))
     (c.tell_reading.ensures c.at-sensor.result.now c.of-before.ensures) refl refl
     c.lost.ensures.changes _ refl)

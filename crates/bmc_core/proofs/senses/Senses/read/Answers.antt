@@ -29,8 +29,8 @@ returns-in-Ok-clause-notes g c =
     (read_told old new c.args.name.now c.in-Some.slot c.slot.result c.at-sensor.result.now c.at.result.now c.good.new.self c.slot.ensures.sensor c.in-Some.is
     c.slot.ensures.slot (c.at-sensor.ensures c.args.name.now has)
     (c.at.ensures c.args.name.now (slot_stays c.self.inside.sensors c.good.new.self c.args.name.now c.in-Some.slot c.in-Ok.ensures.changes.names has))
-    (c.tell_reading.ensures c.at-sensor.result.now c.of-before.ensures) refl refl _ c.self.inside.ticks (c.in-Ok.ensures.range.0 refl) refl c.in-Ok.ensures.changes
-    c.in-Ok.ensures.takes _ refl))
+    (c.tell_reading.ensures c.at-sensor.result.now c.of-before.ensures) refl refl _ c.self.inside.ticks (c.in-Ok.ensures.range.0 refl) refl
+    c.in-Ok.ensures.changes c.in-Ok.ensures.takes _ refl))
 
 pub returns-in-Err-clause-notes : goal.returns-in-Err-clause-notes
 returns-in-Err-clause-notes g c =
