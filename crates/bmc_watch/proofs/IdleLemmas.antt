@@ -1,7 +1,7 @@
 -- FRUs without hits and channels change nothing that is found, reachable or a board.
 use Rattle.std.proofs.Common.{◌≡◌, ℕ, ◌+◌, List, [], ◌∷◌, ◌++◌, map, length, Bool, true, false, cond, not, ◌==◌, ◌&&◌, ◌||◌, nat_eq, Option}
 use Rattle.std.proofs.Common.{append_assoc, filter_map, subst, arith}
-use Rattle.std.proofs.Common.{refl, ap, ap₂, sym, ◌∙◌, inl}
+use Rattle.std.proofs.Common.{refl, ap, ap₂, sym, ◌∙◌}
 use Rattle.std.specs.Prelude.{slice_get, option_map}
 use Rattle.std.specs.List.{AllByRecursion, list_any, flat_map, range_with_len}
 use Rattle.std.specs.Option.{unwrap_or}
@@ -17,16 +17,16 @@ use Rattle.cfg_json.specs.declared.item.Item.{Item}
 use Rattle.found_set.specs.Marks.{is_marked}
 use Rattle.found_set.specs.Found.{Rule, found_from, found, matched_by, on_buses, is_root, roots, moves_to, opens, is_reached, is_found}
 use Rattle.fru_rows.specs.Idle.{is_idle, busy}
-use Rattle.inventory.specs.Boards.{boards_in, board_places, places_or_none, rules_of, has_board}
+use Rattle.inventory.specs.Boards.{boards_in, board_places, hit_places, places_or_none, rules_of, has_board}
 use Rattle.inventory.specs.Indexes.{kept_of, except, with_boards}
 use Rattle.inventory.specs.Differences.{key_of}
-use Rattle.inventory.specs.Moments.{IsAmong, AreSeenAlike}
+use Rattle.inventory.specs.Moments.{IsAmong}
 use Rattle.inventory.specs.Items.{entry_fields, items, id_eq, items_less, live}
 use Rattle.inventory.specs.Lists.{keys_of, board_list}
 use Rattle.inventory.proofs.BoardLemmas.{pass_all, except_none}
 use Rattle.inventory.proofs.IdsLemmas.{id_itself}
 use Rattle.inventory.proofs.ListLemmas.{filter_none}
-use Rattle.inventory.proofs.MomentsLemmas.{hits_stay}
+use Rattle.inventory.proofs.MomentsLemmas.{places_append, places_one}
 use Rattle.inventory.specs.declared.board.BoardKey.{BoardKey}
 use Rattle.bmc_report.specs.declared.change.Change.{Change}
 use Rattle.bmc_machine.specs.Changes.{changes_between, board_change, item_change}
@@ -81,10 +81,6 @@ module _ (sights others : List Sight)
 
 -- ---- one FRU that shows nothing, among others
 
-alike_self : (reach : ℕ → Bool) (entries : List Entry) → AreSeenAlike reach reach entries
-alike_self reach [] = tt
-alike_self reach (entry ∷ entries) = (refl, alike_self reach entries)
-
 module _ (entry : Entry) (hits : entry.hits ≡ []) (channels : entry.channels ≡ []) where
   shows_none : (config pattern : ℕ) → (entry_sight entry).matched config pattern ≡ false
   shows_none config pattern = ap (λ (hits : List Hit). has_hit hits config pattern) hits
@@ -116,6 +112,27 @@ module _ (entry : Entry) (hits : entry.hits ≡ []) (channels : entry.channels �
       by true rest = ap (λ (later : Bool). test (entry_sight other) || later) rest
       by false rest = rest
 
+  -- the places of hits are those of the others
+  hits_among : (reach : ℕ → Bool) (number : ℕ) (front back : List Entry)
+      → hit_places reach (map entry_sight (front ++ back)) number ≡ hit_places reach (map entry_sight (front ++ entry ∷ back)) number
+  hits_among reach number front back =
+      places_append reach number front back
+      ∙ (ap (λ (places : List Place). hit_places reach (map entry_sight front) number ++ places) (sym without)
+      ∙ sym (places_append reach number front (entry ∷ back)))
+    where
+      rest : List Place
+      rest = hit_places reach (map entry_sight back) number
+
+      no_hit : (is_on : Bool) → (is_on && false) ≡ false
+      no_hit true = refl
+      no_hit false = refl
+
+      without : hit_places reach (map entry_sight (entry ∷ back)) number ≡ rest
+      without =
+          places_one reach number entry back
+          ∙ ap (λ (is : Bool). cond is (entry.place ∷ rest) rest)
+          (ap (λ (has : Bool). reach entry.place.bus && has) (has_no_hit number) ∙ no_hit (reach entry.place.bus))
+
   boards_among : (configs : List Config) (front back : List Entry) (number : ℕ)
       → boards_in configs (map entry_sight (front ++ entry ∷ back)) number ≡ boards_in configs (map entry_sight (front ++ back)) number
   unfolding boards_in board_places
@@ -130,9 +147,7 @@ module _ (entry : Entry) (hits : entry.hits ≡ []) (channels : entry.channels �
       ap₂ (λ (found reach : ℕ → Bool). board_places configs found reach sights number) found reach
       ∙ ap (λ (places : List Place). unwrap_or (option_map (λ (config : Config).
       cond (is_found (rules_of configs) others number) (places_or_none config.probe.match_one places) []) (slice_get configs number)) [])
-      (sym (hits_stay (is_reached (rules_of configs) others) (is_reached (rules_of configs) others) number entry (front ++ back) (front ++ entry ∷ back)
-      (inl (record { front = front; back = back; without = refl; with = refl })) (alike_self (is_reached (rules_of configs) others) (front ++ back))
-      (has_no_hit number)))
+      (sym (hits_among (is_reached (rules_of configs) others) number front back))
 
 -- ---- an idle FRU comes or goes
 

@@ -17,9 +17,10 @@ use Rattle.probe_lang.specs.declared.rows.Entry.{Entry}
 use Rattle.probe_lang.specs.Sights.{Sight, entry_sight, has_config}
 use Rattle.found_set.specs.Found.{on_buses}
 use Rattle.probe_lang.specs.Presents.{unboxed, is_entry_at, are_by_place, with_entry, without_entry}
+use Rattle.found_set.specs.declared.facts.Facts.{Facts}
 use Rattle.inventory.specs.Boards.{hit_places, places_or_none}
-use Rattle.inventory.specs.Differences.{Moment, IsMarkedBy}
-use Rattle.inventory.specs.Moments.{hits_in, found_boards, boards_now, AreSameBut, AreSeenAlike, IsAmong, IsApartBy, IsLone}
+use Rattle.inventory.specs.Differences.{Moment}
+use Rattle.inventory.specs.Moments.{hits_in, found_boards, boards_now, AreAllSeenAlike, AreHitAlike, AreSameBut, AreSeenAlike, IsAmong, IsApartBy, MarksMoved}
 use Rattle.inventory.proofs.BoardLemmas.{and_first, and_second, place_cmp_eq, place_same}
 use Rattle.inventory.proofs.ListLemmas.{all_append, all_map, filter_all, filter_alike}
 
@@ -172,35 +173,27 @@ among_places reach number entry others entries among none =
     ∙ sym (places_append reach number among.front (entry ∷ among.back))
     ∙ ap (λ (them : List Entry). hit_places reach (map entry_sight them) number) (sym among.with)
 
-pub hits_stay : (reach reach_after : ℕ → Bool) (number : ℕ) (entry : Entry) (before after : List Entry) → IsApartBy entry before after
-    → AreSeenAlike reach reach_after before → has_config entry.hits number ≡ false
+-- the places of the hits of a configuration, where no entry that has one is seen otherwise
+hit_alike_places : (reach reach_after : ℕ → Bool) (number : ℕ) (entries : List Entry) → AreHitAlike reach reach_after number entries
+    → hit_places reach (map entry_sight entries) number ≡ hit_places reach_after (map entry_sight entries) number
+hit_alike_places reach reach_after number [] alike = refl
+hit_alike_places reach reach_after number (entry ∷ entries) alike =
+    places_one reach number entry entries
+    ∙ (ap₂ (λ (is : Bool) (places : List Place). cond is (entry.place ∷ places) places) alike.0
+    (hit_alike_places reach reach_after number entries alike.1)
+    ∙ sym (places_one reach_after number entry entries))
+
+hits_stay : (reach reach_after : ℕ → Bool) (number : ℕ) (entry : Entry) (before after : List Entry) → IsApartBy entry before after
+    → AreHitAlike reach reach_after number before → has_config entry.hits number ≡ false
     → hit_places reach (map entry_sight before) number ≡ hit_places reach_after (map entry_sight after) number
 hits_stay reach reach_after number entry before after apart alike none =
-    alike_places reach reach_after number before alike ∙ elim apart [
+    hit_alike_places reach reach_after number before alike ∙ elim apart [
       | inl comes ↦ among_places reach_after number entry before after comes none
       | inr goes ↦ sym (among_places reach_after number entry after before goes none)
     ]
 
-not_true : (answer : Bool) → not answer ≡ true → answer ≡ false
-not_true true is = absurd (cc)
-not_true false is = refl
-
--- a configuration that the entry has no hit of, and that is found at both moments or at neither, has the same boards
-pub same_boards : (entry : Entry) (before after : Moment) (found reach found_after reach_after : ℕ → Bool) (number : ℕ) (one other has match_one : Bool)
-    → IsLone entry before after
-    → number < 256 → IsMarkedBy before.facts found reach → IsMarkedBy after.facts found_after reach_after
-    → one ≡ is_marked before.facts.found number → other ≡ is_marked after.facts.found number → beq one other ≡ true
-    → has ≡ has_config entry.hits number → not has ≡ true
-    → boards_now match_one found reach before number ≡ boards_now match_one found_after reach_after after number
-same_boards entry before after found reach found_after reach_after number one other has match_one lone small marked marked_after first second same hit none =
-    let is_found : found number ≡ found_after number = sym (marked.found number small) ∙ sym first ∙ same_answer one other (ap not same) ∙ second
-    ∙ marked_after.found number small in
-    ap₂ (λ (is : Bool) (places : List Place). cond is (places_or_none match_one places) []) is_found
-    (hits_stay reach reach_after number entry before.entries after.entries lone.apart (lone.alike reach reach_after marked.reach marked_after.reach)
-    (sym hit ∙ not_true has none))
-
--- a configuration that is not marked
-unmarked : (one other has : Bool) → (not (beq one other) || has) ≡ false → (beq one other ≡ true) × (not has ≡ true)
+-- a configuration that is not marked is found at both moments or at neither, and the entry has no hit of it
+unmarked : (one other has : Bool) → (not (beq one other) || has) ≡ false → (one ≡ other) × (has ≡ false)
 unmarked true true true none = absurd (cc)
 unmarked true true false none = (refl, refl)
 unmarked true false has none = absurd (cc)
@@ -208,16 +201,91 @@ unmarked false true has none = absurd (cc)
 unmarked false false true none = absurd (cc)
 unmarked false false false none = (refl, refl)
 
-pub same_unmarked : (entry : Entry) (before after : Moment) (old new : List Bool) → IsLone entry before after
+-- so it has the same boards, where no entry that has a hit of it is seen otherwise
+pub same_unmarked : (entry : Entry) (before after : Moment) (old touched new : List Bool) → IsApartBy entry before.entries after.entries
     → AreMarked old (λ config. not (beq (is_marked before.facts.found config) (is_marked after.facts.found config)))
-    → AreMarked new (λ config. is_marked old config || has_config entry.hits config) → AreSameBut new before after
-same_unmarked entry before after old new lone apart touched = λ number small none found reach found_after reach_after marked marked_after match_one.
-    let one = is_marked before.facts.found number in
-    let other = is_marked after.facts.found number in
+    → AreMarked touched (λ config. is_marked old config || has_config entry.hits config)
+    → MarksMoved touched new before.facts after.facts before.entries → AreSameBut new before after
+same_unmarked entry before after old touched new apart differ touches moves =
+    λ number small none found reach found_after reach_after marked marked_after match_one.
+    let moved = moves number small none in
     let has = has_config entry.hits number in
-    let both = unmarked one other has (sym (touched number small ∙ ap (λ (b : Bool). b || has) (apart number small)) ∙ none) in
-    same_boards entry before after found reach found_after reach_after number one other has match_one lone small marked marked_after refl refl both.0 refl
-    both.1
+    let both = unmarked (is_marked before.facts.found number) (is_marked after.facts.found number) has
+    (sym (touches number small ∙ ap (λ (b : Bool). b || has) (differ number small)) ∙ moved.0) in
+    let is_found : found number ≡ found_after number = sym (marked.found number small) ∙ (both.0 ∙ marked_after.found number small) in
+    ap₂ (λ (is : Bool) (places : List Place). cond is (places_or_none match_one places) []) is_found
+    (hits_stay reach reach_after number entry before.entries after.entries apart (moved.1 reach reach_after marked.reach marked_after.reach) both.1)
+
+-- ---- entries that are seen otherwise
+
+-- where all are seen alike, none is
+alike_hits : (reach reach_after : ℕ → Bool) (number : ℕ) (entries : List Entry) → AreSeenAlike reach reach_after entries
+    → AreHitAlike reach reach_after number entries
+alike_hits reach reach_after number [] alike = tt
+alike_hits reach reach_after number (entry ∷ entries) alike =
+    (ap (λ (is : Bool). is && has_config entry.hits number) alike.0, alike_hits reach reach_after number entries alike.1)
+
+pub none_moved : (before after : Moment) (marks : List Bool) → AreAllSeenAlike before after → MarksMoved marks marks before.facts after.facts before.entries
+none_moved before after marks alike = λ number small none. (
+  none,
+  λ reach reach_after marked marked_after. alike_hits reach reach_after number before.entries (alike reach reach_after marked marked_after),
+)
+
+pub no_entries : (marks : List Bool) (facts facts_after : Facts) → MarksMoved marks marks facts facts_after []
+no_entries marks facts facts_after = λ number small none. (none, λ reach reach_after marked marked_after. tt)
+
+-- one entry, whose bus is reachable in both cases or in neither
+pub one_alike : (marks : List Bool) (facts facts_after : Facts) (entry : Entry)
+    → ((reach reach_after : ℕ → Bool) → AreMarked facts.reach reach → AreMarked facts_after.reach reach_after
+    → reach entry.place.bus ≡ reach_after entry.place.bus)
+    → MarksMoved marks marks facts facts_after (entry ∷ [])
+one_alike marks facts facts_after entry alike = λ number small none. (
+  none,
+  λ reach reach_after marked marked_after.
+      (ap (λ (is : Bool). is && has_config entry.hits number) (alike reach reach_after marked marked_after), tt),
+)
+
+-- and one whose hits are marked
+pub one_marked : (old new : List Bool) (facts facts_after : Facts) (entry : Entry)
+    → AreMarked new (λ number. is_marked old number || has_config entry.hits number) → MarksMoved old new facts facts_after (entry ∷ [])
+one_marked old new facts facts_after entry touches = λ number small none.
+    let both = neither (is_marked old number) (has_config entry.hits number) (sym (touches number small) ∙ none) in (
+      both.0,
+      λ reach reach_after marked marked_after. (
+        ap (λ (has : Bool). reach entry.place.bus && has) both.1 ∙ no_hits (reach entry.place.bus) (reach_after entry.place.bus)
+            ∙ sym (ap (λ (has : Bool). reach_after entry.place.bus && has) both.1),
+        tt,
+      ),
+    )
+  where
+    neither : (one other : Bool) → (one || other) ≡ false → (one ≡ false) × (other ≡ false)
+    neither true other none = absurd (cc)
+    neither false other none = (refl, none)
+
+    no_hits : (one other : Bool) → (one && false) ≡ (other && false)
+    no_hits true true = refl
+    no_hits true false = refl
+    no_hits false true = refl
+    no_hits false false = refl
+
+-- some entries and then others
+pub moved_both : (old mid new : List Bool) (facts facts_after : Facts) (front back : List Entry) → MarksMoved old mid facts facts_after front
+    → MarksMoved mid new facts facts_after back → MarksMoved old new facts facts_after (front ++ back)
+moved_both old mid new facts facts_after front back first second = λ number small none.
+    let later = second number small none in
+    let before = first number small later.0 in (
+      before.0,
+      λ reach reach_after marked marked_after.
+          all_append (λ (each : Entry). (reach each.place.bus && has_config each.hits number) ≡ (reach_after each.place.bus && has_config each.hits number))
+          front back (before.1 reach reach_after marked marked_after) (later.1 reach reach_after marked marked_after),
+    )
+
+pub moved_more : (old mid new : List Bool) (facts facts_after : Facts) (boxes : List (Box Entry)) (i : ℕ) (box : Box Entry) (entry : Entry)
+    → i < length boxes → box ≡ get_or boxes i box → entry ≡ box.value → MarksMoved old mid facts facts_after (unboxed (take i boxes))
+    → MarksMoved mid new facts facts_after (entry ∷ []) → MarksMoved old new facts facts_after (unboxed (take (i + 1) boxes))
+moved_more old mid new facts facts_after boxes i box entry within is holds before now =
+    subst (MarksMoved old new facts facts_after) (sym (unboxed_more boxes i box entry within is holds))
+    (moved_both old mid new facts facts_after (unboxed (take i boxes)) (entry ∷ []) before now)
 
 -- a configuration that is found has these boards
 pub boards_found : (match_one : Bool) (found reach : ℕ → Bool) (moment : Moment) (number : ℕ) → found number ≡ true

@@ -1,5 +1,5 @@
 -- The entries of a moment, and the boards of one configuration.
-use Rattle.std.specs.Prelude.{ℕ, ◌≡◌, ◌<◌, Bool, false, IsTrue, ⊤, ◌⊎◌, if◌then◌else◌, List, [], ◌∷◌, ◌++◌, map, Option, Some, None}
+use Rattle.std.specs.Prelude.{ℕ, ◌≡◌, ◌<◌, ◌&&◌, Bool, false, IsTrue, ⊤, ◌⊎◌, if◌then◌else◌, List, [], ◌∷◌, ◌++◌, map, Option, Some, None}
 use Rattle.std.specs.List.{AllByRecursion}
 use Rattle.std.specs.List.Sorted.{IsStrictlySortedBy}
 use Rattle.std.specs.Option.{option_eq, option_cmp}
@@ -7,8 +7,9 @@ use Rattle.found_set.specs.Marks.{is_marked, mark_count, AreMarked}
 use Rattle.std.specs.Ordering.{is_lt}
 use Rattle.bmc_base.specs.Places.{Place, place_cmp, place_eq}
 use Rattle.probe_lang.specs.declared.rows.Entry.{Entry}
-use Rattle.probe_lang.specs.Sights.{entry_sight}
+use Rattle.probe_lang.specs.Sights.{entry_sight, has_config}
 use Rattle.cfg_json.specs.Configs.{Config}
+use Rattle.found_set.specs.declared.facts.Facts.{Facts}
 use Rattle.inventory.specs.Boards.{has_board, hit_places, places_or_none}
 use Rattle.inventory.specs.Indexes.{except}
 use Rattle.inventory.specs.Differences.{Moment, IsMarkedBy, key_of}
@@ -55,6 +56,19 @@ abbrev pub AreAllSeenAlike : Moment → Moment → Type 0
 AreAllSeenAlike moment other =
     (reach reach_other : ℕ → Bool) → AreMarked moment.facts.reach reach → AreMarked other.facts.reach reach_other
     → AreSeenAlike reach reach_other moment.entries
+
+-- each entry is on a bus of which both tests say the same, or has no hit of a configuration
+abbrev pub AreHitAlike : (ℕ → Bool) → (ℕ → Bool) → ℕ → List Entry → Type 0
+AreHitAlike reach reach_after number entries =
+    AllByRecursion (λ (entry : Entry). (reach entry.place.bus && has_config entry.hits number)
+    ≡ (reach_after entry.place.bus && has_config entry.hits number)) entries
+
+-- a configuration that is not marked was not marked before, and no entry has a hit of it whose bus is reachable in one of both cases alone
+abbrev pub MarksMoved : List Bool → List Bool → Facts → Facts → List Entry → Type 0
+MarksMoved old new facts facts_after entries =
+    (number : ℕ) → number < mark_count → is_marked new number ≡ false
+    → (is_marked old number ≡ false) × ((reach reach_after : ℕ → Bool) → AreMarked facts.reach reach → AreMarked facts_after.reach reach_after
+    → AreHitAlike reach reach_after number entries)
 
 -- this entry alone comes or goes, and each other is seen as before
 pub record IsLone (entry : Entry) (before after : Moment) : Type 0 where

@@ -59,17 +59,24 @@ fn lone_change<'e>(changed: &'e Entry, before: &Moment<'_>, after: &Moment<'_>) 
     }
 }
 
-// Marks the configurations whose boards may differ. Each other is found at both moments or at neither, and what changed
-// has no hit of it.
-fn configs_apart(changed: Option<&Entry>, before: &Moment<'_>, after: &Moment<'_>) -> Marks
-    requires { IsLoneIf (option_map (λ entry. entry.now) changed) before.now after.now }
+// Marks the configurations whose boards may differ where this FRU comes or goes, and each other one is seen as before or not.
+// What is not marked is found at both moments or at neither, and no FRU that comes, goes, or is seen otherwise has a hit of it.
+fn configs_apart(
+    changed: &Entry,
+    lone: Option<&Entry>,
+    before: &Moment<'_>,
+    after: &Moment<'_>,
+) -> Marks
+    requires apart { IsApartBy changed.now before.now.entries after.now.entries }
+    requires lone { IsLoneIf (option_map (λ entry. entry.now) lone) before.now after.now }
     ensures { AreSameBut result before.now after.now }
 {
-    let Some(entry) = changed else {
-        return Marks::all();
-    };
     let mut apart = before.found_apart(after);
-    mark_touched(&mut apart, entry.hits.as_slice());
+    mark_touched(&mut apart, changed.hits.as_slice());
+    match lone {
+        Some(_) => {}
+        None => before.mark_moved(&mut apart, after),
+    }
     apart
 }
 
@@ -153,16 +160,19 @@ fn push_config(
     Ok(())
 }
 
-// Appends the keys of the boards of each configuration that go and of those that come.
+// Appends the keys of the boards of each configuration that is marked that go, and of those that come. Each other one has the
+// same boards at both moments.
 fn push_shelf<L: Ledger>(
     alloc: Global,
     comparison: &mut Comparison,
     shelf: &Shelf<L>,
     changed: Option<&Entry>,
+    apart: &Marks,
     before: &Moment<'_>,
     after: &Moment<'_>,
 ) -> Result<(), OutOfMemory>
     requires few { length shelf.now ≤ 256 }
+    requires apart { AreSameBut apart.now before.now after.now }
     requires changed { IsLoneIf (option_map (λ entry. entry.now) changed) before.now after.now }
     ensures gone { (found reach found_after reach_after : ℕ → Bool) → IsMarkedBy before.now.facts found reach
         → IsMarkedBy after.now.facts found_after reach_after → OnOk result (comparison.new.gone ≡ comparison.old.gone ++ keys_left (length shelf.now)
@@ -171,7 +181,6 @@ fn push_shelf<L: Ledger>(
         → IsMarkedBy after.now.facts found_after reach_after → OnOk result (comparison.new.come ≡ comparison.old.come ++ keys_left (length shelf.now)
         (boards_at shelf.now found_after reach_after after.now) (boards_at shelf.now found reach before.now)) }
 {
-    let apart = configs_apart(changed, before, after);
     for number in 0..shelf.len() {
         if !apart.has(number) {
             continue;
@@ -231,14 +240,16 @@ pub fn difference<L: Ledger>(
         × (d.new_boards ≡ keys_left (length all) (boards_at all found_after reach_after after.now) (boards_at shelf.now found reach before.now))) }
 {
     let mut comparison = Comparison::new(alloc);
-    push_shelf(alloc, &mut comparison, shelf, None, before, after)?;
+    let apart = Marks::all();
+    push_shelf(alloc, &mut comparison, shelf, None, &apart, before, after)?;
     push_plus(alloc, &mut comparison, shelf.len() as u32, plus, after)?;
     Ok(comparison.into_difference())
 }
 
 /// Finds the boards that go and those that come where one FRU alone comes or goes, and with it perhaps what is
-/// found and reachable. It is faster than [`difference`] where each other FRU is seen as before: a configuration that
-/// is found as before is looked at only if the FRU has a hit of it, and no list of its boards is made.
+/// found and reachable. It is faster than [`difference`]: a configuration that is found as before is looked at only if the
+/// FRU has a hit of it, or another FRU that is seen otherwise has. Where each other FRU is seen as before, no list of its boards
+/// is made.
 pub fn difference_by<L: Ledger>(
     alloc: Global,
     shelf: &Shelf<L>,
@@ -256,6 +267,7 @@ pub fn difference_by<L: Ledger>(
     // a shelf has at most 256 configurations
     let _count = shelf.len();
     let lone = lone_change(changed, before, after);
-    push_shelf(alloc, &mut comparison, shelf, lone, before, after)?;
+    let apart = configs_apart(changed, lone, before, after);
+    push_shelf(alloc, &mut comparison, shelf, lone, &apart, before, after)?;
     Ok(comparison.into_difference())
 }

@@ -3,10 +3,10 @@ ghost use Rattle.found_set.specs.Marks.{AreMarked};
 ghost use Rattle.probe_lang.specs.Sights.{entry_sight, has_config};
 ghost use Rattle.inventory.specs.Boards.{hit_places};
 ghost use Rattle.probe_lang.specs.Presents.{unboxed};
-ghost use Rattle.inventory.specs.Moments.{hits_in, AreSeenAlike};
+ghost use Rattle.inventory.specs.Moments.{hits_in, AreSeenAlike, MarksMoved};
 
 use bmc_base::{OutOfMemory, Place};
-use found_set::Facts;
+use found_set::{Facts, Marks, mark_touched};
 use probe_lang::Entry;
 
 /// Whether a FRU is on a reachable bus and a pattern of this configuration matches it.
@@ -71,6 +71,25 @@ fn tell_alike(entries: &[Box<Entry>], facts: &Facts, facts_after: &Facts)
 {
     for entry in entries {
         let _bus = entry.place.bus();
+    }
+}
+
+// Marks each configuration of which a FRU has a hit, if its bus is reachable in one of both cases alone.
+fn mark_if_moved(marks: &mut Marks, entry: &Entry, facts: &Facts, facts_after: &Facts)
+    ensures { MarksMoved marks.old marks.new facts.now facts_after.now (entry.now ∷ []) }
+{
+    let bus = entry.place.bus();
+    if facts.reach(bus) != facts_after.reach(bus) {
+        mark_touched(marks, entry.hits.as_slice());
+    }
+}
+
+/// Marks each configuration of which a FRU has a hit that is on a bus which is reachable in one of both cases alone.
+pub fn mark_moved(marks: &mut Marks, entries: &[Box<Entry>], facts: &Facts, facts_after: &Facts)
+    ensures { MarksMoved marks.old marks.new facts.now facts_after.now (unboxed entries.now) }
+{
+    for entry in entries {
+        mark_if_moved(marks, entry, facts, facts_after);
     }
 }
 

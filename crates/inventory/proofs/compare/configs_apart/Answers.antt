@@ -1,18 +1,26 @@
-use Rattle.std.proofs.Common.{◌∙◌, ◌||◌, List, ap, sym, subst, true≢false, option_map}
+use Rattle.std.proofs.Common.{◌∙◌, ◌||◌, List, ap, subst, option_map}
 use Rattle.probe_lang.specs.declared.rows.Hit.{Hit}
 use Rattle.probe_lang.specs.Sights.{has_config}
 use Rattle.found_set.specs.Marks.{is_marked}
 use Rattle.inventory.specs.Moments.{IsLone, IsLoneIf}
-use Rattle.inventory.proofs.MomentsLemmas.{same_unmarked}
+use Rattle.inventory.proofs.MomentsLemmas.{none_moved, same_unmarked}
 use Rattle.inventory.proofs.compare.configs_apart.Goals as goal
 
-pub returns : goal.returns
-returns c =
-    let lone : IsLone c.in-Some.entry.now c.args.before.now c.args.after.now =
-    subst (λ entry. IsLoneIf (option_map (λ entry. entry.now) entry) c.args.before.now c.args.after.now) c.in-Some.is c.requires in
-    same_unmarked c.in-Some.entry.now c.args.before.now c.args.after.now _ _ lone c.found_apart-apart.ensures
+-- each other FRU is seen as before
+pub returns-in-Some : goal.returns-in-Some
+returns-in-Some c =
+    let before = c.args.before.now in
+    let after = c.args.after.now in
+    let lone : IsLone _ before after = subst (λ lone. IsLoneIf (option_map (λ entry. entry.now) lone) before after) c.in-Some.is c.requires.lone in
+    same_unmarked c.args.changed.now before after _ _ _ c.requires.apart c.found_apart-apart.ensures
     (λ number small. c.mark_touched.ensures number small
     ∙ ap (λ (hits : List Hit). is_marked c.found_apart-apart.result number || has_config hits number) c.as_slice.ensures)
+    (none_moved before after _ lone.alike)
 
-pub returns-in_default : goal.returns-in_default
-returns-in_default c = λ number small none. absurd (true≢false (sym (c.all.ensures number small) ∙ none))
+-- or not
+pub returns-in-None : goal.returns-in-None
+returns-in-None c =
+    same_unmarked c.args.changed.now c.args.before.now c.args.after.now _ _ _ c.requires.apart c.found_apart-apart.ensures
+    (λ number small. c.mark_touched.ensures number small
+    ∙ ap (λ (hits : List Hit). is_marked c.found_apart-apart.result number || has_config hits number) c.as_slice.ensures)
+    c.mark_moved.ensures

@@ -1,8 +1,12 @@
-use Rattle.std.proofs.Common.{◌∙◌, ◌++◌, Option, option_map, ap}
+use Rattle.std.proofs.Common.{◌∙◌, ◌++◌, Option, option_map, ap, sym, true≢false}
 use Rattle.cfg_json.specs.Configs.{Config}
 use Rattle.inventory.specs.Moments.{plus_keys}
 use Rattle.inventory.proofs.DifferencesLemmas.{from_none, gone_all, come_all}
 use Rattle.inventory.proofs.compare.difference.Goals as goal
+
+-- each configuration is marked
+pub push_shelf-requires-clause-apart : goal.push_shelf-requires-clause-apart
+push_shelf-requires-clause-apart g c = λ number small none. absurd (true≢false (sym (c.all-apart.ensures number small) ∙ none))
 
 pub returns : goal.returns
 returns g c =
