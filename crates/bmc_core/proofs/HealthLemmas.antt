@@ -38,6 +38,14 @@ true_aged slots held known.Unasked is = tt
 true_aged slots held known.Bad is = tt
 true_aged slots held (known.GoodUntil last) is = λ later le. bad_aged slots later held ∙ is later le
 
+-- it stays true where inputs are bad at the same ticks
+pub true_alike : (before now : List (Option Sensor)) (held : List Held) (health : InputHealth)
+    → ((later : ℕ) → has_bad_input_now now later held ≡ has_bad_input_now before later held) → IsTrueOf before held health → IsTrueOf now held health
+true_alike before now held known.Unknown alike is = tt
+true_alike before now held known.Unasked alike is = tt
+true_alike before now held known.Bad alike is = tt
+true_alike before now held (known.GoodUntil last) alike is = λ later le. alike later ∙ is later le
+
 -- ---- a good reading
 
 -- a sensor that was read is not stale as long as its timeout is

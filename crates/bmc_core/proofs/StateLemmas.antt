@@ -1,7 +1,8 @@
 -- What each act leaves of a state: what it leaves of the senses, and of the zones.
 use Rattle.std.proofs.Common.{◌≡◌, ◌≤◌, ◌∙◌, ℕ, List, ◌∷◌, ◌||◌, Bool, true, false, Ok, Err, refl, ap, ap₂, sym, subst, arith, length, inl, inr}
-use Rattle.std.proofs.Common.{[], bytes_eq, map, true≢false}
+use Rattle.std.proofs.Common.{[], bytes_eq, map, true≢false, Option, Some, None, option_and_then, slice_index_or}
 use Rattle.std.specs.Prelude.{⊤, Result}
+use mathlib.Core.List.{map-map}
 use Rattle.std.specs.List.{All, AllByRecursion, list_any}
 use Rattle.cfg_json.specs.Configs.{IsValidConfig}
 use Rattle.cfg_json.specs.declared.item.Item.{Item}
@@ -10,11 +11,16 @@ use Rattle.inventory.proofs.ListLemmas.{all_any}
 use Rattle.bmc_report.specs.declared.change.Change.{Change}
 use Rattle.bmc_report.specs.declared.refusal.Refusal.{Refusal}
 use Rattle.live_sensors.specs.Items.{has_sensor}
-use Rattle.live_sensors.specs.Sensors.{LiveSensors}
-use Rattle.fan_zone.specs.IsSets.{IsSet}
+use Rattle.live_sensors.specs.Sensors.{LiveSensors, sensor_in, slot_of}
+use Rattle.sensor_core.specs.Sensors.{Sensor}
+use Rattle.ctl_face.specs.Seen.{Seen}
+use Rattle.fan_zone.specs.Inputs.{has_bad, has_bad_input, sensor_of}
+use Rattle.fan_zone.specs.IsSets.{IsSet, Paired}
 use Rattle.fan_zone.specs.Live.{LiveControl, LiveZone, controls, fans, zones}
 use Rattle.fan_zone.specs.Sets.{held_of, seat_of}
 use Rattle.fan_zone.specs.declared.held.Held.{Held}
+use Rattle.fan_zone.specs.declared.rows.ZoneRow.{ZoneRow}
+use Rattle.fan_zone.specs.Steady.{has_bad_input_now}
 use Rattle.fan_zone.specs.Settings.{CanSet, HasZone}
 use Rattle.fan_zone.specs.Ticks.{ZonesView}
 use Rattle.fan_zone.proofs.ActsLemmas.{controls_acting, fans_acting, length_acting, zones_acting}
@@ -23,6 +29,7 @@ use Rattle.bmc_machine.specs.Banks.{AreFit, HasBank}
 use Rattle.bmc_machine.specs.Histories.{Step, Start, Configure, Plug, RefusedPlug, Unplug, Read, Lose, Tick, asks_strict, is_idle_step, is_strict, is_tick}
 use Rattle.bmc_machine.specs.Changes.{concerns_zones}
 use Rattle.bmc_machine.specs.Indexes.{live_now}
+use Rattle.bmc_machine.specs.Lives.{IsNoOutcome}
 use Rattle.bmc_machine.specs.Zones.{Holds, ZonesStand}
 use Rattle.bmc_machine.proofs.BankLemmas.{bank_kept_by_set, can_set}
 use Rattle.bmc_machine.proofs.FitLemmas.{fit, fit_alike}
@@ -30,15 +37,19 @@ use Rattle.bmc_machine.specs.Turns.{zone_now}
 use Rattle.bmc_machine.proofs.LiveItemLemmas.{placed}
 use Rattle.bmc_machine.proofs.LiveLimitLemmas.{few_controls, few_fans, few_zones}
 use Rattle.bmc_machine.proofs.SettingLemmas.{zones_set}
-use Rattle.bmc_machine.proofs.StillLemmas.{acting_stays, inputs_stay, told_apart}
+use Rattle.bmc_machine.proofs.SettledLemmas.{sensor_kept}
+use Rattle.bmc_machine.proofs.StillLemmas.{AreApart, HasAlikeInputs, acting_stays, inputs_have, inputs_stay, told_apart}
 use Rattle.bmc_machine.proofs.WaitingLemmas.{KeepsInputs, paired_with, zones_stay, zones_wait}
 use Rattle.bmc_watch.specs.Watches.{WatchView, view_items}
 use Rattle.bmc_watch.proofs.WatchesLemmas.{live_is}
 use Rattle.bmc_core.specs.Acting.{AreRenewed, MayStay, acting, most_acting}
 use Rattle.bmc_core.specs.Acts.{StateApplies, Notes, TakesMemory}
+use Rattle.bmc_core.specs.Health.{IsTrueOf, health_after_event}
 use Rattle.bmc_core.specs.States.{StateView, IsState, StateStands}
 use Rattle.bmc_core.specs.Senses.{KeepsSlots, SensesStand, SensesView}
 use Rattle.bmc_core.specs.declared.fault.CoreFault.{CoreFault}
+use Rattle.bmc_core.specs.declared.input_health.InputHealth.{InputHealth}
+use Rattle.bmc_core.proofs.HealthLemmas.{true_alike}
 use Rattle.bmc_core.specs.declared.fault.CoreFault.TheVariants.{Refused, OutOfMemory}
 
 -- ---- what a step leaves of strictness, and of zones that wait
@@ -100,6 +111,11 @@ zones_refused view sensors now past Tick refusal names stands = zones_same view 
 names_left : (old new : SensesView) (step : Step) (fault : CoreFault) → Notes old step (Err fault) new → new.sensors.names ≡ old.sensors.names
 names_left old new step (Refused refusal) notes = ap (λ (senses : SensesView). senses.sensors.names) notes.left
 names_left old new step OutOfMemory notes = notes.left.1.sensors.names
+
+-- and so do the sensors in them
+pub slots_left : (old new : SensesView) (step : Step) (fault : CoreFault) → Notes old step (Err fault) new → new.sensors.slots ≡ old.sensors.slots
+slots_left old new step (Refused refusal) notes = ap (λ (senses : SensesView). senses.sensors.slots) notes.left
+slots_left old new step OutOfMemory notes = notes.left.1.sensors.slots
 
 -- an act that is not done leaves the zones
 pub not_done : (old new : StateView) (step : Step) (fault : CoreFault) → Notes old.senses step (Err fault) new.senses → new.zones ≡ old.zones
@@ -163,6 +179,33 @@ no_controls past none = by (controls (live_now past)) (placed past)
         let has : list_any (λ (zone : LiveZone). bytes_eq zone.name control.item.zone) (zones (live_now past)) ≡ true = all 0 control (omega arith) in
         absurd (true≢false (sym has ∙ ap (list_any (λ (zone : LiveZone). bytes_eq zone.name control.item.zone)) none))
 
+-- ---- what controllers see of their inputs
+
+-- the sensor in the slot of a name is that of the name
+in_slot : (sensors : LiveSensors) (name : List ℕ) → sensor_of sensors.slots (slot_of sensors name) ≡ sensor_in sensors name
+in_slot sensors name = of (slot_of sensors name)
+  where
+    of : (slot : Option ℕ) → sensor_of sensors.slots slot ≡ option_and_then (λ (n : ℕ). slice_index_or sensors.slots n None) slot
+    of None = refl
+    of (Some slot) = refl
+
+-- where the inputs of all controllers have the sensors that they had, they are bad at the same ticks
+held_see : (rows : List ZoneRow) (sensors : LiveSensors) (bank : List Seen) (past : List Step) (before now : List (Option Sensor)) (later : ℕ)
+    (controls : List LiveControl) (held : List Held)
+    → AllByRecursion (HasAlikeInputs (λ name. sensor_of now (slot_of sensors name)) (λ name. sensor_of before (slot_of sensors name))) controls
+    → Paired (Holds rows sensors bank past) controls held → has_bad_input_now now later held ≡ has_bad_input_now before later held
+held_see rows sensors bank past before now later [] [] alike holds = refl
+held_see rows sensors bank past before now later [] (one ∷ more) alike holds = absurd holds
+held_see rows sensors bank past before now later (control ∷ controls) [] alike holds = absurd holds
+held_see rows sensors bank past before now later (control ∷ controls) (one ∷ more) alike holds =
+    let inputs : one.inputs ≡ map (slot_of sensors) control.item.inputs = ap (λ (it : Held). it.inputs) holds.0.names in
+    let seen : map (sensor_of now) (map (slot_of sensors) control.item.inputs) ≡ map (sensor_of before) (map (slot_of sensors) control.item.inputs) =
+    map-map (sensor_of now) (slot_of sensors) control.item.inputs
+    ∙ (alike.0 ∙ sym (map-map (sensor_of before) (slot_of sensors) control.item.inputs)) in
+    ap₂ (λ (bad others : Bool). bad || others)
+    (ap (has_bad_input now later) inputs ∙ (ap (has_bad later) seen ∙ sym (ap (has_bad_input before later) inputs)))
+    (held_see rows sensors bank past before now later controls more alike.1 holds.1)
+
 -- ---- an event, after which the zones are set to the live items
 
 module _ (old : StateView) (step : Step) (new : SensesView) (still : is_tick step ≡ false) (plain : asks_strict step ≡ false)
@@ -223,19 +266,33 @@ module _ (old : StateView) (step : Step) (new : SensesView) (still : is_tick ste
       zones_set old.zones view old.senses.sensors new.sensors step past those (stands_then past stood).watch.legal still (same_controls past stood)
       (same_zones past stood) (same_fans past stood) stood.zones set
 
+  -- nothing with which zones have to do goes or comes, where the last changes tell of none
+  apart_now : (past : List Step) → StateStands old past → list_any (concerns_zones (live (view_items new.watch))) new.watch.changes ≡ false
+      → AreApart (live_now (step ∷ past)) (live_now past) (live_now (step ∷ past))
+  apart_now past stood none =
+      told_apart (live_now (step ∷ past)) step past
+      (ap₂ (λ (items : List Item) (told : List Change). list_any (concerns_zones items) told) (sym (are_live past stood))
+      (sym (notes.stand past stood.senses).2)
+      ∙ none)
+
+  -- a name keeps its slot where no sensor of the name goes or comes
+  slot_kept : KeepsSlots (Ok tt) old.senses new → (past : List Step) → StateStands old past → (name : List ℕ)
+      → has_sensor name (items_less (live_now past) (live_now (step ∷ past))) ≡ false
+      → has_sensor name (items_less (live_now (step ∷ past)) (live_now past)) ≡ false → slot_of new.sensors name ≡ slot_of old.senses.sensors name
+  slot_kept keeps past stood name gone fresh =
+      let was = live_is old.senses.watch past stood.senses.watch in
+      let is = are_live past stood in
+      keeps name (ap (has_sensor name) (ap₂ items_less was is) ∙ gone) (ap (has_sensor name) (ap₂ items_less is was) ∙ fresh)
+
   -- what acts in zones stays, and so do inputs, where the last changes tell of nothing with which zones have to do
   unasked : KeepsSlots (Ok tt) old.senses new → (past : List Step) → StateStands old past
       → list_any (concerns_zones (live (view_items new.watch))) new.watch.changes ≡ false → ZonesStand old.zones new.sensors (step ∷ past)
   unasked keeps past stood none =
       let then = stands_then past stood in
-      let was = live_is old.senses.watch past stood.senses.watch in
-      let is = are_live past stood in
-      let told = ap₂ (λ (items : List Item) (told : List Change). list_any (concerns_zones items) told) (sym is) (sym (notes.stand past stood.senses).2)
-      ∙ none in
-      let apart = told_apart (live_now (step ∷ past)) step past told in
+      let apart = apart_now past stood none in
       let kept = acting_stays (live_now (step ∷ past)) step past then.watch.legal apart in
       let inputs = inputs_stay old.senses.sensors new.sensors (live_now (step ∷ past)) (live_now past) (live_now (step ∷ past)) apart
-      (λ name gone fresh. keeps name (ap (has_sensor name) (ap₂ items_less was is) ∙ gone) (ap (has_sensor name) (ap₂ items_less is was) ∙ fresh)) in
+      (slot_kept keeps past stood) in
       zones_stay old.zones old.senses.sensors new.sensors step past still kept
       (subst (AllByRecursion (KeepsInputs old.senses.sensors new.sensors))
       (sym (controls_acting (live_now (step ∷ past))) ∙ ap controls kept ∙ controls_acting (live_now past)) inputs)
@@ -258,6 +315,52 @@ module _ (old : StateView) (step : Step) (new : SensesView) (still : is_tick ste
       → ZonesStand old.zones new.sensors (step ∷ past)
   stay_stand keeps past stood (inl none) = unasked keeps past stood none
   stay_stand keeps past stood (inr (empty, none)) = zoneless past stood empty none
+
+  -- a name sees the sensor in its slot as before, where no sensor of the name goes or comes
+  seen_kept : IsNoOutcome step → KeepsSlots (Ok tt) old.senses new → (past : List Step) → StateStands old past → (name : List ℕ)
+      → has_sensor name (items_less (live_now past) (live_now (step ∷ past))) ≡ false
+      → has_sensor name (items_less (live_now (step ∷ past)) (live_now past)) ≡ false
+      → sensor_of new.sensors.slots (slot_of old.senses.sensors name) ≡ sensor_of old.senses.sensors.slots (slot_of old.senses.sensors name)
+  seen_kept watched keeps past stood name gone fresh =
+      let then = stands_then past stood in
+      ap (sensor_of new.sensors.slots) (sym (slot_kept keeps past stood name gone fresh))
+      ∙ (in_slot new.sensors name
+      ∙ (then.sensors name
+      ∙ (sensor_kept past step then.watch.legal watched name gone fresh
+      ∙ (sym (stood.senses.sensors name) ∙ sym (in_slot old.senses.sensors name)))))
+
+  -- and where zones may stay, so do the inputs of all controllers
+  all_seen : IsNoOutcome step → KeepsSlots (Ok tt) old.senses new → (past : List Step) → StateStands old past → MayStay old.zones new.watch
+      → AllByRecursion (HasAlikeInputs (λ name. sensor_of new.sensors.slots (slot_of old.senses.sensors name))
+      (λ name. sensor_of old.senses.sensors.slots (slot_of old.senses.sensors name))) (controls (live_now past))
+  all_seen watched keeps past stood (inl none) =
+      let then = stands_then past stood in
+      let apart = apart_now past stood none in
+      let kept = acting_stays (live_now (step ∷ past)) step past then.watch.legal apart in
+      let seen = inputs_have (λ name. sensor_of new.sensors.slots (slot_of old.senses.sensors name))
+      (λ name. sensor_of old.senses.sensors.slots (slot_of old.senses.sensors name)) (live_now (step ∷ past)) (live_now past) (live_now (step ∷ past)) apart
+      (seen_kept watched keeps past stood) in
+      subst (AllByRecursion (HasAlikeInputs (λ name. sensor_of new.sensors.slots (slot_of old.senses.sensors name))
+      (λ name. sensor_of old.senses.sensors.slots (slot_of old.senses.sensors name))))
+      (sym (controls_acting (live_now (step ∷ past))) ∙ ap controls kept ∙ controls_acting (live_now past)) seen
+  all_seen watched keeps past stood (inr (empty, none)) =
+      subst (AllByRecursion (HasAlikeInputs (λ name. sensor_of new.sensors.slots (slot_of old.senses.sensors name))
+      (λ name. sensor_of old.senses.sensors.slots (slot_of old.senses.sensors name))))
+      (sym (no_controls past (none_mapped (zone_now past) (zones (live_now past)) (sym stood.zones.zone_rows ∙ empty)))) tt
+
+  -- what is known of inputs stays true where the zones were left
+  pub known_after : IsNoOutcome step → KeepsSlots (Ok tt) old.senses new → IsState old → (view : ZonesView) (left : Bool)
+      → (left ≡ true → MayStay old.zones new.watch × (view ≡ old.zones)) → (health : InputHealth)
+      → IsTrueOf old.senses.sensors.slots old.zones.held health → IsTrueOf new.sensors.slots view.held (health_after_event health left)
+  known_after watched keeps state view false left health is = tt
+  known_after watched keeps state view true left health is =
+      let stood = state.stands in
+      subst (λ (zones : ZonesView). IsTrueOf new.sensors.slots zones.held health) (sym (left refl).1)
+      (true_alike old.senses.sensors.slots new.sensors.slots old.zones.held health
+      (λ later.
+      held_see old.zones.zone_rows old.senses.sensors old.zones.bank state.past old.senses.sensors.slots new.sensors.slots later
+      (controls (live_now state.past)) old.zones.held (all_seen watched keeps state.past stood (left refl).0) stood.zones.held)
+      is)
 
   -- then the state stands for the longer history
   pub happened : KeepsSlots (Ok tt) old.senses new → (view : ZonesView) → AreRenewed old.zones new.watch new.sensors view

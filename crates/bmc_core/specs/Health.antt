@@ -29,6 +29,10 @@ health_after_reading (known.GoodUntil last) sensor now = known.GoodUntil (min la
 abbrev pub health_after_loss : InputHealth → Bool → Sensor → InputHealth
 health_after_loss health had_failed sensor = if has_failed sensor && not had_failed then known.Unknown else health
 
+-- what is known after an event behind which zones were left as they are, or not
+abbrev pub health_after_event : InputHealth → Bool → InputHealth
+health_after_event health left = if left then health else known.Unknown
+
 -- whether it is known that none is bad at a tick
 abbrev pub is_good_at : InputHealth → ℕ → Bool
 is_good_at known.Unknown now = false

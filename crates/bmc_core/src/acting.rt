@@ -143,7 +143,7 @@ fn set_zones<L: Ledger, C: Controller>(
 fn same_name(name: &Name, other: &Name) -> bool
     ensures { result ≡ bytes_eq name.now other.now }
 {
-    name == other
+    name.as_str().len() == other.as_str().len() && name == other
 }
 
 // Whether a name is among the names.
@@ -236,18 +236,21 @@ fn must_set<L: Ledger, C: Controller>(zones: &Zones<C>, watch: &Watch<L>) -> boo
 }
 
 /// Sets the zones to the live items that act in zones: the zones, the fans and the controllers, by board and expose. Where by the
-/// last changes zones have nothing to do with the live items that are gone and with those that are new, it leaves them. Takes no
-/// memory: the items are listed on the stack.
+/// last changes zones have nothing to do with the live items that are gone and with those that are new, it leaves them, and returns
+/// true. Takes no memory: the items are listed on the stack.
 pub(crate) fn renew_zones<L: Ledger, C: Controller>(
     zones: &mut Zones<C>,
     watch: &Watch<L>,
     sensors: &LiveSensors,
-)
+) -> bool
     requires few { length (acting (live (view_items watch.now))) ≤ most_acting }
     requires fit { All IsValidConfig watch.now.configs → CanSet zones.old (acting (live (view_items watch.now))) }
-    ensures { AreRenewed zones.old watch.now sensors.now zones.new }
+    ensures renewed { AreRenewed zones.old watch.now sensors.now zones.new }
+    ensures left { result ≡ true → MayStay zones.old watch.now × (zones.new ≡ zones.old) }
 {
     if must_set(zones, watch) {
         set_zones(zones, watch, sensors);
+        return false;
     }
+    true
 }

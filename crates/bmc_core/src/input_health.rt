@@ -1,16 +1,16 @@
 ghost use Rattle.std.specs.Prelude.{◌≡◌};
-ghost use Rattle.bmc_core.specs.Health.{good_until, health_after_reading, health_after_loss, is_good_at, IsTrueOf};
+ghost use Rattle.bmc_core.specs.Health.{good_until, health_after_event, health_after_reading, health_after_loss, is_good_at, IsTrueOf};
 
 use ctl_face::Controller;
 use fan_zone::Zones;
 use sensor_core::{Sensor, SensorTable};
 
-/// What is known of the inputs of all controllers, as long as nothing happens but readings, losses and ticks.
+/// What is known of the inputs of all controllers.
 #[derive(Clone, Copy)]
 pub(crate) enum InputHealth {
-    /// Something else happened since the last tick.
+    /// Since the last tick zones were set, or a loss came with which a sensor failed.
     Unknown,
-    /// Nothing else happened since the last tick, and they were not looked at.
+    /// Neither happened since the last tick, and they were not looked at.
     Unasked,
     /// One of them is bad, and stays so until it is read.
     Bad,
@@ -55,6 +55,14 @@ impl InputHealth {
             self
         }
     }
+
+    /// What is known after an event behind which zones were left as they are, or not. They are left where no sensor went or came that is
+    /// an input.
+    pub(crate) fn after_event(self, left: bool) -> InputHealth
+        ensures { result ≡ health_after_event self left }
+    {
+        if left { self } else { InputHealth::Unknown }
+    }
 }
 
 // The last tick at which a sensor with this timeout is good that is read at tick `now`.
@@ -69,7 +77,7 @@ fn good_until(timeout: u32, now: u64) -> u64
 }
 
 /// What is known after a tick at which it was known, or not, that none of them is bad. They are looked at behind the second tick
-/// since something else happened: where a FRU comes or goes before each tick, that would be in vain.
+/// since zones were set: where they are set before each tick, that would be in vain.
 pub(crate) fn health_after<C: Controller>(
     health: InputHealth,
     good: bool,

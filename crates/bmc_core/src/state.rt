@@ -85,10 +85,10 @@ impl<L: Ledger, C: Controller> State<L, C> {
         ensures applies { StateApplies self.old (Configure config) result self.new }
         ensures counted { IsCounted result self.old.senses (Configure config) steps.old steps.new }
     {
-        self.health = InputHealth::Unknown;
         match self.senses.configure(alloc, config, steps) {
             Ok(()) => {
-                renew_zones(&mut self.zones, self.senses.watch(), self.senses.sensors());
+                let left = renew_zones(&mut self.zones, self.senses.watch(), self.senses.sensors());
+                self.health = self.health.after_event(left);
                 Ok(())
             }
             Err(fault) => Err(fault),
@@ -107,10 +107,10 @@ impl<L: Ledger, C: Controller> State<L, C> {
         ensures applies { StateApplies self.old (Plug place bytes.now) result self.new }
         ensures counted { IsCounted result self.old.senses (Plug place bytes.now) steps.old steps.new }
     {
-        self.health = InputHealth::Unknown;
         match self.senses.plug(alloc, place, bytes, steps) {
             Ok(()) => {
-                renew_zones(&mut self.zones, self.senses.watch(), self.senses.sensors());
+                let left = renew_zones(&mut self.zones, self.senses.watch(), self.senses.sensors());
+                self.health = self.health.after_event(left);
                 Ok(())
             }
             Err(fault) => Err(fault),
@@ -123,10 +123,10 @@ impl<L: Ledger, C: Controller> State<L, C> {
         ensures applies { StateApplies self.old (Unplug place) result self.new }
         ensures counted { IsCounted result self.old.senses (Unplug place) steps.old steps.new }
     {
-        self.health = InputHealth::Unknown;
         match self.senses.unplug(alloc, place, steps) {
             Ok(()) => {
-                renew_zones(&mut self.zones, self.senses.watch(), self.senses.sensors());
+                let left = renew_zones(&mut self.zones, self.senses.watch(), self.senses.sensors());
+                self.health = self.health.after_event(left);
                 Ok(())
             }
             Err(fault) => Err(fault),

@@ -1,6 +1,6 @@
 -- The sensors after a step, from those before it: the ones of items that are gone are dropped, and blank ones are started for new items.
 use Rattle.std.proofs.Common.{◌≡◌, ℕ, List, [], ◌∷◌, Bool, true, false, not, cond, ◌&&◌, Option, Some, None, map, filter, refl, sym, ap, ◌∙◌, is_some}
-use Rattle.std.specs.Prelude.{⊤, bytes_eq, option_and_then}
+use Rattle.std.specs.Prelude.{⊤, ◌||◌, bytes_eq, option_and_then, option_map}
 use Rattle.std.specs.Option.{option_eq, option_or}
 use Rattle.std.specs.List.{AllByRecursion, IsDistinct}
 use Rattle.std.specs.Cmp.Lexicographic.{bytes_decides, nat_list_eq_equiv}
@@ -11,10 +11,11 @@ use Rattle.inventory.specs.declared.family.Family.{Family}
 use Rattle.inventory.specs.declared.family.Family.TheVariants as families
 use Rattle.inventory.specs.Items.{family_of, family_eq, has_name, holder, items_less}
 use Rattle.inventory.proofs.BoardLemmas.{and_first, and_second}
-use Rattle.sensor_core.specs.Sensors.{Sensor}
+use Rattle.sensor_core.specs.Sensors.{Sensor, sensor_of}
+use Rattle.sensor_core.specs.declared.setting.SensorSetting.{SensorSetting}
 use Rattle.bmc_machine.specs.Histories.{Step}
 use Rattle.bmc_machine.specs.Indexes.{live_now}
-use Rattle.live_sensors.specs.Items.{setting_in, dropped_one, dropped, blank_in, started_one, started, settled}
+use Rattle.live_sensors.specs.Items.{setting_in, dropped_one, dropped, blank_in, has_sensor, is_sensor, started_one, started, settled}
 use Rattle.bmc_machine.specs.Lives.{has_id, IsNoOutcome, sensor_now}
 use Rattle.bmc_machine.specs.Names.{is_of, names_of}
 use Rattle.bmc_machine.specs.Refusals.{IsLegal}
@@ -152,6 +153,29 @@ started_is (item ∷ items) name sensor once =
     by true is = ap (blank_or (blank_in item.part)) (none_behind families.Sensor name item items once is)
     by false is = refl
 
+-- the sensor of a name is not dropped with items that are no sensor of the name
+not_dropped : (items : List Item) (name : List ℕ) (sensor : Option Sensor) → has_sensor name items ≡ false → dropped items name sensor ≡ sensor
+not_dropped [] name sensor none = refl
+not_dropped (item ∷ items) name sensor none = by (is_sensor name item) none (not_dropped items name sensor)
+  where
+    by : (is : Bool) → (is || has_sensor name items) ≡ false → (has_sensor name items ≡ false → dropped items name sensor ≡ sensor)
+        → dropped items name (cond is None sensor) ≡ sensor
+    by true none rest = absurd (cc)
+    by false none rest = rest none
+
+-- nor is one started for them
+not_started : (items : List Item) (name : List ℕ) (sensor : Option Sensor) → has_sensor name items ≡ false → started items name sensor ≡ sensor
+not_started [] name sensor none = refl
+not_started (item ∷ items) name sensor none = by (setting_in item.part) (bytes_eq item.name name) none (not_started items name sensor)
+  where
+    by : (setting : Option SensorSetting) (named : Bool) → ((is_some setting && named) || has_sensor name items) ≡ false
+        → (has_sensor name items ≡ false → started items name sensor ≡ sensor)
+        → started items name (cond named (option_or (option_map (λ its. sensor_of its []) setting) sensor) sensor) ≡ sensor
+    by None true none rest = rest none
+    by None false none rest = rest none
+    by (Some its) true none rest = absurd (cc)
+    by (Some its) false none rest = rest none
+
 -- ---- items that are gone and new
 
 -- an item, if its id is not among these
@@ -224,3 +248,11 @@ module _ (past : List Step) (step : Step) (legal : IsLegal (step ∷ past)) (wat
   sensor_settled =
       sym (settled_is (live_now past) (live_now (step ∷ past)) (live_once past (legal_before past step legal)) (live_once (step ∷ past) legal) name
       (sensor_now past name) ∙ of_holder (holder (live_now (step ∷ past)) families.Sensor name) refl)
+
+  -- a name keeps its sensor where no sensor of the name goes or comes
+  pub sensor_kept : has_sensor name (items_less (live_now past) (live_now (step ∷ past))) ≡ false
+      → has_sensor name (items_less (live_now (step ∷ past)) (live_now past)) ≡ false → sensor_now (step ∷ past) name ≡ sensor_now past name
+  sensor_kept gone new =
+      sensor_settled
+      ∙ not_started (items_less (live_now (step ∷ past)) (live_now past)) name _ new
+      ∙ not_dropped (items_less (live_now past) (live_now (step ∷ past))) name (sensor_now past name) gone

@@ -18,7 +18,7 @@ use Rattle.inventory.proofs.ListLemmas.{all_filter, ascending_filter}
 use Rattle.inventory.specs.Orders.{id_cmp}
 use Rattle.live_sensors.specs.Items.{has_sensor, is_sensor}
 use Rattle.live_sensors.specs.Sensors.{LiveSensors, slot_of}
-use Rattle.fan_zone.specs.Live.{acts, controls}
+use Rattle.fan_zone.specs.Live.{LiveControl, acts, controls}
 use Rattle.bmc_machine.specs.Changes.{Inventory, asks_for, boards_left, changes, changes_between, changes_of_sensors, changes_of_zones, concerns_zones}
 use Rattle.bmc_machine.specs.Changes.{inventory, item_change, items_left}
 use Rattle.bmc_machine.specs.Histories.{Step}
@@ -239,25 +239,29 @@ of_all P (name ∷ names) each = (
   of_all P names (λ other is. each other (or_right (bytes_eq other name) (list_any (bytes_eq other) names) is)),
 )
 
-map_of_all : (image other : List ℕ → Option ℕ) (names : List (List ℕ)) → AllByRecursion (λ (name : List ℕ). image name ≡ other name) names
+map_of_all : {X : Type 0} (image other : List ℕ → X) (names : List (List ℕ)) → AllByRecursion (λ (name : List ℕ). image name ≡ other name) names
     → map image names ≡ map other names
 map_of_all image other [] alike = refl
-map_of_all image other (name ∷ names) alike = ap₂ (λ (slot : Option ℕ) (slots : List (Option ℕ)). slot ∷ slots) alike.0 (map_of_all image other names alike.1)
+map_of_all {X} image other (name ∷ names) alike = ap₂ (λ (first : X) (more : List X). first ∷ more) alike.0 (map_of_all image other names alike.1)
 
--- inputs keep their slots where each name that is asked for does
-inputs_keep : (sensors now : LiveSensors) (items : List Item)
-    → ((name : List ℕ) → list_any (λ (item : Item). asks_for name item.part) items ≡ true → slot_of sensors name ≡ slot_of now name)
-    → AllByRecursion (KeepsInputs sensors now) (controls items)
-inputs_keep sensors now [] keeps = tt
-inputs_keep sensors now (item ∷ items) keeps =
-    by item.id item.part (λ name is. keeps name (or_left _ _ is))
-    (inputs_keep sensors now items (λ name is. keeps name (or_right (asks_for name item.part) (list_any (λ (item : Item). asks_for name item.part) items) is)))
+-- what names have is alike for the inputs of a controller
+abbrev pub HasAlikeInputs : {X : Type 0} → (List ℕ → X) → (List ℕ → X) → LiveControl → Type 0
+HasAlikeInputs image other control = map image control.item.inputs ≡ map other control.item.inputs
+
+-- it is for all inputs where it is for each name that is asked for
+inputs_alike : {X : Type 0} (image other : List ℕ → X) (items : List Item)
+    → ((name : List ℕ) → list_any (λ (item : Item). asks_for name item.part) items ≡ true → image name ≡ other name)
+    → AllByRecursion (HasAlikeInputs image other) (controls items)
+inputs_alike image other [] alike = tt
+inputs_alike {X} image other (item ∷ items) alike =
+    by item.id item.part (λ name is. alike name (or_left _ _ is))
+    (inputs_alike image other items (λ name is. alike name (or_right (asks_for name item.part) (list_any (λ (item : Item). asks_for name item.part) items) is)))
   where
-    by : (id : ItemId) (part : ItemPart) → ((name : List ℕ) → asks_for name part ≡ true → slot_of sensors name ≡ slot_of now name)
-        → AllByRecursion (KeepsInputs sensors now) (controls items)
-        → AllByRecursion (KeepsInputs sensors now) (controls (record { id = id; name = item.name; part = part } ∷ items))
+    by : (id : ItemId) (part : ItemPart) → ((name : List ℕ) → asks_for name part ≡ true → image name ≡ other name)
+        → AllByRecursion (HasAlikeInputs image other) (controls items)
+        → AllByRecursion (HasAlikeInputs image other) (controls (record { id = id; name = item.name; part = part } ∷ items))
     by id (parts.Control control) asked later = (
-      map_of_all (slot_of sensors) (slot_of now) control.inputs (of_all (λ (name : List ℕ). slot_of sensors name ≡ slot_of now name) control.inputs asked),
+      map_of_all image other control.inputs (of_all (λ (name : List ℕ). image name ≡ other name) control.inputs asked),
       later,
     )
     by id (parts.Sensor sensor) asked later = later
@@ -266,12 +270,18 @@ inputs_keep sensors now (item ∷ items) keeps =
     by id (parts.Mux part) asked later = later
     by id parts.Passive asked later = later
 
--- where no sensor that goes or comes is asked for, and each other name keeps its slot, inputs do
+-- where no sensor that goes or comes is asked for, inputs have what each other name has
+pub inputs_have : {X : Type 0} (image other : List ℕ → X) (items here there : List Item) → AreApart items here there
+    → ((name : List ℕ) → has_sensor name (items_less here there) ≡ false → has_sensor name (items_less there here) ≡ false → image name ≡ other name)
+    → AllByRecursion (HasAlikeInputs image other) (controls items)
+inputs_have image other items here there apart alike =
+    inputs_alike image other items
+    (λ name asked. alike name (no_sensor items (items_less here there) name apart.gone asked) (no_sensor items (items_less there here) name apart.new asked))
+
+-- and where each other name keeps its slot, inputs do
 pub inputs_stay : (sensors now : LiveSensors) (items here there : List Item) → AreApart items here there
     → ((name : List ℕ) → has_sensor name (items_less here there) ≡ false → has_sensor name (items_less there here) ≡ false
     → slot_of now name ≡ slot_of sensors name)
     → AllByRecursion (KeepsInputs sensors now) (controls items)
 inputs_stay sensors now items here there apart keeps =
-    inputs_keep sensors now items
-    (λ name asked.
-    sym (keeps name (no_sensor items (items_less here there) name apart.gone asked) (no_sensor items (items_less there here) name apart.new asked)))
+    inputs_have (slot_of sensors) (slot_of now) items here there apart (λ name gone new. sym (keeps name gone new))

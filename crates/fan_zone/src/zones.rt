@@ -154,7 +154,7 @@ impl<C: Controller> Zones<C> {
     /// each fan controller steps by the setpoint of its zone; and then each fan shows its duty. In failsafe a fan gets the
     /// zone's FailSafePercent at the least, and in strict mode exactly that. Takes no memory.
     ///
-    /// `good` may be true only where no input is bad at this tick. Then it is not asked of each input again, and at a tick at which no
+    /// `good` may be true only where no input is bad at this tick. Then no step asks whether an input is bad, and at a tick at which no
     /// controller is due zones are left as they are.
     pub fn tick(&mut self, sensors: &SensorTable, now: u64, strict: bool, good: bool)
         requires good { good ≡ true → has_bad_input_now sensors.now.slots now self.old.held ≡ false }
