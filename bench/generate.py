@@ -39,6 +39,9 @@
             sensor. The last zone takes its temperatures from the first
   busy      the zones of ticks; each fourth line lets one tick pass, and the
             others each read a sensor, in an order that jumps about
+  rack      eight zones of ticks beside COUNT FRUs, each with a board with a
+            sensor; of eight lines one unplugs a FRU or plugs it again, one
+            lets one tick pass, and the others each read a sensor of a zone
 
 COUNT is at most 256, and 255 for mux and still, 31 for trays, 32 for ticks and
 busy, 4,096 for readings and lists; left out, it is as many. LINES does not
@@ -56,7 +59,7 @@ from record import board_area, chassis_area, product_area, record
 # Each workload, and the most that COUNT can be: 256 FRUs may be present, in two of them there is one more, and there may
 # be 128 fans, 4,096 sensors and 32 zones.
 WORKLOADS = dict.fromkeys(("plugs", "refused", "comments", "long", "toolong", "records"), 256)
-WORKLOADS |= dict.fromkeys(("present", "boards", "regex", "found", "idle", "under", "risers", "blades"), 256)
+WORKLOADS |= dict.fromkeys(("present", "boards", "regex", "found", "idle", "under", "risers", "blades", "rack"), 256)
 WORKLOADS |= dict.fromkeys(("mux", "still"), 255)
 WORKLOADS |= {"trays": 31, "passive": 256, "readings": 4096, "lists": 4096, "ticks": 32, "busy": 32}
 TEXTS = ["Norrland Systems AB", "Riser, 2 x16", "NSR2404200117", "310-00511-01", "FRU 2.1"]
@@ -289,17 +292,32 @@ def ticks(lines, zones):
         yield f"read Temp {at // 10 % last}.0 {40 + at * 7 % 31}\n" if at % 10 == 9 else "tick 100\n"
 
 
+def zone_reading(at, zones, last):
+    """A line that reads a sensor of such zones, in an order that jumps about."""
+    sensor = at * STEP % (2 * zones + 2 * last)
+    if sensor < 2 * zones:
+        return f"read Tach {sensor // 2}.{sensor % 2} {3 + at * 7 % 5}\n"
+    return f"read Temp {sensor // 2 - zones}.{sensor % 2} {40 + at * 7 % 31}\n"
+
+
 def busy(lines, zones):
     last = max(1, zones - 1)
     yield from regulated(zones, last)
     for at in range(lines):
-        sensor = at * STEP % (2 * zones + 2 * last)
-        if at % 4 == 3:
-            yield "tick 1\n"
-        elif sensor < 2 * zones:
-            yield f"read Tach {sensor // 2}.{sensor % 2} {3 + at * 7 % 5}\n"
+        yield "tick 1\n" if at % 4 == 3 else zone_reading(at, zones, last)
+
+
+def rack(lines, frus):
+    yield from regulated(8, 7)
+    yield config(15, looking_for("PRODUCT_NAME", "Riser"), Exposes=[{"Name": "Blade $index Temp", "Type": "Sensor"}])
+    for number in range(frus):
+        yield f"plug {place(number)} {RECORD}\n"
+    for at in range(lines):
+        where = place(at // 16 * STEP % frus)
+        if at % 8 == 0:
+            yield f"plug {where} {RECORD}\n" if at % 16 else f"unplug {where}\n"
         else:
-            yield f"read Temp {sensor // 2 - zones}.{sensor % 2} {40 + at * 7 % 31}\n"
+            yield "tick 1\n" if at % 8 == 4 else zone_reading(at, 8, 7)
 
 
 def script(workload, lines, count=None):
