@@ -20,7 +20,8 @@ use Rattle.probe_lang.specs.Presents.{unboxed, is_entry_at, are_by_place, with_e
 use Rattle.found_set.specs.declared.facts.Facts.{Facts}
 use Rattle.inventory.specs.Boards.{hit_places, places_or_none}
 use Rattle.inventory.specs.Differences.{Moment}
-use Rattle.inventory.specs.Moments.{hits_in, found_boards, boards_now, AreAllSeenAlike, AreHitAlike, AreSameBut, AreSeenAlike, IsAmong, IsApartBy, MarksMoved}
+use Rattle.inventory.specs.Moments.{hits_in, found_boards, boards_now, AreAllSeenAlike, AreHitAlike, AreSameBut, AreSeenAlike}
+use Rattle.inventory.specs.Moments.{IsAmong, IsApartBy, MarksSeenOtherwise}
 use Rattle.inventory.proofs.BoardLemmas.{and_first, and_second, place_cmp_eq, place_same}
 use Rattle.inventory.proofs.ListLemmas.{all_append, all_map, filter_all, filter_alike}
 
@@ -205,16 +206,16 @@ unmarked false false false none = (refl, refl)
 pub same_unmarked : (entry : Entry) (before after : Moment) (old touched new : List Bool) → IsApartBy entry before.entries after.entries
     → AreMarked old (λ config. not (beq (is_marked before.facts.found config) (is_marked after.facts.found config)))
     → AreMarked touched (λ config. is_marked old config || has_config entry.hits config)
-    → MarksMoved touched new before.facts after.facts before.entries → AreSameBut new before after
-same_unmarked entry before after old touched new apart differ touches moves =
+    → MarksSeenOtherwise touched new before.facts after.facts before.entries → AreSameBut new before after
+same_unmarked entry before after old touched new apart differ touches otherwise =
     λ number small none found reach found_after reach_after marked marked_after match_one.
-    let moved = moves number small none in
+    let other = otherwise number small none in
     let has = has_config entry.hits number in
     let both = unmarked (is_marked before.facts.found number) (is_marked after.facts.found number) has
-    (sym (touches number small ∙ ap (λ (b : Bool). b || has) (differ number small)) ∙ moved.0) in
+    (sym (touches number small ∙ ap (λ (b : Bool). b || has) (differ number small)) ∙ other.0) in
     let is_found : found number ≡ found_after number = sym (marked.found number small) ∙ (both.0 ∙ marked_after.found number small) in
     ap₂ (λ (is : Bool) (places : List Place). cond is (places_or_none match_one places) []) is_found
-    (hits_stay reach reach_after number entry before.entries after.entries apart (moved.1 reach reach_after marked.reach marked_after.reach) both.1)
+    (hits_stay reach reach_after number entry before.entries after.entries apart (other.1 reach reach_after marked.reach marked_after.reach) both.1)
 
 -- ---- entries that are seen otherwise
 
@@ -225,20 +226,21 @@ alike_hits reach reach_after number [] alike = tt
 alike_hits reach reach_after number (entry ∷ entries) alike =
     (ap (λ (is : Bool). is && has_config entry.hits number) alike.0, alike_hits reach reach_after number entries alike.1)
 
-pub none_moved : (before after : Moment) (marks : List Bool) → AreAllSeenAlike before after → MarksMoved marks marks before.facts after.facts before.entries
-none_moved before after marks alike = λ number small none. (
+pub none_otherwise : (before after : Moment) (marks : List Bool) → AreAllSeenAlike before after
+    → MarksSeenOtherwise marks marks before.facts after.facts before.entries
+none_otherwise before after marks alike = λ number small none. (
   none,
   λ reach reach_after marked marked_after. alike_hits reach reach_after number before.entries (alike reach reach_after marked marked_after),
 )
 
-pub no_entries : (marks : List Bool) (facts facts_after : Facts) → MarksMoved marks marks facts facts_after []
+pub no_entries : (marks : List Bool) (facts facts_after : Facts) → MarksSeenOtherwise marks marks facts facts_after []
 no_entries marks facts facts_after = λ number small none. (none, λ reach reach_after marked marked_after. tt)
 
 -- one entry, whose bus is reachable in both cases or in neither
 pub one_alike : (marks : List Bool) (facts facts_after : Facts) (entry : Entry)
     → ((reach reach_after : ℕ → Bool) → AreMarked facts.reach reach → AreMarked facts_after.reach reach_after
     → reach entry.place.bus ≡ reach_after entry.place.bus)
-    → MarksMoved marks marks facts facts_after (entry ∷ [])
+    → MarksSeenOtherwise marks marks facts facts_after (entry ∷ [])
 one_alike marks facts facts_after entry alike = λ number small none. (
   none,
   λ reach reach_after marked marked_after.
@@ -247,7 +249,7 @@ one_alike marks facts facts_after entry alike = λ number small none. (
 
 -- and one whose hits are marked
 pub one_marked : (old new : List Bool) (facts facts_after : Facts) (entry : Entry)
-    → AreMarked new (λ number. is_marked old number || has_config entry.hits number) → MarksMoved old new facts facts_after (entry ∷ [])
+    → AreMarked new (λ number. is_marked old number || has_config entry.hits number) → MarksSeenOtherwise old new facts facts_after (entry ∷ [])
 one_marked old new facts facts_after entry touches = λ number small none.
     let both = neither (is_marked old number) (has_config entry.hits number) (sym (touches number small) ∙ none) in (
       both.0,
@@ -269,9 +271,9 @@ one_marked old new facts facts_after entry touches = λ number small none.
     no_hits false false = refl
 
 -- some entries and then others
-pub moved_both : (old mid new : List Bool) (facts facts_after : Facts) (front back : List Entry) → MarksMoved old mid facts facts_after front
-    → MarksMoved mid new facts facts_after back → MarksMoved old new facts facts_after (front ++ back)
-moved_both old mid new facts facts_after front back first second = λ number small none.
+pub otherwise_both : (old mid new : List Bool) (facts facts_after : Facts) (front back : List Entry) → MarksSeenOtherwise old mid facts facts_after front
+    → MarksSeenOtherwise mid new facts facts_after back → MarksSeenOtherwise old new facts facts_after (front ++ back)
+otherwise_both old mid new facts facts_after front back first second = λ number small none.
     let later = second number small none in
     let before = first number small later.0 in (
       before.0,
@@ -280,12 +282,12 @@ moved_both old mid new facts facts_after front back first second = λ number sma
           front back (before.1 reach reach_after marked marked_after) (later.1 reach reach_after marked marked_after),
     )
 
-pub moved_more : (old mid new : List Bool) (facts facts_after : Facts) (boxes : List (Box Entry)) (i : ℕ) (box : Box Entry) (entry : Entry)
-    → i < length boxes → box ≡ get_or boxes i box → entry ≡ box.value → MarksMoved old mid facts facts_after (unboxed (take i boxes))
-    → MarksMoved mid new facts facts_after (entry ∷ []) → MarksMoved old new facts facts_after (unboxed (take (i + 1) boxes))
-moved_more old mid new facts facts_after boxes i box entry within is holds before now =
-    subst (MarksMoved old new facts facts_after) (sym (unboxed_more boxes i box entry within is holds))
-    (moved_both old mid new facts facts_after (unboxed (take i boxes)) (entry ∷ []) before now)
+pub otherwise_more : (old mid new : List Bool) (facts facts_after : Facts) (boxes : List (Box Entry)) (i : ℕ) (box : Box Entry) (entry : Entry)
+    → i < length boxes → box ≡ get_or boxes i box → entry ≡ box.value → MarksSeenOtherwise old mid facts facts_after (unboxed (take i boxes))
+    → MarksSeenOtherwise mid new facts facts_after (entry ∷ []) → MarksSeenOtherwise old new facts facts_after (unboxed (take (i + 1) boxes))
+otherwise_more old mid new facts facts_after boxes i box entry within is holds before now =
+    subst (MarksSeenOtherwise old new facts facts_after) (sym (unboxed_more boxes i box entry within is holds))
+    (otherwise_both old mid new facts facts_after (unboxed (take i boxes)) (entry ∷ []) before now)
 
 -- a configuration that is found has these boards
 pub boards_found : (match_one : Bool) (found reach : ℕ → Bool) (moment : Moment) (number : ℕ) → found number ≡ true

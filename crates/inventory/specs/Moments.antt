@@ -64,8 +64,8 @@ AreHitAlike reach reach_after number entries =
     ≡ (reach_after entry.place.bus && has_config entry.hits number)) entries
 
 -- a configuration that is not marked was not marked before, and no entry has a hit of it whose bus is reachable in one of both cases alone
-abbrev pub MarksMoved : List Bool → List Bool → Facts → Facts → List Entry → Type 0
-MarksMoved old new facts facts_after entries =
+abbrev pub MarksSeenOtherwise : List Bool → List Bool → Facts → Facts → List Entry → Type 0
+MarksSeenOtherwise old new facts facts_after entries =
     (number : ℕ) → number < mark_count → is_marked new number ≡ false
     → (is_marked old number ≡ false) × ((reach reach_after : ℕ → Bool) → AreMarked facts.reach reach → AreMarked facts_after.reach reach_after
     → AreHitAlike reach reach_after number entries)

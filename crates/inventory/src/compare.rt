@@ -75,7 +75,7 @@ fn configs_apart(
     mark_touched(&mut apart, changed.hits.as_slice());
     match lone {
         Some(_) => {}
-        None => before.mark_moved(&mut apart, after),
+        None => before.mark_seen_otherwise(&mut apart, after),
     }
     apart
 }

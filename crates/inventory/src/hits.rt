@@ -3,7 +3,7 @@ ghost use Rattle.found_set.specs.Marks.{AreMarked};
 ghost use Rattle.probe_lang.specs.Sights.{entry_sight, has_config};
 ghost use Rattle.inventory.specs.Boards.{hit_places};
 ghost use Rattle.probe_lang.specs.Presents.{unboxed};
-ghost use Rattle.inventory.specs.Moments.{hits_in, AreSeenAlike, MarksMoved};
+ghost use Rattle.inventory.specs.Moments.{hits_in, AreSeenAlike, MarksSeenOtherwise};
 
 use bmc_base::{OutOfMemory, Place};
 use found_set::{Facts, Marks, mark_touched};
@@ -75,8 +75,8 @@ fn tell_alike(entries: &[Box<Entry>], facts: &Facts, facts_after: &Facts)
 }
 
 // Marks each configuration of which a FRU has a hit, if its bus is reachable in one of both cases alone.
-fn mark_if_moved(marks: &mut Marks, entry: &Entry, facts: &Facts, facts_after: &Facts)
-    ensures { MarksMoved marks.old marks.new facts.now facts_after.now (entry.now ∷ []) }
+fn mark_if_seen_otherwise(marks: &mut Marks, entry: &Entry, facts: &Facts, facts_after: &Facts)
+    ensures { MarksSeenOtherwise marks.old marks.new facts.now facts_after.now (entry.now ∷ []) }
 {
     let bus = entry.place.bus();
     if facts.reach(bus) != facts_after.reach(bus) {
@@ -85,11 +85,16 @@ fn mark_if_moved(marks: &mut Marks, entry: &Entry, facts: &Facts, facts_after: &
 }
 
 /// Marks each configuration of which a FRU has a hit that is on a bus which is reachable in one of both cases alone.
-pub fn mark_moved(marks: &mut Marks, entries: &[Box<Entry>], facts: &Facts, facts_after: &Facts)
-    ensures { MarksMoved marks.old marks.new facts.now facts_after.now (unboxed entries.now) }
+pub fn mark_seen_otherwise(
+    marks: &mut Marks,
+    entries: &[Box<Entry>],
+    facts: &Facts,
+    facts_after: &Facts,
+)
+    ensures { MarksSeenOtherwise marks.old marks.new facts.now facts_after.now (unboxed entries.now) }
 {
     for entry in entries {
-        mark_if_moved(marks, entry, facts, facts_after);
+        mark_if_seen_otherwise(marks, entry, facts, facts_after);
     }
 }
 

@@ -5,9 +5,9 @@ ghost use Rattle.probe_lang.specs.Presents.{unboxed, is_entry_at, are_by_place, 
 ghost use Rattle.probe_lang.specs.Sights.{entry_sight, has_config};
 ghost use Rattle.inventory.specs.Boards.{hit_places};
 ghost use Rattle.inventory.specs.Items.{entry_fields};
-ghost use Rattle.inventory.specs.Moments.{hits_in, AreSeenAlike, MarksMoved};
+ghost use Rattle.inventory.specs.Moments.{hits_in, AreSeenAlike, MarksSeenOtherwise};
 
-use crate::hits::{are_seen_alike, first_hit, is_hit, mark_moved, push_hits};
+use crate::hits::{are_seen_alike, first_hit, is_hit, mark_seen_otherwise, push_hits};
 use bmc_base::{OutOfMemory, Place};
 use found_set::{Facts, Marks};
 use fru_record::FruRecord;
@@ -118,12 +118,12 @@ impl<'a> Moment<'a> {
     }
 
     // Marks each configuration of which a FRU has a hit that is on a bus which is reachable at one of both moments alone.
-    pub(crate) fn mark_moved(&self, marks: &mut Marks, after: &Moment<'_>)
-        ensures { MarksMoved marks.old marks.new self.now.facts after.now.facts self.now.entries }
+    pub(crate) fn mark_seen_otherwise(&self, marks: &mut Marks, after: &Moment<'_>)
+        ensures { MarksSeenOtherwise marks.old marks.new self.now.facts after.now.facts self.now.entries }
     {
-        mark_moved(marks, self.before, &self.facts, &after.facts);
-        mark_moved(marks, self.plus, &self.facts, &after.facts);
-        mark_moved(marks, self.behind, &self.facts, &after.facts);
+        mark_seen_otherwise(marks, self.before, &self.facts, &after.facts);
+        mark_seen_otherwise(marks, self.plus, &self.facts, &after.facts);
+        mark_seen_otherwise(marks, self.behind, &self.facts, &after.facts);
     }
 
     // Appends the places of the FRUs on reachable buses that a pattern of this configuration matches.

@@ -3,7 +3,7 @@ use Rattle.probe_lang.specs.declared.rows.Hit.{Hit}
 use Rattle.probe_lang.specs.Sights.{has_config}
 use Rattle.found_set.specs.Marks.{is_marked}
 use Rattle.inventory.specs.Moments.{IsLone, IsLoneIf}
-use Rattle.inventory.proofs.MomentsLemmas.{none_moved, same_unmarked}
+use Rattle.inventory.proofs.MomentsLemmas.{none_otherwise, same_unmarked}
 use Rattle.inventory.proofs.compare.configs_apart.Goals as goal
 
 -- each other FRU is seen as before
@@ -15,7 +15,7 @@ returns-in-Some c =
     same_unmarked c.args.changed.now before after _ _ _ c.requires.apart c.found_apart-apart.ensures
     (λ number small. c.mark_touched.ensures number small
     ∙ ap (λ (hits : List Hit). is_marked c.found_apart-apart.result number || has_config hits number) c.as_slice.ensures)
-    (none_moved before after _ lone.alike)
+    (none_otherwise before after _ lone.alike)
 
 -- or not
 pub returns-in-None : goal.returns-in-None
@@ -23,4 +23,4 @@ returns-in-None c =
     same_unmarked c.args.changed.now c.args.before.now c.args.after.now _ _ _ c.requires.apart c.found_apart-apart.ensures
     (λ number small. c.mark_touched.ensures number small
     ∙ ap (λ (hits : List Hit). is_marked c.found_apart-apart.result number || has_config hits number) c.as_slice.ensures)
-    c.mark_moved.ensures
+    c.mark_seen_otherwise.ensures

@@ -3,7 +3,7 @@ use Rattle.probe_lang.specs.declared.rows.Hit.{Hit}
 use Rattle.probe_lang.specs.Sights.{has_config}
 use Rattle.found_set.specs.Marks.{is_marked}
 use Rattle.inventory.proofs.MomentsLemmas.{alike_bus, one_alike, one_marked}
-use Rattle.inventory.proofs.hits.mark_if_moved.Goals as goal
+use Rattle.inventory.proofs.hits.mark_if_seen_otherwise.Goals as goal
 
 pub returns-then-reach : goal.returns-then-reach
 returns-then-reach c =

@@ -1,7 +1,0 @@
-use Rattle.std.proofs.Common.{take}
-use Rattle.probe_lang.specs.Presents.{unboxed}
-use Rattle.inventory.specs.Moments.{MarksMoved}
-use Rattle.inventory.proofs.hits.mark_moved.Given as goal
-
-abbrev pub invariant-loop-entry : goal.invariant-loop-entry
-invariant-loop-entry l = MarksMoved l.fn.marks l.marks l.facts l.facts_after (unboxed (take l.entry-index l.entries))
