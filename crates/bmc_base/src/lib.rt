@@ -20,7 +20,7 @@ pub use bytes::Bytes;
 pub use calls::Calls;
 pub use ledger::Ledger;
 pub use milli::{Milli, milli_examples};
-pub use name::{Name, NameFault, name_examples};
+pub use name::{LONGEST_NAME, Name, NameFault, name_examples};
 pub use out_of_memory::OutOfMemory;
 pub use place::{Place, place_examples, places_in_order};
 pub use silent::Silent;

@@ -1,4 +1,4 @@
-use bmc_base::{Ledger, Name, Place};
+use bmc_base::{Ledger, Place};
 use cfg_json::Config;
 
 /// What may happen.
@@ -11,9 +11,9 @@ pub enum Act<'a, L: Ledger> {
     /// The FRU at a place goes away.
     Unplug(Place),
     /// The sensor of this name was read, and this is the raw number.
-    Good(&'a Name, i64),
+    Good(&'a str, i64),
     /// A reading of the sensor of this name was lost.
-    Lost(&'a Name),
+    Lost(&'a str),
     /// A tick of 100 milliseconds passes.
     Tick,
 }

@@ -31,7 +31,7 @@ fn push_sensor(
     let ItemPart::Sensor(_) = &item.part else {
         return Ok(());
     };
-    let Some(slot) = sensors.slot(&item.name) else {
+    let Some(slot) = sensors.slot(item.name.as_str()) else {
         return Ok(());
     };
     let sensor = sensors.at(slot);

@@ -11,7 +11,7 @@ ghost use Rattle.fan_zone.specs.declared.held.Held.{Held};
 
 use crate::CoreFault;
 use crate::input_health::InputHealth;
-use bmc_base::{Ledger, Name, OutOfMemory, Place, Steps};
+use bmc_base::{Ledger, OutOfMemory, Place, Steps};
 use bmc_report::{Change, Refusal};
 use bmc_watch::{Glimpse, Panel, Watch};
 use cfg_json::Config;
@@ -161,7 +161,7 @@ impl<L: Ledger> Senses<L> {
     #[inline(always)]
     pub(crate) fn read(
         &mut self,
-        name: &Name,
+        name: &str,
         raw: i64,
         health: &mut InputHealth,
     ) -> Result<(), CoreFault>
@@ -188,7 +188,7 @@ impl<L: Ledger> Senses<L> {
     }
 
     /// Takes the loss of a reading of a sensor, and notes in `health` what is known of inputs then.
-    pub(crate) fn lose(&mut self, name: &Name, health: &mut InputHealth) -> Result<(), CoreFault>
+    pub(crate) fn lose(&mut self, name: &str, health: &mut InputHealth) -> Result<(), CoreFault>
         ensures notes { Notes self.old (Lose name.now) result self.new }
         ensures names { self.new.sensors.names ≡ self.old.sensors.names }
         ensures health { (held : List Held) → IsTrueOf self.old.sensors.slots held health.old → IsTrueOf self.new.sensors.slots held health.new }

@@ -9,7 +9,7 @@ use crate::acting::renew_zones;
 use crate::input_health::{InputHealth, health_after};
 use crate::senses::Senses;
 use crate::{Act, CoreFault};
-use bmc_base::{Ledger, Name, OutOfMemory, Place, Steps};
+use bmc_base::{Ledger, OutOfMemory, Place, Steps};
 use bmc_watch::Panel;
 use cfg_json::Config;
 use ctl_face::Controller;
@@ -135,14 +135,14 @@ impl<L: Ledger, C: Controller> State<L, C> {
 
     // Takes a good reading of a sensor.
     #[inline(always)]
-    fn read(&mut self, name: &Name, raw: i64) -> Result<(), CoreFault>
+    fn read(&mut self, name: &str, raw: i64) -> Result<(), CoreFault>
         ensures { StateApplies self.old (Read name.now raw) result self.new }
     {
         self.senses.read(name, raw, &mut self.health)
     }
 
     // Takes the loss of a reading of a sensor.
-    fn lose(&mut self, name: &Name) -> Result<(), CoreFault>
+    fn lose(&mut self, name: &str) -> Result<(), CoreFault>
         ensures { StateApplies self.old (Lose name.now) result self.new }
     {
         self.senses.lose(name, &mut self.health)

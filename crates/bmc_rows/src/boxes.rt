@@ -2,7 +2,7 @@ use crate::bank::{bank, counted_bank};
 use crate::play::Part::{Config, Text, Times};
 use crate::play::{Part, played_over, script_of};
 use crate::ticks::BOX_15;
-use bmc_base::{Name, Silent, Steps};
+use bmc_base::{Silent, Steps};
 use bmc_core::{Act, Core};
 use bmc_replay::Status::Done;
 use bmc_report::push_change;
@@ -44,10 +44,8 @@ fn take_machine<C: Controller>(alloc: Global, core: &mut Core<Silent, C>) -> Res
     let document = Document::read(alloc, BOX_15.as_bytes(), &mut RegexMaker::new(alloc))?;
     let mut steps = Steps::new(Silent);
     core.apply(alloc, Act::Config(document), &mut steps)?;
-    let temperature = Name::new("T")?;
-    core.apply(alloc, Act::Good(&temperature, 30_000), &mut steps)?;
-    let tachometer = Name::new("Tach")?;
-    core.apply(alloc, Act::Good(&tachometer, 2_000), &mut steps)?;
+    core.apply(alloc, Act::Good("T", 30_000), &mut steps)?;
+    core.apply(alloc, Act::Good("Tach", 2_000), &mut steps)?;
     Ok(())
 }
 

@@ -100,7 +100,7 @@ fn apply<L: Ledger, C: Controller>(
 fn run_command<L: Ledger, C: Controller>(
     alloc: Global,
     core: &mut Core<L, C>,
-    command: &Command,
+    command: &Command<'_>,
     steps: &mut Steps<L>,
 ) -> Result<Effect, OutOfMemory>
     ensures { IfOk result (λ effect. Answers (λ line past. answer_command line past (Ok command.now)) effect core.old core.new) }
@@ -113,8 +113,8 @@ fn run_command<L: Ledger, C: Controller>(
             apply(alloc, core, Act::Plug(*place, bytes.as_slice()), steps)
         }
         Command::Unplug(place) => apply(alloc, core, Act::Unplug(*place), steps),
-        Command::Good(name, raw) => apply(alloc, core, Act::Good(name, *raw), steps),
-        Command::Lost(name) => apply(alloc, core, Act::Lost(name), steps),
+        Command::Good(name, raw) => apply(alloc, core, Act::Good(name.as_str(), *raw), steps),
+        Command::Lost(name) => apply(alloc, core, Act::Lost(name.as_str()), steps),
         Command::Ticks(count) => Ok(Effect::Ticks(*count)),
         Command::Show(topic) => Ok(Effect::Shown(*topic)),
     }

@@ -3,7 +3,8 @@ ghost use Rattle.bmc_text.specs.Words.{split_space};
 ghost use Rattle.bmc_script.specs.Commands.{GivesCommand, command_of, verb_command, plug_of, unplug_of, config_of, place_named};
 ghost use Rattle.bmc_script.specs.Commands.{is_blank, split_last_space, name_in, read_of, lose_of, ticks_of, topic_of, show_of};
 
-use bmc_base::{Bytes, Name, Place};
+use crate::NameText;
+use bmc_base::{Bytes, Place};
 use bmc_report::Topic;
 use bmc_text::{HexFault, hex_bytes, read_number, read_raw};
 use std::alloc::Global;
@@ -13,9 +14,10 @@ use thiserror::Error;
 // How many ticks a line lets pass at the most: those of an hour.
 const MOST_TICKS: u32 = 36_000;
 
-/// What a line asks for. A numeral, as B, A and N here, has 1 to 9 decimal digits, leading zeros among them.
+/// What a line asks for. Names are borrowed from the line. A numeral, as B, A and N here, has 1 to 9 decimal digits, leading
+/// zeros among them.
 #[derive(Drop)]
-pub enum Command {
+pub enum Command<'l> {
     /// `config N`: the block of N bytes behind the line is the configuration from now on. The block itself is no part
     /// of the line.
     Config(u32),
@@ -26,12 +28,12 @@ pub enum Command {
     Unplug(Place),
     /// `read NAME RAW`: the sensor of this name was read, and gave this raw number. RAW is an optional `-` and 1 to 18
     /// decimal digits. NAME is 1 to 64 bytes of UTF-8 and goes on to the last space, so that it may have spaces itself.
-    Good(Name, i64),
+    Good(NameText<'l>, i64),
     /// `lose NAME`: a reading of the sensor of this name was lost. NAME is all that stands behind the first space.
-    Lost(Name),
+    Lost(NameText<'l>),
     /// `tick N`: N ticks of 100 ms pass. N is 1 to 36,000.
     Ticks(u32),
-    /// `show TOPIC`: a list is asked for. TOPIC is `frus`, `inventory`, `sensors`, `zones` or `indexes`.
+    /// `show TOPIC`: a list is asked for. TOPIC is `frus`, `inventory`, `sensors`, `zones`, `log` or `indexes`.
     Show(Topic),
     /// An empty line, or a comment, which begins with `#`.
     Nothing,
@@ -45,7 +47,7 @@ pub enum ScriptFault {
     UnknownCommand,
     /// What stands behind the command has not its form: the number of words, a numeral that has not 1 to 9 digits, a
     /// HEX that is empty or has a space in it, a NAME that is empty, longer than 64 bytes or no UTF-8, a RAW that is not
-    /// an optional `-` and 1 to 18 digits, or a TOPIC that is none of the five. A command that stands alone is such a
+    /// an optional `-` and 1 to 18 digits, or a TOPIC that is none of the six. A command that stands alone is such a
     /// line.
     #[error("bad arguments")]
     BadArguments,
@@ -94,7 +96,7 @@ fn read_place(bus: &[u8], address: &[u8]) -> Result<Place, ScriptFault>
 
 // Reads what stands behind `plug `.
 #[tactic(auto, unfolding(crate::specs::Commands::plug_of))]
-fn read_plug(alloc: Global, rest: &[u8]) -> Result<Command, ScriptFault>
+fn read_plug(alloc: Global, rest: &[u8]) -> Result<Command<'_>, ScriptFault>
     ensures { GivesCommand result (plug_of rest.now) }
 {
     let (bus, rest) = word(rest).ok_or(ScriptFault::BadArguments)?;
@@ -112,7 +114,7 @@ fn read_plug(alloc: Global, rest: &[u8]) -> Result<Command, ScriptFault>
 
 // Reads what stands behind `unplug `.
 #[tactic(auto, unfolding(crate::specs::Commands::unplug_of))]
-fn read_unplug(rest: &[u8]) -> Result<Command, ScriptFault>
+fn read_unplug(rest: &[u8]) -> Result<Command<'_>, ScriptFault>
     ensures { result ≡ unplug_of rest.now }
 {
     let (bus, address) = word(rest).ok_or(ScriptFault::BadArguments)?;
@@ -121,7 +123,7 @@ fn read_unplug(rest: &[u8]) -> Result<Command, ScriptFault>
 
 // Reads what stands behind `config `.
 #[tactic(auto, unfolding(crate::specs::Commands::config_of))]
-fn read_config(rest: &[u8]) -> Result<Command, ScriptFault>
+fn read_config(rest: &[u8]) -> Result<Command<'_>, ScriptFault>
     ensures { result ≡ config_of rest.now }
 {
     let size = read_number(rest).ok_or(ScriptFault::BadArguments)?;
@@ -140,16 +142,16 @@ fn last_word(bytes: &[u8]) -> Option<(&[u8], &[u8])>
 
 // Reads a name: 1 to 64 bytes of UTF-8.
 #[tactic(auto, using(crate::proofs::NamesLemmas::name_in_text, crate::proofs::NamesLemmas::name_in_other))]
-fn read_name(bytes: &[u8]) -> Option<Name>
+fn read_name(bytes: &[u8]) -> Option<NameText<'_>>
     ensures { result ≡ name_in bytes.now }
 {
     let text = str::from_utf8(bytes).ok()?;
-    Name::new(text).ok()
+    NameText::new(text)
 }
 
 // Reads what stands behind `read `.
 #[tactic(auto, unfolding(crate::specs::Commands::read_of))]
-fn read_read(rest: &[u8]) -> Result<Command, ScriptFault>
+fn read_read(rest: &[u8]) -> Result<Command<'_>, ScriptFault>
     ensures { result ≡ read_of rest.now }
 {
     let (name, number) = last_word(rest).ok_or(ScriptFault::BadArguments)?;
@@ -160,7 +162,7 @@ fn read_read(rest: &[u8]) -> Result<Command, ScriptFault>
 
 // Reads what stands behind `lose `.
 #[tactic(auto, unfolding(crate::specs::Commands::lose_of))]
-fn read_lose(rest: &[u8]) -> Result<Command, ScriptFault>
+fn read_lose(rest: &[u8]) -> Result<Command<'_>, ScriptFault>
     ensures { result ≡ lose_of rest.now }
 {
     let name = read_name(rest).ok_or(ScriptFault::BadArguments)?;
@@ -169,7 +171,7 @@ fn read_lose(rest: &[u8]) -> Result<Command, ScriptFault>
 
 // Reads what stands behind `tick `.
 #[tactic(auto, unfolding(crate::specs::Commands::ticks_of))]
-fn read_ticks(rest: &[u8]) -> Result<Command, ScriptFault>
+fn read_ticks(rest: &[u8]) -> Result<Command<'_>, ScriptFault>
     ensures { result ≡ ticks_of rest.now }
 {
     let count = read_number(rest).ok_or(ScriptFault::BadArguments)?;
@@ -196,7 +198,7 @@ fn topic_of(word: &[u8]) -> Option<Topic>
 
 // Reads what stands behind `show `.
 #[tactic(auto, unfolding(crate::specs::Commands::show_of))]
-fn read_show(rest: &[u8]) -> Result<Command, ScriptFault>
+fn read_show(rest: &[u8]) -> Result<Command<'_>, ScriptFault>
     ensures { result ≡ show_of rest.now }
 {
     let topic = topic_of(rest).ok_or(ScriptFault::BadArguments)?;
@@ -226,11 +228,11 @@ pub fn is_blank(line: &[u8]) -> bool
     matches!(line, [] | [b'#', ..])
 }
 
-impl Command {
+impl<'l> Command<'l> {
     /// Reads the command of a line, without its newline. The line may hold any bytes.
     #[inline(always)]
     #[tactic(auto, unfolding(crate::specs::Commands::command_of))]
-    pub fn read(alloc: Global, line: &[u8]) -> Result<Command, ScriptFault>
+    pub fn read(alloc: Global, line: &'l [u8]) -> Result<Command<'l>, ScriptFault>
         ensures { GivesCommand result (command_of line.now) }
     {
         match line {

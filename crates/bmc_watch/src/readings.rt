@@ -1,4 +1,5 @@
-ghost use Rattle.std.specs.Prelude.{◌≡◌, ◌+◌, ◌≤◌, ◌++◌, ◌<◌, ℕ, length, vec_capacity, vec_len};
+ghost use Rattle.std.specs.Prelude.{◌≡◌, ◌+◌, ◌≤◌, ◌++◌, ◌<◌, ℕ, true, Ok, length, vec_capacity, vec_len};
+ghost use Rattle.bmc_base.specs.Names.{name_of};
 ghost use Rattle.std.specs.List.{flat_map, enumerate_from};
 ghost use Rattle.sensor_core.specs.Sensors.{Sensor as SensorView};
 ghost use Rattle.sensor_core.specs.Settings.{limits_of};
@@ -27,23 +28,34 @@ impl Glimpse {
     {
         Glimpse {
             failed: sensor.is_failed(),
-            alarms: [
-                sensor.alarm(0),
-                sensor.alarm(1),
-                sensor.alarm(2),
-                sensor.alarm(3),
-                sensor.alarm(4),
-                sensor.alarm(5),
-                sensor.alarm(6),
-                sensor.alarm(7),
-            ],
+            alarms: sensor.all_alarms(),
         }
+    }
+
+    /// Whether a sensor shows the same.
+    #[inline(always)]
+    pub(crate) fn is_of(&self, sensor: &Sensor) -> bool
+        ensures { result ≡ true → Shows self.now sensor.now }
+    {
+        self.failed == sensor.is_failed() && self.alarms == sensor.all_alarms()
+    }
+}
+
+// Returns the name that is this text.
+fn named(text: &str) -> Name
+    requires { name_of text.now ≡ Ok text.now }
+    ensures { result ≡ text.now }
+{
+    match Name::new(text) {
+        Ok(name) => name,
+        Err(_) => unreachable!(),
     }
 }
 
 // Appends that a sensor failed, or works again. There is room for it.
-fn append_failure(name: &Name, was: bool, is: bool, changes: &mut Vec<Change>)
-    requires { vec_len changes.old + 1 ≤ vec_capacity changes.old }
+fn append_failure(name: &str, was: bool, is: bool, changes: &mut Vec<Change>)
+    requires named { name_of name.now ≡ Ok name.now }
+    requires room { vec_len changes.old + 1 ≤ vec_capacity changes.old }
     ensures items { changes.new.items ≡ changes.old.items ++ failure_change name.now was is }
     ensures len { vec_len changes.new ≤ vec_len changes.old + 1 }
     ensures capacity { vec_capacity changes.new ≡ vec_capacity changes.old }
@@ -51,20 +63,21 @@ fn append_failure(name: &Name, was: bool, is: bool, changes: &mut Vec<Change>)
     if was != is {
         changes.push_reserved(Change::Failure {
             failed: is,
-            name: name.copied(),
+            name: named(name),
         });
     }
 }
 
 // Appends that the alarm of a limit went on or off. There is room for it.
 fn append_alarm(
-    name: &Name,
+    name: &str,
     before: &Glimpse,
     after: &Sensor,
     position: u8,
     limit: &Limit,
     changes: &mut Vec<Change>,
 )
+    requires named { name_of name.now ≡ Ok name.now }
     requires within { position < 8 }
     requires room { vec_len changes.old + 1 ≤ vec_capacity changes.old }
     ensures items { (sensor : SensorView) → Shows before.now sensor
@@ -76,7 +89,7 @@ fn append_alarm(
     if before.alarms[usize::from(position)] != on {
         changes.push_reserved(Change::Alarm {
             on,
-            name: name.copied(),
+            name: named(name),
             position,
             high: limit.above,
             critical: limit.severity == CRITICAL,
@@ -85,7 +98,8 @@ fn append_alarm(
 }
 
 // Appends what the alarms of a sensor show otherwise than before, by position. There is room for it.
-fn append_alarms(name: &Name, before: &Glimpse, after: &Sensor, changes: &mut Vec<Change>)
+fn append_alarms(name: &str, before: &Glimpse, after: &Sensor, changes: &mut Vec<Change>)
+    requires named { name_of name.now ≡ Ok name.now }
     requires room { vec_len changes.old + 8 ≤ vec_capacity changes.old }
     ensures items { (sensor : SensorView) → Shows before.now sensor
         → changes.new.items ≡ changes.old.items ++ flat_map (alarm_change name.now sensor after.now) (enumerate_from 0 (limits_of after.now.setting)) }
@@ -97,14 +111,17 @@ fn append_alarms(name: &Name, before: &Glimpse, after: &Sensor, changes: &mut Ve
 }
 
 /// Appends what a sensor shows otherwise than before: whether it failed, and then its alarms by position. There is room for
-/// it.
+/// it. It is not inlined: most readings tell nothing, and need no room for it.
+#[cold]
+#[inline(never)]
 pub(crate) fn append_reading(
-    name: &Name,
+    name: &str,
     before: &Glimpse,
     after: &Sensor,
     changes: &mut Vec<Change>,
 )
-    requires { vec_len changes.old + most_changes ≤ vec_capacity changes.old }
+    requires named { name_of name.now ≡ Ok name.now }
+    requires room { vec_len changes.old + most_changes ≤ vec_capacity changes.old }
     ensures items { (sensor : SensorView) → Shows before.now sensor
         → changes.new.items ≡ changes.old.items ++ sensor_changes name.now sensor after.now }
     ensures capacity { vec_capacity changes.new ≡ vec_capacity changes.old }

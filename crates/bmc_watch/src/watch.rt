@@ -1,5 +1,6 @@
-ghost use Rattle.std.specs.Prelude.{◌≡◌, ◌<◌, ◌≤◌, ◌++◌, ◌∷◌, [], false, true, filter, find, length, IfOk, OnOk, OnErr, IsSomeAnd, None, Some};
+ghost use Rattle.std.specs.Prelude.{◌≡◌, ◌<◌, ◌≤◌, ◌++◌, ◌∷◌, [], false, true, filter, find, length, IfOk, OnOk, OnErr, IsSomeAnd, None, Some, Ok};
 ghost use Rattle.std.specs.Result.{is_err};
+ghost use Rattle.bmc_base.specs.Names.{name_of};
 ghost use Rattle.bmc_base.specs.Steps.{IsWithin};
 ghost use Rattle.bmc_machine.specs.Histories as histories;
 ghost use Rattle.bmc_watch.specs.Watches.{no_view, view_items, view_list, view_shown, IsSame};
@@ -27,7 +28,7 @@ use crate::listing::{list_board, list_boards};
 use crate::panel::{Panel, append_panel};
 use crate::readings::{Glimpse, append_reading};
 use crate::refusing::{limit_refused, record_refused};
-use bmc_base::{Ledger, Name, OutOfMemory, Place, Steps};
+use bmc_base::{Ledger, OutOfMemory, Place, Steps};
 use bmc_report::{Change, Refusal};
 use cfg_json::{Config, Item, MOST_CONFIGS, Shelf};
 use fan_zone::{FanRow, ZoneRow};
@@ -165,11 +166,14 @@ impl<L: Ledger> Watch<L> {
     }
 
     /// Lists what a sensor of this name shows otherwise than before, in place of the last changes. It takes no memory.
-    pub fn tell_reading(&mut self, name: &Name, before: &Glimpse, after: &Sensor)
+    pub fn tell_reading(&mut self, name: &str, before: &Glimpse, after: &Sensor)
+        requires { name_of name.now ≡ Ok name.now }
         ensures { (sensor : SensorView) → Shows before.now sensor → self.new ≡ record self.old { changes = sensor_changes name.now sensor after.now } }
     {
         self.changes.clear();
-        append_reading(name, before, after, &mut self.changes);
+        if !before.is_of(after) {
+            append_reading(name, before, after, &mut self.changes);
+        }
     }
 
     /// Lists what zones and fans show otherwise than before a tick, in place of the last changes: the zones with another mode, and

@@ -60,7 +60,7 @@ fn inputs_of(sensors: &LiveSensors, names: &Names) -> Inputs
     let names = names.as_slice();
     let mut inputs = Inputs::new();
     for name in names {
-        inputs.push(sensors.slot(name));
+        inputs.push(sensors.slot(name.as_str()));
     }
     inputs
 }

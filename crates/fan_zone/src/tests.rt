@@ -385,7 +385,7 @@ struct Row {
 
 fn tell_once(
     sensors: &mut LiveSensors,
-    name: &Name,
+    name: &str,
     reading: Option<i64>,
     now: u64,
 ) -> Result<(), Fail> {
@@ -404,9 +404,8 @@ fn tell(sensors: &mut LiveSensors, told: &[(usize, Option<i64>)], now: u64) -> R
         let Some((text, _)) = SENSORS.get(*place) else {
             return Err(Fail::from("there is no such sensor"));
         };
-        let name = name(text)?;
         for _ in 0..5 {
-            tell_once(sensors, &name, *reading, now)?;
+            tell_once(sensors, text, *reading, now)?;
         }
     }
     Ok(())

@@ -1,12 +1,13 @@
 -- Names and their slots, where the sensor in one slot changes, goes or comes.
-use Rattle.std.proofs.Common.{◌≡◌, ◌≢◌, ◌∙◌, ℕ, nat_eq, bytes_eq, Bool, true, false, cond, List}
+use Rattle.std.proofs.Common.{arith, ◌≡◌, ◌≢◌, ◌∙◌, ◌<◌, ◌≤◌, ℕ, length, nat_eq, bytes_eq, Bool, true, false, cond, List}
 use Rattle.std.proofs.Common.{Option, Some, None, IsSome, IfSome, option_map, slice_index_or}
 use Rattle.std.proofs.Common.{Result, Ok, Err, OnOk, refl, sym, ap, subst, true≢false}
 use Rattle.std.specs.Prelude.{option_and_then}
 use Rattle.std.specs.Option.{is_some}
 use Rattle.std.specs.Map.{lookup}
 use Rattle.std.specs.Cmp.Lexicographic.{bytes_decides}
-use Rattle.std.proofs.lemmas.Bool.{eqb-true, eqb-false}
+use Rattle.std.proofs.lemmas.Bool.{eqb-true, eqb-false, ne_eqb, le-ltb}
+use Rattle.bmc_base.specs.Names.{name_of, longest_name}
 use Rattle.std.proofs.lemmas.Option.{same_Some, none-some}
 use Rattle.sensor_core.specs.Sensors.{Sensor}
 use Rattle.live_sensors.specs.Sensors.{LiveSensors, slot_of, sensor_in, ContainsSlot, IsTied, Changes}
@@ -29,6 +30,10 @@ pub contains_found : (names : List (List ℕ × ℕ)) (name : List ℕ) (found :
     → IfSome found (ContainsSlot names)
 contains_found names name None is = tt
 contains_found names name (Some slot) is = record { name = name; has = sym is }
+
+-- a text of such a length is a name
+pub is_name : (text : List ℕ) → 0 < length text → length text ≤ longest_name → name_of text ≡ Ok text
+is_name text some few = rw (ne_eqb (length text) 0 (λ is. omega arith), le-ltb longest_name (length text) few) refl
 
 -- a slot that a name has is not empty
 pub not_empty : (names : List (List ℕ × ℕ)) (slots : List (Option Sensor)) (name : List ℕ) (slot : ℕ) → IsTied names slots

@@ -1,5 +1,6 @@
 ghost use Rattle.std.specs.Prelude.{◌≡◌, ◌<◌, ◌≤◌, ◌+◌, ◌↔◌, ℕ, false, bytes_eq, if◌then◌else◌, List, [], length, All};
-ghost use Rattle.std.specs.Prelude.{None, Some, is_none, IfSome, IsOk, IfOk, OnOk, OnErr};
+ghost use Rattle.std.specs.Prelude.{None, Some, Ok, is_none, IfSome, OnSome, IsOk, IfOk, OnOk, OnErr};
+ghost use Rattle.bmc_base.specs.Names.{name_of};
 ghost use Rattle.sensor_core.specs.Settings.{IsValidSetting, IsRaw};
 ghost use Rattle.sensor_core.specs.Sensors.{Good, Lost, sensor_of};
 ghost use Rattle.sensor_core.specs.Updates.{good_after, lost_after, Takes};
@@ -8,6 +9,7 @@ ghost use Rattle.live_sensors.specs.Sensors.{slot_of, sensor_in, ContainsSlot, A
 ghost use Rattle.inventory.specs.Items.{IsValidPart, IsValidItem};
 ghost use Rattle.live_sensors.specs.Items.{setting_in, is_sensor, has_sensor, dropped_one, started_one, dropped, started, settled};
 
+use crate::by_text::ByText;
 use bmc_base::{Name, OutOfMemory};
 use cfg_json::{Item, ItemPart};
 use indexmap::IndexMap;
@@ -90,13 +92,17 @@ impl LiveSensors {
         &self.table
     }
 
-    /// Returns the slot of a name, if the name has a sensor.
-    pub fn slot(&self, name: &Name) -> Option<usize>
+    /// Returns the slot of a name, if the name has a sensor. Any text may be asked for: one that is no name has none.
+    pub fn slot(&self, name: &str) -> Option<usize>
         ensures slot { result ≡ slot_of self.now name.now }
         ensures sensor { is_none result ≡ is_none (sensor_in self.now name.now) }
         ensures contains { IfSome result (ContainsSlot self.now.names) }
+        ensures named { OnSome result (name_of name.now ≡ Ok name.now) }
     {
-        self.slots.get(name).copied()
+        let (key, slot) = self.slots.get_key_value(ByText { text: name })?;
+        // each key is a name, which is said with its text
+        let _name = key.as_str();
+        Some(*slot)
     }
 
     /// Borrows the sensor in a slot that a name has.

@@ -77,12 +77,12 @@ fn tell(sensors: &mut LiveSensors, alloc: Global, name: &str, act: Act) -> Resul
         Act::Go => sensors.settle(&[item(name, sensor(alloc)?)?], &[]),
         Act::FanGoes => sensors.settle(&[item(name, ItemPart::Fan)?], &[]),
         Act::Read(raw) => {
-            if let Some(slot) = sensors.slot(&Name::new(name)?) {
+            if let Some(slot) = sensors.slot(name) {
                 sensors.good(slot, raw, 7)?;
             }
         }
         Act::Lose => {
-            if let Some(slot) = sensors.slot(&Name::new(name)?) {
+            if let Some(slot) = sensors.slot(name) {
                 sensors.lost(slot);
             }
         }
@@ -92,7 +92,7 @@ fn tell(sensors: &mut LiveSensors, alloc: Global, name: &str, act: Act) -> Resul
 
 // The value of the sensor of a name, and whether it failed.
 fn shown(sensors: &LiveSensors, name: &str) -> Result<Option<(Option<i64>, bool)>, Fail> {
-    let Some(slot) = sensors.slot(&Name::new(name)?) else {
+    let Some(slot) = sensors.slot(name) else {
         return Ok(None);
     };
     let sensor = sensors.at(slot);

@@ -1,7 +1,7 @@
 -- Alarms, one value on.
 use Rattle.std.proofs.Common.{◌≡◌, ℕ, zero, suc, ◌+◌, ◌<◌, ℤ, pos, ◌+ℤ◌, ◌-ℤ◌, ◌≤ℤ◌, Bool, true, false, cond, not, ◌&&◌, ◌||◌, List, [], ◌∷◌, ◌++◌, map, take}
 use Rattle.std.proofs.Common.{drop, set, get_or, length, replicate, refl, sym, ap, add-one, ap₂, ◌∙◌, arith}
-use Rattle.std.proofs.Math.Seq.{take-append_seam}
+use Rattle.std.proofs.Math.Seq.{take-append_seam, drop-append_seam}
 use Rattle.std.proofs.lemmas.Int.{ints}
 use Rattle.std.proofs.lemmas.List.{take_all}
 use Rattle.std.proofs.lemmas.List.Elements.{All-head, All-tail}
@@ -87,13 +87,24 @@ length_after (limit ∷ limits) [] value = ap suc (length_after limits [] value)
 length_after (limit ∷ limits) (was_on ∷ alarms) value = ap suc (length_after limits alarms value)
 
 -- once all had it
+mixed_whole : (limits : List Limit) (alarms now : List Bool) (value : Milli) (n : ℕ) → n ≡ length limits → now ≡ mixed limits alarms value n
+    → now ≡ alarms_after limits (take (length limits) alarms) value ++ drop (length limits) alarms
+mixed_whole limits alarms now value n e is =
+    is ∙ ap (mixed limits alarms value) e
+    ∙ ap (λ all. alarms_after all (take (length limits) alarms) value ++ drop (length limits) alarms) (take_all (length limits) limits (omega arith))
+
 pub mixed_all : (limits : List Limit) (alarms now : List Bool) (value : Milli) (n : ℕ) → n ≡ length limits → now ≡ mixed limits alarms value n
     → take (length limits) now ≡ alarms_after limits (take (length limits) alarms) value
 mixed_all limits alarms now value n e is =
     let after = alarms_after limits (take (length limits) alarms) value in
-    let whole : now ≡ after ++ drop (length limits) alarms =
-    is ∙ ap (mixed limits alarms value) e
-    ∙ ap (λ all. alarms_after all (take (length limits) alarms) value ++ drop (length limits) alarms) (take_all (length limits) limits (omega arith)) in
-    ap (take (length limits)) whole
+    ap (take (length limits)) (mixed_whole limits alarms now value n e is)
     ∙ ap (λ m. take m (after ++ drop (length limits) alarms)) (sym (length_after limits (take (length limits) alarms) value))
     ∙ take-append_seam after (drop (length limits) alarms)
+
+pub mixed_behind : (limits : List Limit) (alarms now : List Bool) (value : Milli) (n : ℕ) → n ≡ length limits → now ≡ mixed limits alarms value n
+    → drop (length limits) now ≡ drop (length limits) alarms
+mixed_behind limits alarms now value n e is =
+    let after = alarms_after limits (take (length limits) alarms) value in
+    ap (drop (length limits)) (mixed_whole limits alarms now value n e is)
+    ∙ ap (λ m. drop m (after ++ drop (length limits) alarms)) (sym (length_after limits (take (length limits) alarms) value))
+    ∙ drop-append_seam after (drop (length limits) alarms)

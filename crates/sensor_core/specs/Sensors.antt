@@ -1,12 +1,12 @@
 -- What a sensor shows of its outcomes, which are searched as a whole. The newest outcome is first.
-use Rattle.std.specs.Prelude.{ℕ, ◌-◌, ◌==◌, min, nat_lt, ℤ, Bool, true, false, not, ◌&&◌, ◌||◌, List, [], ◌∷◌, map, slice_index_or, Option, Some, None}
-use Rattle.std.specs.Prelude.{is_none, option_map}
+use Rattle.std.specs.Prelude.{ℕ, ◌-◌, ◌==◌, min, nat_lt, ℤ, Bool, true, false, not, ◌&&◌, ◌||◌, List, [], ◌∷◌, ◌++◌, map, replicate, slice_index_or}
+use Rattle.std.specs.Prelude.{Option, Some, None, is_none, option_map}
 use Rattle.std.specs.Option.{option_map_or}
 use Rattle.std.specs.List.{filter_map, prefix_len}
 use Rattle.bmc_base.specs.declared.milli.Milli.{Milli}
 use Rattle.sensor_core.specs.declared.setting.SensorSetting.{SensorSetting}
 use Rattle.sensor_core.specs.Limits.{is_on}
-use Rattle.sensor_core.specs.Settings.{limits_of, value_of}
+use Rattle.sensor_core.specs.Settings.{limits_of, value_of, most_limits}
 
 -- what came of asking a sensor: a good reading, with its raw number and its tick, or a loss
 pub data Outcome : Type 0 where
@@ -93,3 +93,7 @@ is_bad sensor now = is_none sensor.value || has_failed sensor || is_stale sensor
 -- whether the alarm at a position is on; there is none behind the limits in use
 abbrev pub has_alarm : Sensor → ℕ → Bool
 has_alarm sensor position = slice_index_or sensor.alarms position false
+
+-- the alarms at all positions that a limit may have
+abbrev pub all_alarms : Sensor → List Bool
+all_alarms sensor = sensor.alarms ++ replicate (most_limits - sensor.setting.count) false

@@ -1,7 +1,7 @@
-ghost use Rattle.std.specs.Prelude.{◌≡◌, ◌↔◌, IsOk, OnOk, OnErr, ◌≤◌, [], length, take, All};
+ghost use Rattle.std.specs.Prelude.{◌≡◌, ◌↔◌, IsOk, OnOk, OnErr, ◌≤◌, [], length, take, drop, All};
 ghost use Rattle.sensor_core.specs.Limits.{IsValidLimit};
 ghost use Rattle.sensor_core.specs.Settings.{IsValidSetting, IsRaw, most_limits};
-ghost use Rattle.sensor_core.specs.Sensors.{Good, Lost, sensor_of, has_failed, age_at, is_bad, has_alarm};
+ghost use Rattle.sensor_core.specs.Sensors.{Good, Lost, sensor_of, has_failed, age_at, is_bad, has_alarm, all_alarms};
 ghost use Rattle.sensor_core.specs.Fresh.{fresh_until};
 ghost use Rattle.sensor_core.specs.Updates.{alarms_after, good_after, lost_after, Takes};
 
@@ -33,9 +33,9 @@ pub struct Sensor {
 }
 
 impl Model for Sensor {
-    ghost use Rattle.std.specs.Prelude.{◌≡◌, ◌≤◌, take, option_map};
+    ghost use Rattle.std.specs.Prelude.{◌≡◌, ◌≤◌, ◌-◌, false, take, drop, replicate, option_map};
     ghost use Rattle.std.specs.Option.{ForSome};
-    ghost use Rattle.sensor_core.specs.Settings.{IsValidSetting};
+    ghost use Rattle.sensor_core.specs.Settings.{IsValidSetting, most_limits};
     ghost use Rattle.sensor_core.specs.Fresh.{fresh_until};
     ghost use Rattle.sensor_core.specs.Sensors.{Sensor, failing_losses};
     ghost use Rattle.sensor_core.specs.declared.sensor.Reading.{Reading};
@@ -51,7 +51,8 @@ impl Model for Sensor {
     } };
 
     ghost invariant = { λ s. IsValidSetting s.setting × (s.losses ≤ failing_losses)
-        × ForSome s.last (λ (reading : Reading). reading.fresh_until ≡ fresh_until s.setting.timeout reading.tick) };
+        × ForSome s.last (λ (reading : Reading). reading.fresh_until ≡ fresh_until s.setting.timeout reading.tick)
+        × (drop s.setting.count s.alarms ≡ replicate (most_limits - s.setting.count) false) };
 }
 
 impl Sensor {
@@ -155,6 +156,15 @@ impl Sensor {
         n < self.setting.count && self.alarms[usize::from(n)]
     }
 
+    /// Returns the alarms at all positions that a limit may have. No alarm is on behind the limits in
+    /// use.
+    #[inline(always)]
+    pub fn all_alarms(&self) -> [bool; 8]
+        ensures { result ≡ all_alarms self.now }
+    {
+        self.alarms
+    }
+
     /// Whether the sensor is no good input at this tick: it had no good reading, it failed, or its
     /// last good reading is older than its timeout. A timeout of 0 never passes.
     pub fn is_bad(&self, tick: u64) -> bool
@@ -182,7 +192,8 @@ fn fresh_until(timeout: u32, tick: u64) -> u64
 fn update_alarms(alarms: &mut [bool; 8], limits: &[Limit], value: Milli)
     requires valid { All IsValidLimit limits.now }
     requires few { length limits.now ≤ most_limits }
-    ensures { take (length limits.now) alarms.new ≡ alarms_after limits.now (take (length limits.now) alarms.old) value }
+    ensures in_use { take (length limits.now) alarms.new ≡ alarms_after limits.now (take (length limits.now) alarms.old) value }
+    ensures behind { drop (length limits.now) alarms.new ≡ drop (length limits.now) alarms.old }
 {
     for (n, limit) in limits.iter().enumerate() {
         alarms[n] = limit.is_on_after(alarms[n], value);

@@ -140,12 +140,11 @@ const ROWS: &[Row] = &rows! {
 };
 
 fn assert_alarms(rt: &impl Abort, sensor: &Sensor, bits: u8, row: usize) {
+    let all = sensor.all_alarms();
     for n in 0..8 {
-        assert_eq!(rt;
-            sensor.alarm(n),
-            bits >> n & 1 == 1,
-            "alarm {n} in row {row}"
-        );
+        let on = bits >> n & 1 == 1;
+        assert_eq!(rt; sensor.alarm(n), on, "alarm {n} in row {row}");
+        assert_eq!(rt; all[usize::from(n)], on, "alarm {n} of all in row {row}");
     }
     assert!(rt; !sensor.alarm(8) && !sensor.alarm(255));
 }
