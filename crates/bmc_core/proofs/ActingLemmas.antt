@@ -158,11 +158,11 @@ fewer_concern keep items (change ∷ changes) none = by (concerns_zones items ch
 
 -- ---- controllers that ask for what is gone or new
 
-or_none : (one other : Bool) → (one || other) ≡ false → (one ≡ false) × (other ≡ false)
+pub or_none : (one other : Bool) → (one || other) ≡ false → (one ≡ false) × (other ≡ false)
 or_none true other none = absurd (cc)
 or_none false other none = (refl, none)
 
-or_both : (one other : Bool) → one ≡ false → other ≡ false → (one || other) ≡ false
+pub or_both : (one other : Bool) → one ≡ false → other ≡ false → (one || other) ≡ false
 or_both one other first second = ap (λ (b : Bool). b || other) first ∙ second
 
 -- whether an item is a controller with an input that is gone or new by one change

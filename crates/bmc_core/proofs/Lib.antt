@@ -4,6 +4,7 @@ pub mod BoardItemsLemmas
 pub mod LiveLemmas
 pub mod ListsLemmas
 pub mod ActingLemmas
+pub mod AskingLemmas
 pub mod BegunLemmas
 pub mod StateLemmas
 pub mod TickedLemmas

@@ -1,5 +1,5 @@
 -- The live items that act in zones, and what becomes of the zones behind an event.
-use Rattle.std.specs.Prelude.{◌≡◌, ◌⊎◌, ℕ, bytes_eq, Bool, false, ◌&&◌, List, [], filter}
+use Rattle.std.specs.Prelude.{◌≡◌, ◌⊎◌, ℕ, bytes_eq, Bool, false, ◌&&◌, List, [], filter, length, slice_index_or}
 use Rattle.std.specs.List.{list_any}
 use Rattle.bmc_report.specs.declared.change.Change.{Change}
 use Rattle.bmc_report.specs.declared.change.Change.TheVariants as changes_of
@@ -34,6 +34,19 @@ is_named names (changes_of.Item gone kinds.Zone name) = false
 is_named names (changes_of.Item gone kinds.Fan name) = false
 is_named names (changes_of.Item gone kinds.Controller name) = false
 is_named names _ = false
+
+-- whether a length is noted that a name has
+abbrev pub is_as_long : List Bool → List ℕ → Bool
+is_as_long lengths name = slice_index_or lengths (length name) false
+
+-- each name is as long as one that is noted, if its sensor is gone or new by these changes
+abbrev pub AreNoted : List Bool → List Change → Type 0
+AreNoted lengths changes = (names : List (List ℕ)) → list_any (is_as_long lengths) names ≡ false → list_any (is_named names) changes ≡ false
+
+-- the length is noted of the name of a sensor that is gone or new by this change, with those that were noted before
+abbrev pub NotesLength : List Bool → Change → List Bool → Type 0
+NotesLength old change new =
+    (names : List (List ℕ)) → list_any (is_as_long new) names ≡ false → (list_any (is_as_long old) names ≡ false) × (is_named names change ≡ false)
 
 abbrev pub asks_by : List Change → ItemPart → Bool
 asks_by changes (parts.Control control) = list_any (is_named control.inputs) changes

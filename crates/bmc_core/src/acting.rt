@@ -1,4 +1,4 @@
-ghost use Rattle.std.specs.Prelude.{◌≡◌, false, true, bytes_eq, ◌+◌, ◌≤◌, ◌++◌, ◌∷◌, [], None, length, take};
+ghost use Rattle.std.specs.Prelude.{◌≡◌, false, true, ◌+◌, ◌≤◌, ◌++◌, ◌∷◌, [], None, length, take};
 ghost use Rattle.std.specs.List.{All, list_any};
 ghost use Rattle.cfg_json.specs.declared.item.Item.{Item};
 ghost use Rattle.cfg_json.specs.Configs.{IsValidConfig};
@@ -7,12 +7,12 @@ ghost use Rattle.fan_zone.specs.Live.{items_of};
 ghost use Rattle.fan_zone.specs.Settings.{CanSet};
 ghost use Rattle.inventory.specs.Items.{bears_name, is_live, live, AreNamedLive};
 ghost use Rattle.inventory.specs.Shown.{items_of as all_items};
-ghost use Rattle.inventory.specs.declared.shown.Shown.{Shown as BoardShown};
 ghost use Rattle.bmc_machine.specs.Changes.{concerns_zones};
 ghost use Rattle.bmc_watch.specs.Watches.{view_items};
-ghost use Rattle.bmc_core.specs.Acting.{AreRenewed, MayStay, acting, acting_of, asks_for_some, is_named, most_acting};
+ghost use Rattle.bmc_core.specs.Acting.{AreRenewed, MayStay, acting, acting_of, most_acting};
 
-use bmc_base::{Ledger, Name};
+use crate::asking::some_have_asking;
+use bmc_base::Ledger;
 use bmc_report::{Change, LiveKind};
 use bmc_watch::Watch;
 use cfg_json::{Item, ItemPart};
@@ -139,20 +139,6 @@ fn set_zones<L: Ledger, C: Controller>(
     }
 }
 
-// Whether two names are the same.
-fn same_name(name: &Name, other: &Name) -> bool
-    ensures { result ≡ bytes_eq name.now other.now }
-{
-    name.as_str().len() == other.as_str().len() && name == other
-}
-
-// Whether a name is among the names.
-fn is_among(name: &Name, names: &[Name]) -> bool
-    ensures { result ≡ list_any (bytes_eq name.now) names.now }
-{
-    names.iter().any(|one| same_name(name, one))
-}
-
 // Whether a change tells that a zone, a fan or a controller is gone or new.
 fn is_acting(change: &Change) -> bool
     ensures { result ≡ concerns_zones [] change.now }
@@ -171,50 +157,6 @@ fn some_act(changes: &[Change]) -> bool
     ensures { result ≡ list_any (concerns_zones []) changes.now }
 {
     changes.iter().any(|change| is_acting(change))
-}
-
-// Whether a change tells that a sensor with one of these names is gone or new.
-fn is_named(change: &Change, names: &[Name]) -> bool
-    ensures { result ≡ is_named names.now change.now }
-{
-    match change {
-        Change::Item { kind, name, .. } => match kind {
-            LiveKind::Sensor => is_among(name, names),
-            LiveKind::Zone | LiveKind::Fan | LiveKind::Controller => false,
-        },
-        _ => false,
-    }
-}
-
-// Whether one of some changes tells that.
-fn some_named(changes: &[Change], names: &[Name]) -> bool
-    ensures { result ≡ list_any (is_named names.now) changes.now }
-{
-    changes.iter().any(|change| is_named(change, names))
-}
-
-// Whether an item is a controller, and one of its inputs is gone or new by these changes.
-fn asks_for_some(item: &Item, changes: &[Change]) -> bool
-    ensures { result ≡ asks_for_some changes.now item.now }
-{
-    match &item.part {
-        ItemPart::Control(control) => some_named(changes, control.get().inputs.as_slice()),
-        _ => false,
-    }
-}
-
-// Whether one of some items is such a controller.
-fn some_ask(items: &[Item], changes: &[Change]) -> bool
-    ensures { result ≡ list_any (asks_for_some changes.now) items.now }
-{
-    items.iter().any(|item| asks_for_some(item, changes))
-}
-
-// Whether one of some boards has such a controller.
-fn some_have_asking(boards: &[Shown], changes: &[Change]) -> bool
-    ensures { result ≡ list_any (λ (board : BoardShown). list_any (asks_for_some changes.now) board.items.items) boards.now }
-{
-    boards.iter().any(|board| some_ask(&board.items, changes))
 }
 
 // Whether zones may have to do with what is gone or new by these changes. It goes through the items once.

@@ -3,6 +3,7 @@
 
 mod act;
 mod acting;
+mod asking;
 mod board_list;
 mod core_state;
 mod fault;
