@@ -1,4 +1,4 @@
--- The lengths of names, noted one after another.
+-- Which boards ask for sensors, and the lengths of names, noted one after another.
 use Rattle.std.proofs.Common.{◌≡◌, ◌≢◌, ◌∙◌, ◌<◌, ℕ, List, [], ◌∷◌, Bool, true, false, bytes_eq, length, set, get_or, take, refl, sym, ap}
 use Rattle.std.proofs.Common.{◌+◌, true≢false}
 use Rattle.std.specs.List.{list_any}
@@ -9,7 +9,29 @@ use Rattle.bmc_report.specs.declared.change.Change.{Change}
 use Rattle.bmc_report.specs.declared.change.Change.TheVariants as changes_of
 use Rattle.bmc_report.specs.declared.live_kind.LiveKind.TheVariants as kinds
 use Rattle.bmc_core.proofs.ActingLemmas.{or_none, or_both}
-use Rattle.bmc_core.specs.Acting.{is_as_long, is_named, AreNoted, NotesLength}
+use Rattle.bmc_core.specs.Acting.{asks_by, asks_for_some, is_as_long, is_named, AreNoted, NotesLength}
+use Rattle.cfg_json.specs.declared.item.Item.{Item}
+use Rattle.cfg_json.specs.declared.item.ItemPart.{ItemPart}
+use Rattle.cfg_json.specs.declared.item.ItemPart.TheVariants as parts
+use Rattle.inventory.specs.Items.{has_control, is_control}
+
+-- ---- what has no controller asks for nothing
+
+no_ask : (changes : List Change) (part : ItemPart) → is_control part ≡ false → asks_by changes part ≡ false
+no_ask changes (parts.Control control) none = absurd (true≢false none)
+no_ask changes (parts.Sensor sensor) none = refl
+no_ask changes (parts.Zone setting) none = refl
+no_ask changes parts.Fan none = refl
+no_ask changes (parts.Mux mux) none = refl
+no_ask changes parts.Passive none = refl
+
+pub none_ask : (changes : List Change) (items : List Item) → has_control items ≡ false → list_any (asks_for_some changes) items ≡ false
+none_ask changes [] none = refl
+none_ask changes (item ∷ items) none =
+    let both = or_none (is_control item.part) (has_control items) none in
+    or_both _ _ (no_ask changes item.part both.0) (none_ask changes items both.1)
+
+-- ---- lengths
 
 -- a name that is not as long as one that is noted has another length than the last of these
 other_length : (lengths : List Bool) (name one : List ℕ) → length name < length lengths → is_as_long (set lengths (length name) true) one ≡ false

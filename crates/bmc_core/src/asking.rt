@@ -111,10 +111,18 @@ fn some_ask(items: &[Item], changes: &SensorChanges<'_>) -> bool
     items.iter().any(|item| asks_for_some(item, changes))
 }
 
+// Whether a board has such a controller. The items of one without controllers are not looked at.
+#[tactic(auto, using(crate::proofs::AskingLemmas::none_ask))]
+fn has_asking(board: &Shown, changes: &SensorChanges<'_>) -> bool
+    ensures { result ≡ list_any (asks_for_some changes.now.changes.now) board.now.items.items }
+{
+    board.controls && some_ask(&board.items, changes)
+}
+
 /// Whether one of some boards has a controller with an input that is gone or new by these changes.
 pub(crate) fn some_have_asking(boards: &[Shown], changes: &[Change]) -> bool
     ensures { result ≡ list_any (λ (board : BoardShown). list_any (asks_for_some changes.now) board.items.items) boards.now }
 {
     let changes = SensorChanges::of(changes);
-    boards.iter().any(|board| some_ask(&board.items, &changes))
+    boards.iter().any(|board| has_asking(board, &changes))
 }

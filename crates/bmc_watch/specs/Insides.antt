@@ -27,7 +27,7 @@ view_of a = record {
   changes = a.changes.items;
 }
 
--- The totals are those of the boards of these FRUs, which pass no limit; the inventory has what the naming ones expose; and each board
+-- The totals are those of the boards of these FRUs, which pass no limit; the inventory has what they expose that may be live; and each board
 -- is kept. FRUs that are idle have no boards.
 pub record IsStocked (configs : List Config) (entries : List Entry) (kept : List (List (Option Place))) (totals : Totals) (inventory : List Item)
     : Type 0 where

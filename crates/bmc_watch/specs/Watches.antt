@@ -64,7 +64,7 @@ view_list view = board_list (kept_of view.kept) (view_keys view)
 abbrev pub view_items : WatchView → List Item
 view_items view = items view.configs (entry_fields (busy view.entries)) (view_list view)
 
--- what the naming ones among them expose
+-- those of these items that may be live
 abbrev pub view_shown : WatchView → List Item
 view_shown view = naming_items view.configs (kept_of view.kept) (entry_fields (busy view.entries)) (view_keys view)
 

@@ -15,21 +15,21 @@ use Rattle.inventory.specs.Boards.{has_board}
 use Rattle.inventory.specs.Differences.{key_of, keys_left, places_of}
 use Rattle.inventory.specs.Follows.{kept_with, key_eq, AreKeysAscending, Follows}
 use Rattle.inventory.specs.Indexes.{index_in, kept_of}
-use Rattle.inventory.specs.Items.{board_items, exposes_of, items, rendered_items}
+use Rattle.inventory.specs.Items.{exposes_of}
 use Rattle.inventory.specs.Limits.{no_counts}
 use Rattle.inventory.specs.Lists.{board_list, board_of, keys_of}
 use Rattle.inventory.specs.Moments.{AreAscending}
-use Rattle.inventory.specs.Naming.{has_naming, is_naming, naming, naming_items}
-use Rattle.inventory.specs.Orders.{exposer, key_cmp}
+use Rattle.inventory.specs.Naming.{has_naming, is_naming, named_among, named_items, naming, naming_items}
+use Rattle.inventory.specs.Orders.{exposer, id_cmp, key_cmp, AreById}
 use Rattle.inventory.specs.declared.board.BoardKey.{BoardKey}
 use Rattle.inventory.proofs.AscendLemmas.{all_flat_map}
 use Rattle.inventory.proofs.BoardLemmas.{board_itself, board_same}
 use Rattle.inventory.proofs.ComingLemmas.{named_by_key}
 use Rattle.inventory.proofs.FollowsLemmas.{key_same}
 use Rattle.inventory.proofs.IdsLemmas.{items_ascend, items_from, keys_ascend}
-use Rattle.inventory.proofs.ListLemmas.{all_any, all_filter, all_map, all_weaker, filter_alike, filter_all, filter_none}
+use Rattle.inventory.proofs.ListLemmas.{all_any, all_filter, all_map, all_weaker, ascending_filter, filter_alike, filter_all, filter_none}
 use Rattle.inventory.proofs.ListingLemmas.{index_same}
-use Rattle.inventory.proofs.NamingLemmas.{lists_same}
+use Rattle.inventory.proofs.NamingLemmas.{is_kin, lists_same, named_are_kin, named_kin}
 use Rattle.inventory.proofs.ShownLemmas.{key_itself}
 
 -- ---- keys
@@ -117,26 +117,27 @@ both_all One Two Three gives (x ∷ xs) one two = (gives x one.0 two.0, both_all
 module _ (configs : List Config) where
   naming_first : (kept : ℕ → List (Option Place)) (fields : Place → Option (List Field)) (key : BoardKey) (keys : List BoardKey)
       → naming_items configs kept fields (key ∷ keys)
-      ≡ cond (is_naming configs key) (board_items configs fields (board_of kept key)) [] ++ naming_items configs kept fields keys
-  unfolding items
+      ≡ cond (is_naming configs key) (named_items configs fields (board_of kept key)) [] ++ naming_items configs kept fields keys
   naming_first kept fields key keys = by (is_naming configs key)
     where
       by : (is : Bool)
-          → flat_map (board_items configs fields) (cond is (board_of kept key ∷ naming configs (board_list kept keys)) (naming configs (board_list kept keys)))
-          ≡ cond is (board_items configs fields (board_of kept key)) [] ++ flat_map (board_items configs fields) (naming configs (board_list kept keys))
+          → flat_map (named_items configs fields) (cond is (board_of kept key ∷ naming configs (board_list kept keys)) (naming configs (board_list kept keys)))
+          ≡ cond is (named_items configs fields (board_of kept key)) [] ++ flat_map (named_items configs fields) (naming configs (board_list kept keys))
       by true = refl
       by false = refl
 
   on_key : (kept : ℕ → List (Option Place)) (fields : Place → Option (List Field)) (key : BoardKey)
-      → AllByRecursion (λ (item : Item). exposer item.id ≡ key) (cond (is_naming configs key) (board_items configs fields (board_of kept key)) [])
+      → AllByRecursion (λ (item : Item). exposer item.id ≡ key) (cond (is_naming configs key) (named_items configs fields (board_of kept key)) [])
   on_key kept fields key = by (is_naming configs key)
     where
-      by : (is : Bool) → AllByRecursion (λ (item : Item). exposer item.id ≡ key) (cond is (board_items configs fields (board_of kept key)) [])
-      by true = all_weaker _ _ (λ (item : Item) is. is.0) _ (items_from fields (board_of kept key) 0 (exposes_of configs key.config))
+      by : (is : Bool) → AllByRecursion (λ (item : Item). exposer item.id ≡ key) (cond is (named_items configs fields (board_of kept key)) [])
+      by true =
+          subst (AllByRecursion (λ (item : Item). exposer item.id ≡ key))
+          (sym (named_are_kin (board_of kept key) (option_and_then fields key.place) 0 (exposes_of configs key.config)))
+          (all_filter _ is_kin _ (all_weaker _ _ (λ (item : Item) is. is.0) _ (items_from fields (board_of kept key) 0 (exposes_of configs key.config))))
       by false = tt
 
   no_naming : (kept : ℕ → List (Option Place)) (fields : Place → Option (List Field)) → naming_items configs kept fields [] ≡ []
-  unfolding items
   no_naming kept fields = refl
 
   -- the items of the boards that pass a test
@@ -146,17 +147,17 @@ module _ (configs : List Config) where
       ap (filter (λ (item : Item). part (exposer item.id))) (no_naming kept fields) ∙ sym (no_naming kept fields)
   part_naming kept fields part (key ∷ keys) =
       ap (filter (λ (item : Item). part (exposer item.id))) (naming_first kept fields key keys)
-      ∙ filter-append (λ (item : Item). part (exposer item.id)) (cond (is_naming configs key) (board_items configs fields (board_of kept key)) [])
+      ∙ filter-append (λ (item : Item). part (exposer item.id)) (cond (is_naming configs key) (named_items configs fields (board_of kept key)) [])
       (naming_items configs kept fields keys)
       ∙ by (part key) refl (part_naming kept fields part keys)
     where
       own : (is : Bool) → part key ≡ is → AllByRecursion (λ (item : Item). part (exposer item.id) ≡ is)
-          (cond (is_naming configs key) (board_items configs fields (board_of kept key)) [])
+          (cond (is_naming configs key) (named_items configs fields (board_of kept key)) [])
       own is eq = all_weaker _ _ (λ (item : Item) mine. ap part mine ∙ eq) _ (on_key kept fields key)
 
       by : (is : Bool) → part key ≡ is
           → filter (λ (item : Item). part (exposer item.id)) (naming_items configs kept fields keys) ≡ naming_items configs kept fields (filter part keys)
-          → filter (λ (item : Item). part (exposer item.id)) (cond (is_naming configs key) (board_items configs fields (board_of kept key)) [])
+          → filter (λ (item : Item). part (exposer item.id)) (cond (is_naming configs key) (named_items configs fields (board_of kept key)) [])
           ++ filter (λ (item : Item). part (exposer item.id)) (naming_items configs kept fields keys)
           ≡ naming_items configs kept fields (cond is (key ∷ filter part keys) (filter part keys))
       by true is later =
@@ -174,7 +175,7 @@ module _ (configs : List Config) where
       naming_first kept fields key keys
       ∙ ap₂ (λ (front back : List Item). front ++ back)
       (ap₂ (λ (index : ℕ) (fields : Option (List Field)). cond (is_naming configs key)
-      (rendered_items (record { key = key; index = index }) fields (exposes_of configs key.config)) []) alike.0.0 alike.0.1)
+      (named_among (record { key = key; index = index }) fields (exposes_of configs key.config)) []) alike.0.0 alike.0.1)
       (naming_alike kept kept_now fields fields_now keys alike.1)
       ∙ sym (naming_first kept_now fields_now key keys)
 
@@ -188,7 +189,7 @@ configs_alike one other kept fields (key ∷ keys) alike =
     ∙ ap₂ (λ (front back : List Item). front ++ back)
     (ap (λ (config : Option Config). cond
     (has_naming (unwrap_or (option_map (λ (config : Config). counts_of config.exposes) config) no_counts))
-    (rendered_items (board_of kept key) (option_and_then fields key.place)
+    (named_among (board_of kept key) (option_and_then fields key.place)
     (unwrap_or (option_map (λ (config : Config). config.exposes) config) [])) []) alike.0)
     (configs_alike one other kept fields keys alike.1)
     ∙ sym (naming_first other kept fields key keys)
@@ -317,8 +318,9 @@ module _ (configs : List Config) (count : ℕ) (kept : List (List (Option Place)
       (naming_items configs (kept_with kept (keys_left count after before)) fields_after (keys_left count after before))
       (naming_items configs (kept_with kept (keys_left count after before)) fields_after (keys_of count after))
   follows_moment = record {
-    order = items_ascend configs fields_after _ (named_by_key configs (kept_with kept (keys_left count after before)) (keys_of count after)
-        (keys_ascend after count ascend_after));
+    order = subst AreById (sym (named_kin configs fields_after _))
+        (ascending_filter (λ (item : Item). item.id) id_cmp is_kin _ (items_ascend configs fields_after _
+        (named_by_key configs (kept_with kept (keys_left count after before)) (keys_of count after) (keys_ascend after count ascend_after))));
     stay =
         part_naming configs (kept_of kept) fields (λ key. not (list_any (key_eq key) (keys_left count before after))) (keys_of count before)
         ∙ naming_alike configs (kept_of kept) (kept_with kept (keys_left count after before)) fields fields_after _ stay_facts

@@ -3,7 +3,6 @@ use Rattle.std.proofs.Common.{◌≡◌, ◌∙◌, ℕ, zero, suc, ◌+◌, ◌
 use Rattle.std.proofs.Common.{Option, Some, None, inl, inr, get_or, refl, sym, ap, ap₂, subst, arith}
 use mathlib.Core.List.{map-map, map-id}
 use Rattle.std.specs.Prelude.{nat_eq, ◌==◌}
-use Rattle.std.specs.Global.{Vec}
 use Rattle.std.specs.Option.{option_cmp, option_eq, unwrap_or}
 use Rattle.std.specs.Ordering.{nat_cmp, ordering_then}
 use Rattle.std.specs.declared.cmp.Ordering.{Ordering}
@@ -12,19 +11,19 @@ use Rattle.std.specs.List.{All, AllByRecursion, IsDistinct}
 use Rattle.std.specs.List.Sorted.{IsStrictlySortedBy}
 use Rattle.std.proofs.lemmas.Grind.{flat_map-append}
 use Rattle.std.proofs.lemmas.List.{append-nil, map-append, take_more}
-use Rattle.std.proofs.lemmas.List.Elements.{filter-append, All-same}
+use Rattle.std.proofs.lemmas.List.Elements.{filter-append, All-filter, All-same}
 use Rattle.bmc_base.specs.Places.{Place, place_cmp, place_eq}
 use Rattle.fru_area.specs.declared.field.Field.{Field}
 use Rattle.cfg_json.specs.Configs.{Config, IsValidExpose}
 use Rattle.cfg_json.specs.declared.item.Item.{Item}
-use Rattle.inventory.specs.Items.{board_fields, board_items, exposes_of, items, IsValidItem}
+use Rattle.inventory.specs.Items.{board_fields, board_items, exposes_of, IsValidItem}
 use Rattle.inventory.specs.Boards.{has_board}
 use Rattle.inventory.specs.Differences.{places_of}
 use Rattle.inventory.specs.Follows.{kept_with, last_of, AreKeysAscending}
 use Rattle.inventory.specs.Indexes.{index_in, index_of, kept_of, with_boards}
 use Rattle.inventory.specs.Lists.{board_list, board_of}
-use Rattle.inventory.specs.Naming.{is_naming, naming}
-use Rattle.inventory.specs.Orders.{exposer, key_cmp, AreById, AreByKey}
+use Rattle.inventory.specs.Naming.{all_named, is_naming, named_items, naming}
+use Rattle.inventory.specs.Orders.{exposer, id_cmp, key_cmp, AreById, AreByKey}
 use Rattle.inventory.specs.Shown.{items_of, AreShown, IsShown, ShowsMore}
 use Rattle.inventory.specs.declared.board.Board.{Board}
 use Rattle.inventory.specs.declared.board.BoardKey.{BoardKey}
@@ -36,7 +35,8 @@ use Rattle.std.proofs.lemmas.Map.Keys.{IsDistinct-from_sorted}
 use Rattle.inventory.proofs.BoardsLemmas.{board_cmp_eq}
 use Rattle.inventory.proofs.ListingLemmas.{count_more, index_given}
 use Rattle.inventory.proofs.IdsLemmas.{items_ascend_from, items_from}
-use Rattle.inventory.proofs.ListLemmas.{ascending_filter, all_append, all_weaker}
+use Rattle.inventory.proofs.ListLemmas.{ascending_filter, all_append, all_filter, all_weaker}
+use Rattle.inventory.proofs.NamingLemmas.{is_kin, named_are_kin}
 use Rattle.inventory.proofs.ShownLemmas.{key_of_board}
 use Rattle.inventory.proofs.ValidLemmas.{rendered_valid}
 
@@ -49,16 +49,21 @@ drop_all (suc n) (x ∷ xs) past = drop_all n xs (omega (arith, past))
 -- ---- a board with its items
 
 module _ (configs : List Config) (fields_at : Place → Option (List Field)) where
-  pub is_shown : (board : Board) (items : Vec Item) → items.items ≡ board_items configs fields_at board → 0 < length items.items
-      → All IsValidExpose (exposes_of configs board.key.config) → IsShown (record { key = board.key; items = items })
-  is_shown board items is some valid = record {
-    own = subst (AllByRecursion (λ (item : Item). exposer item.id ≡ board.key)) (sym is)
-        (all_weaker _ _ (λ (item : Item) is. is.0) _ (items_from fields_at board 0 (exposes_of configs board.key.config)));
-    order = subst AreById (sym is) (items_ascend_from fields_at board 0 (exposes_of configs board.key.config));
+  pub is_shown : (board : Board) (shown : Shown) → shown.key ≡ board.key → shown.items.items ≡ named_items configs fields_at board
+      → 0 < length shown.items.items → All IsValidExpose (exposes_of configs board.key.config) → IsShown shown
+  is_shown board shown key_is is some valid = record {
+    own = subst (λ (key : BoardKey). AllByRecursion (λ (item : Item). exposer item.id ≡ key) shown.items.items) (sym key_is)
+        (subst (AllByRecursion (λ (item : Item). exposer item.id ≡ board.key)) (sym all)
+        (all_filter _ is_kin _ (all_weaker _ _ (λ (item : Item) is. is.0) _ (items_from fields_at board 0 (exposes_of configs board.key.config)))));
+    order = subst AreById (sym all)
+        (ascending_filter (λ (item : Item). item.id) id_cmp is_kin _ (items_ascend_from fields_at board 0 (exposes_of configs board.key.config)));
     some = some;
-    valid = All-same IsValidItem items.items (board_items configs fields_at board) is
-        (rendered_valid board (board_fields fields_at board) 0 (exposes_of configs board.key.config) valid);
+    valid = All-same IsValidItem shown.items.items (filter is_kin (board_items configs fields_at board)) all
+        (All-filter is_kin IsValidItem _ (rendered_valid board (board_fields fields_at board) 0 (exposes_of configs board.key.config) valid));
   }
+    where
+      all : shown.items.items ≡ filter is_kin (board_items configs fields_at board)
+      all = is ∙ named_are_kin board (board_fields fields_at board) 0 (exposes_of configs board.key.config)
 
   abbrev keys_of_boards : List Board → List BoardKey
   keys_of_boards boards = map (λ (board : Board). board.key) boards
@@ -68,20 +73,18 @@ module _ (configs : List Config) (fields_at : Place → Option (List Field)) whe
 
   -- what is shown of the first boards, where the others follow
   pub record IsListed (front back : List Board) (list : List Shown) : Type 0 where
-    pub items_are : items_of list ≡ items configs fields_at front
+    pub items_are : items_of list ≡ all_named configs fields_at front
     pub each : AllByRecursion IsShown list
     pub order : AreByKey (front ++ back) → IsStrictlySortedBy key_cmp (keys_of_shown list ++ keys_of_boards back)
 
   pub listed_none : (boards : List Board) (list : List Shown) → list ≡ [] → IsListed [] boards list
-  unfolding items
   listed_none boards list none = subst (IsListed [] boards) (sym none) (record { items_are = refl; each = tt; order = λ order. order })
 
   items_more : (front : List Board) (board : Board)
-      → items configs fields_at (front ++ board ∷ []) ≡ items configs fields_at front ++ board_items configs fields_at board
-  unfolding items
+      → all_named configs fields_at (front ++ board ∷ []) ≡ all_named configs fields_at front ++ named_items configs fields_at board
   items_more front board =
-      flat_map-append (board_items configs fields_at) front (board ∷ [])
-      ∙ ap (λ (more : List Item). items configs fields_at front ++ more) (append-nil (board_items configs fields_at board))
+      flat_map-append (named_items configs fields_at) front (board ∷ [])
+      ∙ ap (λ (more : List Item). all_named configs fields_at front ++ more) (append-nil (named_items configs fields_at board))
 
   skip_sorted : (front : List BoardKey) (key : BoardKey) (back : List BoardKey) → IsStrictlySortedBy key_cmp (front ++ key ∷ back)
       → IsStrictlySortedBy key_cmp (front ++ back)
@@ -99,11 +102,11 @@ module _ (configs : List Config) (fields_at : Place → Option (List Field)) whe
   append_all {X} (x ∷ one) two three = ap (λ (rest : List X). x ∷ rest) (append_all one two three)
 
   pub listed_more : (front back : List Board) (board : Board) (list more : List Shown) → IsListed front (board ∷ back) list
-      → ShowsMore list board.key (board_items configs fields_at board) more → IsListed (front ++ board ∷ []) back more
+      → ShowsMore list board.key (named_items configs fields_at board) more → IsListed (front ++ board ∷ []) back more
   listed_more front back board list more listed (inl none) = subst (IsListed (front ++ board ∷ []) back) (sym none.1) (record {
     items_are =
-        listed.items_are ∙ sym (items_more front board ∙ ap (λ (last : List Item). items configs fields_at front ++ last) none.0
-        ∙ append-nil (items configs fields_at front));
+        listed.items_are ∙ sym (items_more front board ∙ ap (λ (last : List Item). all_named configs fields_at front ++ last) none.0
+        ∙ append-nil (all_named configs fields_at front));
     each = listed.each;
     order = λ order. skip_sorted (keys_of_shown list) board.key (keys_of_boards back)
         (listed.order (subst AreByKey (append_all front (board ∷ []) back) order));

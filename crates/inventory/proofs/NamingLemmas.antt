@@ -22,14 +22,16 @@ use Rattle.cfg_json.specs.Configs.{Config, counts_of, is_fan, is_pid, is_sensor,
 use Rattle.cfg_json.specs.declared.expose.Body.{Body}
 use Rattle.cfg_json.specs.declared.expose.Body.TheVariants as bodies
 use Rattle.cfg_json.specs.declared.expose.Expose.{Expose}
+use Rattle.cfg_json.specs.declared.item.ControlItem.{ControlItem}
 use Rattle.cfg_json.specs.declared.item.Item.{Item}
 use Rattle.cfg_json.specs.declared.item.ItemPart.{ItemPart}
+use Rattle.cfg_json.specs.declared.item.ItemPart.TheVariants as parts
 use Rattle.inventory.specs.Boards.{has_board}
-use Rattle.inventory.specs.Items.{board_fields, board_items, family_eq, family_of, holder, is_item, is_live, items, live, part_of}
+use Rattle.inventory.specs.Items.{board_fields, board_items, control_at, exposes_of, family_eq, family_of, holder, is_item, is_live, items, live, part_of}
 use Rattle.inventory.specs.Items.{rendered_item, rendered_items, zone_of}
 use Rattle.inventory.specs.Limits.{no_counts}
 use Rattle.inventory.specs.Moments.{AreAscending}
-use Rattle.inventory.specs.Naming.{has_naming, is_naming, naming}
+use Rattle.inventory.specs.Naming.{all_named, has_naming, is_naming, may_be_live, named_item, naming}
 use Rattle.inventory.specs.declared.board.Board.{Board}
 use Rattle.inventory.specs.declared.family.Family.{Family}
 use Rattle.inventory.specs.declared.family.Family.TheVariants as families
@@ -39,10 +41,10 @@ use Rattle.inventory.proofs.BoardsLemmas.{board_cmp_eq}
 -- ---- items that may be live
 
 -- a part of a family, or of a controller
-abbrev has_kin : ItemPart → Bool
+abbrev pub has_kin : ItemPart → Bool
 has_kin part = is_some (family_of part) || is_some (zone_of part)
 
-abbrev is_kin : Item → Bool
+abbrev pub is_kin : Item → Bool
 is_kin item = has_kin item.part
 
 -- elements that pass no test of interest are left out
@@ -103,6 +105,59 @@ module _ (all : List Item) where
       holds_by (λ family name. holder_kin family name i) item (family_of item.part)
       || zone_by (λ family name. holder_kin family name i) (zone_of item.part)) (filter is_kin all))
       ∙ filter_kept (is_live all) is_kin never_live all
+
+-- ---- the exposes whose items may be live
+
+-- what a body is at a board is of a family, or a controller, where it may be live
+kin_of_body : (place : Option Place) (fields : Option (List Field)) (index : ℕ) (body : Body)
+    → IfSome (part_of place fields index body) (λ part. has_kin part ≡ may_be_live body)
+kin_of_body place fields index (bodies.Sensor part) = refl
+kin_of_body place fields index bodies.Fan = refl
+kin_of_body place fields index (bodies.Zone setting) = refl
+kin_of_body place fields index (bodies.Mux part) = refl
+kin_of_body place fields index bodies.Passive = refl
+kin_of_body place fields index (bodies.Control part) = by (control_at place fields index part)
+  where
+    by : (control : Option ControlItem) → IfSome (option_map parts.Control control) (λ part. has_kin part ≡ true)
+    by None = tt
+    by (Some control) = refl
+
+-- what may be live among the items of a board is of a family, or a controller
+module _ (board : Board) (fields : Option (List Field)) where
+  pub named_are_kin : (from : ℕ) (exposes : List Expose) → filter_map (named_item board fields) (enumerate_from from exposes)
+      ≡ filter is_kin (filter_map (rendered_item board fields) (enumerate_from from exposes))
+  named_are_kin from [] = refl
+  named_are_kin from (expose ∷ exposes) =
+      by (rendered board.key.place fields board.index expose.name) (part_of board.key.place fields board.index expose.body) (may_be_live expose.body)
+      (kin_of_body board.key.place fields board.index expose.body) (named_are_kin (from + 1) exposes)
+    where
+      item : List ℕ → ItemPart → Item
+      item name part = record {
+        id = record { config = board.key.config; place = board.key.place; expose = from };
+        name = name;
+        part = part;
+      }
+
+      made : Option (List ℕ) → Option ItemPart → Option Item
+      made name part = option_and_then (λ name. option_map (item name) part) name
+
+      named : List Item
+      named = filter_map (named_item board fields) (enumerate_from (from + 1) exposes)
+
+      rest : List Item
+      rest = filter_map (rendered_item board fields) (enumerate_from (from + 1) exposes)
+
+      by : (name : Option (List ℕ)) (part : Option ItemPart) (may : Bool) → IfSome part (λ part. has_kin part ≡ may) → named ≡ filter is_kin rest
+          → cons_option (cond may (made name part) None) named ≡ filter is_kin (cons_option (made name part) rest)
+      by None part true is later = later
+      by None part false is later = later
+      by (Some name) None true is later = later
+      by (Some name) None false is later = later
+      by (Some name) (Some part) true is later =
+          ap (λ (more : List Item). item name part ∷ more) later
+          ∙ sym (ap (λ (kin : Bool). cond kin (item name part ∷ filter is_kin rest) (filter is_kin rest)) is)
+      by (Some name) (Some part) false is later =
+          later ∙ sym (ap (λ (kin : Bool). cond kin (item name part ∷ filter is_kin rest) (filter is_kin rest)) is)
 
 -- ---- items of boards that are not naming
 
@@ -219,24 +274,32 @@ module _ (configs : List Config) (fields_at : Place → Option (List Field)) whe
           ∙ sym (filter-append is_kin (board_items configs fields_at board) (items configs fields_at boards)
           ∙ ap (λ (first : List Item). first ++ filter is_kin (items configs fields_at boards)) (idle_items board is))
 
--- the items of the naming boards are live just as they are among all
+  pub named_kin : (boards : List Board) → all_named configs fields_at boards ≡ filter is_kin (items configs fields_at boards)
+  unfolding items
+  named_kin [] = refl
+  named_kin (board ∷ boards) =
+      ap₂ (λ (front back : List Item). front ++ back)
+      (named_are_kin board (board_fields fields_at board) 0 (exposes_of configs board.key.config)) (named_kin boards)
+      ∙ sym (filter-append is_kin (board_items configs fields_at board) (items configs fields_at boards))
+
+  -- the items that may be live of the naming boards are those of all boards
+  naming_kin : (boards : List Board) → all_named configs fields_at (naming configs boards) ≡ filter is_kin (items configs fields_at boards)
+  naming_kin boards = named_kin (naming configs boards) ∙ kin_items boards
+
+-- they are live just as they are among all
 pub naming_live : (configs : List Config) (fields_at : Place → Option (List Field)) (boards : List Board)
-    → live (items configs fields_at (naming configs boards)) ≡ live (items configs fields_at boards)
-naming_live configs fields_at boards =
-    sym (live_kin (items configs fields_at (naming configs boards))) ∙ ap live (kin_items configs fields_at boards)
-    ∙ live_kin (items configs fields_at boards)
+    → live (all_named configs fields_at (naming configs boards)) ≡ live (items configs fields_at boards)
+naming_live configs fields_at boards = ap live (naming_kin configs fields_at boards) ∙ live_kin (items configs fields_at boards)
 
 -- a name is held among them by the item that holds it among all
 pub naming_holder : (configs : List Config) (fields_at : Place → Option (List Field)) (boards : List Board) (family : Family) (name : List ℕ)
-    → holder (items configs fields_at (naming configs boards)) family name ≡ holder (items configs fields_at boards) family name
+    → holder (all_named configs fields_at (naming configs boards)) family name ≡ holder (items configs fields_at boards) family name
 naming_holder configs fields_at boards family name =
-    sym (holder_kin (items configs fields_at (naming configs boards)) family name)
-    ∙ ap (λ (all : List Item). holder all family name) (kin_items configs fields_at boards)
-    ∙ holder_kin (items configs fields_at boards) family name
+    ap (λ (all : List Item). holder all family name) (naming_kin configs fields_at boards) ∙ holder_kin (items configs fields_at boards) family name
 
 -- and an item is live among them where it is among all
 pub naming_is_live : (configs : List Config) (fields_at : Place → Option (List Field)) (boards : List Board) (item : Item)
-    → is_live (items configs fields_at (naming configs boards)) item ≡ is_live (items configs fields_at boards) item
+    → is_live (all_named configs fields_at (naming configs boards)) item ≡ is_live (items configs fields_at boards) item
 naming_is_live configs fields_at boards item =
     λ i. unwrap_or (option_map (λ family. is_item item.id (naming_holder configs fields_at boards family item.name i)) (family_of item.part)) false
     || unwrap_or (option_map (λ zone. is_some (naming_holder configs fields_at boards families.Zone zone i)) (zone_of item.part)) false

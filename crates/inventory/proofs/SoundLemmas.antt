@@ -33,9 +33,9 @@ unfolding IsStrictlySortedBy
 no_kept tag = record { order = tt; each = λ id. refl }
 
 -- there are no items
-pub none_sound : {S : Type 0} (boards : Vec Shown) (tags : IndexMap Tag (List ItemId) S) → boards.items ≡ [] → tags.entries ≡ []
-    → IsSound boards tags None true
-none_sound boards tags no_boards no_tags = record {
+pub none_sound : {S : Type 0} (boards : Vec Shown) (tags : IndexMap Tag (List ItemId) S) (over : List (Tag × List ItemId)) → boards.items ≡ []
+    → tags.entries ≡ [] → IsSound boards tags over None true
+none_sound boards tags over no_boards no_tags = record {
   shown = subst AreShown (sym no_boards) no_shown;
   kept = subst (λ (boards : List Shown). AreKept tags.entries boards) (sym no_boards)
       (subst (λ (entries : List (Tag × List ItemId)). AreKept entries []) (sym no_tags) no_kept);

@@ -179,6 +179,19 @@ is_live items item = holds_name items item || has_zone items item
 abbrev pub bears_name : ItemPart → Bool
 bears_name part = is_some (family_of part)
 
+-- whether an item is a controller
+abbrev pub is_control : ItemPart → Bool
+is_control (parts.Control control) = true
+is_control (parts.Sensor sensor) = false
+is_control (parts.Zone setting) = false
+is_control parts.Fan = false
+is_control (parts.Mux mux) = false
+is_control parts.Passive = false
+
+-- whether one of some items is a controller
+abbrev pub has_control : List Item → Bool
+has_control items = list_any (λ (item : Item). is_control item.part) items
+
 -- each of these items that bears a name in a family is live among the items
 abbrev pub AreNamedLive : List Item → List Item → Type 0
 AreNamedLive items these = All (λ (item : Item). bears_name item.part ≡ true → is_live items item ≡ true) these

@@ -31,21 +31,22 @@ pub record AreNoted (notes : Notes) (tags : List (Tag × List ItemId)) (test : T
   pub borne : AreBorne notes.over.entries tags test
   pub firsts : AreFirst notes tags
 
--- there is room for what is staged, which leaves all as it should be
-pub record IsReady {S : Type 0} (boards : Vec Shown) (tags : IndexMap Tag (List ItemId) S) (staged : Staged) : Type 0 where
+-- there is room for what is staged, with what is noted over the tags, which leaves all as it should be
+pub record IsReady {S : Type 0} (boards : Vec Shown) (tags : IndexMap Tag (List ItemId) S) (over : List (Tag × List ItemId)) (staged : Staged) : Type 0 where
   pub room : vec_len boards + vec_len staged.new ≤ vec_capacity boards
-  pub room_tags : length staged.tags.entries ≤ spare tags
+  pub room_tags : length over ≤ spare tags
   pub shown : AreShown (boards_behind boards.items staged)
-  pub borne : AreBorne staged.tags.entries tags.entries (is_bearer (items_of (boards_behind boards.items staged)))
-  pub names : staged.own_names ≡ true → HaveOwnNames (ids_over staged.tags.entries tags.entries)
+  pub borne : AreBorne over tags.entries (is_bearer (items_of (boards_behind boards.items staged)))
+  pub names : staged.own_names ≡ true → HaveOwnNames (ids_over over tags.entries)
 
-abbrev pub IsReadyIf : {S : Type 0} → Vec Shown → IndexMap Tag (List ItemId) S → Option Staged → Type 0
-IsReadyIf boards tags None = ⊤
-IsReadyIf boards tags (Some staged) = IsReady boards tags staged
+abbrev pub IsReadyIf : {S : Type 0} → Vec Shown → IndexMap Tag (List ItemId) S → List (Tag × List ItemId) → Option Staged → Type 0
+IsReadyIf boards tags over None = ⊤
+IsReadyIf boards tags over (Some staged) = IsReady boards tags over staged
 
 -- what holds inside a stock; where it says that names are the items' own, no name in a family is borne by several
-pub record IsSound {S : Type 0} (boards : Vec Shown) (tags : IndexMap Tag (List ItemId) S) (staged : Option Staged) (own_names : Bool) : Type 0 where
+pub record IsSound {S : Type 0} (boards : Vec Shown) (tags : IndexMap Tag (List ItemId) S) (over : List (Tag × List ItemId)) (staged : Option Staged)
+    (own_names : Bool) : Type 0 where
   pub shown : AreShown boards.items
   pub kept : AreKept tags.entries boards.items
-  pub ready : IsReadyIf boards tags staged
+  pub ready : IsReadyIf boards tags over staged
   pub names : own_names ≡ true → HaveOwnNames (ids_in tags.entries)

@@ -1,12 +1,12 @@
 ghost use Rattle.std.specs.Prelude.{◌≡◌, ◌++◌, option_to_list, option_map, IfOk, OnOk};
 ghost use Rattle.inventory.specs.Follows.{kept_with, last_of, AreKeysAscending};
-ghost use Rattle.inventory.specs.Items.{board_items, entry_fields, items};
+ghost use Rattle.inventory.specs.Items.{entry_fields};
 ghost use Rattle.inventory.specs.Lists.{board_list};
-ghost use Rattle.inventory.specs.Naming.{is_naming, naming, naming_items};
+ghost use Rattle.inventory.specs.Naming.{all_named, is_naming, named_items, naming, naming_items};
 ghost use Rattle.inventory.specs.Orders.{AreByKey};
 ghost use Rattle.inventory.specs.Shown.{items_of, AreShown, ShowsMore};
 
-use crate::items::{append_items, exposes_at, record_at};
+use crate::items::{append_named, exposes_at, record_at};
 use crate::limits::counts_at;
 use crate::listing::give_index;
 use crate::shown::Shown;
@@ -59,7 +59,7 @@ fn list_coming<L: Ledger>(
     Ok(boards)
 }
 
-// Appends a board with the items that it has at a moment, if it has some.
+// Appends a board with the items that it has at a moment and that may be live, if it has some.
 fn show_board<L: Ledger>(
     alloc: Global,
     list: &mut Vec<Shown>,
@@ -69,21 +69,18 @@ fn show_board<L: Ledger>(
     moment: &Moment<'_>,
 ) -> Result<(), OutOfMemory>
     ensures { let all = shelf.now ++ option_to_list (option_map (λ config. config.now) plus.entry) in
-        OnOk result (ShowsMore list.old.items board.now.key (board_items all (entry_fields moment.now.entries) board.now) list.new.items) }
+        OnOk result (ShowsMore list.old.items board.now.key (named_items all (entry_fields moment.now.entries) board.now) list.new.items) }
 {
     let mut items = Vec::new(alloc);
     let exposes = exposes_at(shelf, plus, board.key.config);
-    append_items(alloc, &mut items, board, exposes, record_at(moment, board))?;
+    append_named(alloc, &mut items, board, exposes, record_at(moment, board))?;
     if !items.is_empty() {
-        list.push(Shown {
-            key: board.key,
-            items,
-        })?;
+        list.push(Shown::new(board.key, items))?;
     }
     Ok(())
 }
 
-// Lists boards with the items that they have at a moment, those that have some.
+// Lists boards with the items that they have at a moment and that may be live, those that have some.
 fn show_boards<L: Ledger>(
     alloc: Global,
     shelf: &Shelf<L>,
@@ -93,7 +90,7 @@ fn show_boards<L: Ledger>(
 ) -> Result<Vec<Shown>, OutOfMemory>
     requires { AreByKey boards.now }
     ensures items { let all = shelf.now ++ option_to_list (option_map (λ config. config.now) plus.entry) in
-        IfOk result (λ list. items_of list.items ≡ items all (entry_fields moment.now.entries) boards.now) }
+        IfOk result (λ list. items_of list.items ≡ all_named all (entry_fields moment.now.entries) boards.now) }
     ensures shown { IfOk result (λ list. AreShown list.items) }
 {
     let mut list = Vec::new(alloc);
@@ -103,7 +100,7 @@ fn show_boards<L: Ledger>(
     Ok(list)
 }
 
-/// Lists the boards that come with their items, those that have some.
+/// Lists the boards that come with those of their items that may be live, those that have some.
 pub(crate) fn show_coming<L: Ledger>(
     alloc: Global,
     shelf: &Shelf<L>,

@@ -1,10 +1,12 @@
-ghost use Rattle.std.specs.Prelude.{◌≡◌, ◌++◌, filter_map, option_map, option_to_list, IfOk, OnOk};
+ghost use Rattle.std.specs.Prelude.{◌≡◌, ◌++◌, filter_map, option_map, option_to_list, Some, IfOk, OnOk};
 ghost use Rattle.std.specs.List.{All};
 ghost use Rattle.bmc_base.specs.Places.{last_bus};
 ghost use Rattle.tmpl.specs.Rendering.{fields_of, rendered_number};
 ghost use Rattle.cfg_json.specs.Configs.{IsValidExpose};
+ghost use Rattle.cfg_json.specs.declared.expose.Body.TheVariants as bodies;
 ghost use Rattle.inventory.specs.Items.{control_at, mux_at, names_at, number_at, part_of, sensor_at};
 ghost use Rattle.inventory.specs.Items.{board_fields, entry_fields, exposes_of, items, rendered_item, rendered_items};
+ghost use Rattle.inventory.specs.Naming.{may_be_live, named_among, named_item};
 
 use crate::configs::config_at;
 use crate::{Board, Moment};
@@ -113,21 +115,45 @@ fn render_control(
     }))
 }
 
+// Renders a sensor at a spot into memory of its own. It is called and not inlined: a sensor is large, and an expose that is none
+// is not to make room for one.
+#[inline(never)]
+fn render_boxed_sensor(
+    alloc: Global,
+    part: &SensorPart,
+    spot: &Spot<'_>,
+) -> Result<ItemPart, OutOfMemory>
+    ensures { IfOk result (λ item. Some item ≡ part_of spot.now.place (fields_of spot.now.fru) spot.now.index (bodies.Sensor part.now)) }
+{
+    let sensor = Boxed::new(alloc, render_sensor(part, spot))?;
+    Ok(ItemPart::Sensor(sensor))
+}
+
+// Renders a controller at a spot into memory of its own. There is none where one of its names has no rendering. It is not inlined
+// either.
+#[inline(never)]
+fn render_boxed_control(
+    alloc: Global,
+    part: &ControlPart,
+    spot: &Spot<'_>,
+) -> Result<Option<ItemPart>, OutOfMemory>
+    ensures { IfOk result (λ item. item ≡ part_of spot.now.place (fields_of spot.now.fru) spot.now.index (bodies.Control part.now)) }
+{
+    match render_control(alloc, part, spot)? {
+        Some(control) => Ok(Some(ItemPart::Control(Boxed::new(alloc, control)?))),
+        None => Ok(None),
+    }
+}
+
 // Renders the body of an expose at a spot. There is nothing where a name that it asks for has no rendering.
 fn render_part(alloc: Global, body: &Body, spot: &Spot<'_>) -> Result<Option<ItemPart>, OutOfMemory>
     ensures { IfOk result (λ part. part ≡ part_of spot.now.place (fields_of spot.now.fru) spot.now.index body.now) }
 {
     match body {
-        Body::Sensor(part) => {
-            let sensor = Boxed::new(alloc, render_sensor(part, spot))?;
-            Ok(Some(ItemPart::Sensor(sensor)))
-        }
+        Body::Sensor(part) => Ok(Some(render_boxed_sensor(alloc, part, spot)?)),
         Body::Fan => Ok(Some(ItemPart::Fan)),
         Body::Zone(setting) => Ok(Some(ItemPart::Zone(*setting))),
-        Body::Control(part) => match render_control(alloc, part, spot)? {
-            Some(control) => Ok(Some(ItemPart::Control(Boxed::new(alloc, control)?))),
-            None => Ok(None),
-        },
+        Body::Control(part) => render_boxed_control(alloc, part, spot),
         Body::Mux(part) => {
             let mux = Boxed::new(alloc, render_mux(alloc, part, spot)?)?;
             Ok(Some(ItemPart::Mux(mux)))
@@ -136,16 +162,17 @@ fn render_part(alloc: Global, body: &Body, spot: &Spot<'_>) -> Result<Option<Ite
     }
 }
 
-// Renders an expose, with its position among those of its configuration, at a board with this record. There is no item
+// Appends the item of an expose, with its position among those of its configuration, at a board with this record. There is none
 // where its name, or a name that it asks for, has no rendering.
-fn render_item(
+fn append_item(
     alloc: Global,
+    items: &mut Vec<Item>,
     board: &Board,
     position: u32,
     expose: &Expose,
     fru: Option<&FruRecord>,
-) -> Result<Option<Item>, OutOfMemory>
-    ensures { IfOk result (λ item. item ≡ rendered_item board.now (fields_of fru.entry) (position, expose.now)) }
+) -> Result<(), OutOfMemory>
+    ensures { OnOk result (items.new.items ≡ items.old.items ++ option_to_list (rendered_item board.now (fields_of fru.entry) (position, expose.now))) }
 {
     let spot = Spot {
         place: board.key.place,
@@ -153,17 +180,20 @@ fn render_item(
         index: board.index,
     };
     let Rendered::Given(name) = expose.name.render(&spot) else {
-        return Ok(None);
+        return Ok(());
     };
     let Some(part) = render_part(alloc, &expose.body, &spot)? else {
-        return Ok(None);
+        return Ok(());
     };
     let id = ItemId {
         config: board.key.config,
         place: board.key.place,
         expose: position,
     };
-    Ok(Some(Item { id, name, part }))
+    // A push that can fail hands its item back, which costs copies of it.
+    items.reserve(1)?;
+    items.push_reserved(Item { id, name, part });
+    Ok(())
 }
 
 // Returns a position as items have it. A configuration has at most 256 exposes, so each fits.
@@ -185,11 +215,51 @@ pub(crate) fn append_items(
 {
     for (position, expose) in exposes.iter().enumerate() {
         let number = position_of(position)?;
-        if let Some(item) = render_item(alloc, board, number, expose, fru)? {
-            // A push that can fail hands its item back, which costs copies of it.
-            items.reserve(1)?;
-            items.push_reserved(item);
-        }
+        append_item(alloc, items, board, number, expose, fru)?;
+    }
+    Ok(())
+}
+
+// Whether what a body is at a board may be live.
+fn may_be_live(body: &Body) -> bool
+    ensures { result ≡ may_be_live body.now }
+{
+    match body {
+        Body::Sensor(_) | Body::Fan | Body::Zone(_) | Body::Control(_) => true,
+        Body::Mux(_) | Body::Passive => false,
+    }
+}
+
+// Appends the item of an expose as [`append_item`] does, if it may be live.
+fn append_named_item(
+    alloc: Global,
+    items: &mut Vec<Item>,
+    board: &Board,
+    position: u32,
+    expose: &Expose,
+    fru: Option<&FruRecord>,
+) -> Result<(), OutOfMemory>
+    ensures { OnOk result (items.new.items ≡ items.old.items ++ option_to_list (named_item board.now (fields_of fru.entry) (position, expose.now))) }
+{
+    if may_be_live(&expose.body) {
+        append_item(alloc, items, board, position, expose, fru)
+    } else {
+        Ok(())
+    }
+}
+
+// Appends those items of these exposes at a board with this record that may be live. The others are not rendered.
+pub(crate) fn append_named(
+    alloc: Global,
+    items: &mut Vec<Item>,
+    board: &Board,
+    exposes: &[Expose],
+    fru: Option<&FruRecord>,
+) -> Result<(), OutOfMemory>
+    ensures { OnOk result (items.new.items ≡ items.old.items ++ named_among board.now (fields_of fru.entry) exposes.now) }
+{
+    for (position, expose) in exposes.iter().enumerate() {
+        append_named_item(alloc, items, board, position_of(position)?, expose, fru)?;
     }
     Ok(())
 }

@@ -15,7 +15,8 @@ ghost use Rattle.inventory.specs.declared.family.Family.TheVariants as families;
 ghost use Rattle.inventory.specs.declared.tag.Tag.{Tag};
 
 use crate::ids::{Ids, add_id, is_same};
-use crate::shown::{Shown, item_at};
+use crate::shown::Shown;
+use crate::shown_boards::item_at;
 use crate::tag::{Role, member_tag, name_tag};
 use crate::tags::{Notes, Tags, kept_for, noted_for};
 use crate::{Family, ItemList};

@@ -24,6 +24,7 @@ mod live_tests;
 mod lone;
 mod moment;
 mod shown;
+mod shown_boards;
 mod stock;
 mod tag;
 mod tags;

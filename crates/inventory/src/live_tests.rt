@@ -1,6 +1,6 @@
 use crate::stock::{compare, note_change};
 use crate::tag::{Role, Tag};
-use crate::tags::{Tags, first_of, keep_noted};
+use crate::tags::{Notes, Tags, first_of, keep_noted};
 use crate::tests::IDLE;
 use crate::{BoardKey, Shown};
 use bmc_base::{Milli, Name, Place};
@@ -88,14 +88,20 @@ fn boards(alloc: Global, rows: &[Row<'_>]) -> Result<Vec<Shown>, Fail> {
     for row in rows {
         let ItemId { config, place, .. } = id(*row);
         let key = BoardKey { config, place };
-        let count = boards.len();
-        if count > 0 && boards[count - 1].key == key {
-            boards[count - 1].items.push(item(alloc, *row)?)?;
-        } else {
-            let mut items = Vec::new(alloc);
-            items.push(item(alloc, *row)?)?;
-            boards.push(Shown { key, items })?;
+        let mut items = Vec::new(alloc);
+        match boards.pop() {
+            Some(
+                Shown {
+                    key: last,
+                    items: more,
+                    ..
+                },
+            ) if last == key => items = more,
+            Some(last) => boards.push(last)?,
+            None => {}
         }
+        items.push(item(alloc, *row)?)?;
+        boards.push(Shown::new(key, items))?;
     }
     Ok(boards)
 }
@@ -111,7 +117,9 @@ fn keys(alloc: Global, boards: &[Shown]) -> Result<Vec<BoardKey>, Fail> {
 
 // The ids of the items of boards, by what they are noted under.
 fn tags(alloc: Global, boards: &[Shown]) -> Result<Tags, Fail> {
-    Ok(note_change(alloc, &IndexMap::new(alloc), &[], &[], boards)?.over)
+    let mut notes = Notes::none(alloc);
+    note_change(alloc, &mut notes, &IndexMap::new(alloc), &[], &[], boards)?;
+    Ok(notes.over)
 }
 
 // Names that occur twice: in one family, in several, and at an item of no family. Two controllers are in zone 1.
@@ -149,9 +157,10 @@ fn assert_first(
 
 // Takes these boards out.
 fn forget(alloc: Global, tags: &mut Tags, boards: &[Shown], gone: &[BoardKey]) -> Result<(), Fail> {
-    let notes = note_change(alloc, tags, boards, gone, &[])?;
+    let mut notes = Notes::none(alloc);
+    note_change(alloc, &mut notes, tags, boards, gone, &[])?;
     tags.reserve(notes.over.len())?;
-    keep_noted(tags, notes.over);
+    keep_noted(tags, &mut notes.over);
     Ok(())
 }
 
@@ -208,7 +217,15 @@ fn assert_change(
     let here = boards(alloc, before)?;
     let there = boards(alloc, after)?;
     let tags = tags(alloc, &here)?;
-    let notes = note_change(alloc, &tags, &here, &keys(alloc, &here)?, &there)?;
+    let mut notes = Notes::none(alloc);
+    note_change(
+        alloc,
+        &mut notes,
+        &tags,
+        &here,
+        &keys(alloc, &here)?,
+        &there,
+    )?;
     let told = compare(alloc, &tags, &notes, &here, &there)?;
     assert_rows(rt, told.gone.as_slice(), gone)?;
     assert_rows(rt, told.new.as_slice(), new)

@@ -17,7 +17,8 @@ ghost use Rattle.inventory.specs.declared.tag.Tag.{Tag};
 use crate::coming::show_coming;
 use crate::ids::is_same;
 use crate::leads::{copy_items, find_leads};
-use crate::shown::{Shown, insert_boards, item_at, remove_boards};
+use crate::shown::Shown;
+use crate::shown_boards::{insert_boards, item_at, remove_boards};
 use crate::tag::name_tag;
 use crate::tags::{Notes, Tags, first_of, forget_boards, keep_noted, note_boards, stay_own};
 use crate::{BoardKey, Difference, Family, IndexKeep, ItemList, Moment};
@@ -27,18 +28,17 @@ use indexmap::IndexMap;
 use std::alloc::Global;
 use std::marker::Model;
 
-// What is staged: the boards that go, those that come, for each tag of their items the ids that are kept for it then, and
-// whether it is known that no two items share a name in a family then.
+// What is staged beside the notes: the boards that go, those that come, and whether it is known that no two items share a name in
+// a family then.
 #[derive(Drop)]
 struct Staged {
     gone: Vec<BoardKey>,
     new: Vec<Shown>,
-    tags: Tags,
     own_names: bool,
 }
 
-/// What the naming boards of one moment expose, and which of it is live. Boards that go and come are staged, so that taking
-/// them over takes no memory. What either takes follows the items of these boards, those that
+/// The items of one moment that may be live, which are sensors, zones, fans and controllers, and which of them are. Boards that go
+/// and come are staged, so that taking them over takes no memory. What either takes follows the items of these boards, those that
 /// bear their names, and the controllers in the zones whose names become held or free or that these boards have controllers in.
 /// Beside them stands whether it is known that no two items share a name in a family.
 #[derive(Drop)]
@@ -47,6 +47,8 @@ pub struct Stock {
     tags: Tags,
     staged: Option<Staged>,
     own_names: bool,
+    // For each tag of the items of boards that are staged the ids that are kept for it then. The room serves each event.
+    notes: Notes,
 }
 
 impl Model for Stock {
@@ -57,7 +59,7 @@ impl Model for Stock {
 
     ghost view = { λ s. stock_of s.boards s.staged };
 
-    ghost invariant = { λ s. IsSound s.boards s.tags s.staged s.own_names };
+    ghost invariant = { λ s. IsSound s.boards s.tags s.notes.over.entries s.staged s.own_names };
 }
 
 /// The live items that go and those that come, by board and expose.
@@ -81,22 +83,21 @@ fn copy_keys(alloc: Global, keys: &[BoardKey]) -> Result<Vec<BoardKey>, OutOfMem
 /// Notes the ids for the tags of the items where the boards with these keys go and others come.
 pub(crate) fn note_change(
     alloc: Global,
+    notes: &mut Notes,
     tags: &Tags,
     boards: &[Shown],
     gone: &[BoardKey],
     new: &[Shown],
-) -> Result<Notes, OutOfMemory>
+) -> Result<(), OutOfMemory>
+    requires tags { notes.old.over.entries ≡ [] }
+    requires firsts { notes.old.firsts.items ≡ [] }
     ensures { AreShown boards.now → (test : Tag → ItemId → Bool) → AreBorne [] tags.now.entries test
-        → IfOk result (λ notes. AreNoted notes tags.now.entries
+        → OnOk result (AreNoted notes.new tags.now.entries
         (λ tag id. (test tag id && not (is_bearer (on gone.now (items_of boards.now)) tag id)) || is_bearer (items_of new.now) tag id)) }
 {
-    let mut notes = Notes {
-        over: IndexMap::new(alloc),
-        firsts: Vec::new(alloc),
-    };
-    forget_boards(alloc, &mut notes, tags, boards, gone)?;
-    note_boards(alloc, &mut notes, tags, new)?;
-    Ok(notes)
+    forget_boards(alloc, notes, tags, boards, gone)?;
+    note_boards(alloc, notes, tags, new)?;
+    Ok(())
 }
 
 /// Lists the live items that go and those that come, where others take the place of the ids for some tags.
@@ -133,6 +134,7 @@ impl Stock {
             tags: IndexMap::new(alloc),
             staged: None,
             own_names: true,
+            notes: Notes::none(alloc),
         })
     }
 
@@ -164,19 +166,25 @@ impl Stock {
         ensures err { OnErr result (self.new.staged ≡ None) }
     {
         self.staged = None;
+        self.notes.clear(alloc);
         let gone = copy_keys(alloc, difference.gone_boards.as_slice())?;
         let keys = difference.new_boards.as_slice();
         let new = show_coming(alloc, shelf, plus, keep, keys, after)?;
-        let notes = note_change(alloc, &self.tags, &self.boards, &gone, &new)?;
-        let items = compare(alloc, &self.tags, &notes, &self.boards, &new)?;
-        let Notes { over: tags, .. } = notes;
-        self.tags.reserve(tags.len())?;
+        note_change(
+            alloc,
+            &mut self.notes,
+            &self.tags,
+            &self.boards,
+            &gone,
+            &new,
+        )?;
+        let items = compare(alloc, &self.tags, &self.notes, &self.boards, &new)?;
+        self.tags.reserve(self.notes.over.len())?;
         self.boards.reserve(new.len())?;
-        let own_names = stay_own(self.own_names, &tags);
+        let own_names = stay_own(self.own_names, &self.notes.over);
         self.staged = Some(Staged {
             gone,
             new,
-            tags,
             own_names,
         });
         Ok(items)
@@ -193,13 +201,12 @@ impl Stock {
                 Staged {
                     gone,
                     new,
-                    tags,
                     own_names,
                 },
             ) => {
                 remove_boards(&mut self.boards, &gone);
                 insert_boards(&mut self.boards, new);
-                keep_noted(&mut self.tags, tags);
+                keep_noted(&mut self.tags, &mut self.notes.over);
                 self.own_names = own_names || self.tags.is_empty();
             }
             None => unreachable!(),

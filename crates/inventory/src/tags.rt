@@ -10,7 +10,8 @@ ghost use Rattle.inventory.specs.declared.tag.Tag.{Tag};
 
 use crate::BoardKey;
 use crate::ids::Ids;
-use crate::shown::{Shown, board_items};
+use crate::shown::Shown;
+use crate::shown_boards::board_items;
 use crate::tag::{Role, Tag, tag_of};
 use bmc_base::OutOfMemory;
 use cfg_json::{Item, ItemId};
@@ -21,11 +22,38 @@ use std::alloc::Global;
 /// For each tag the ids of the items that are noted under it.
 pub(crate) type Tags = IndexMap<Tag, Ids>;
 
+// For how many tags notes keep their room from one event to the next.
+const MOST_SPARE: usize = 64;
+
 /// The ids that take the place of those that are kept for some tags, and beside each of these tags the first id that is kept.
 #[derive(Drop)]
 pub(crate) struct Notes {
     pub(crate) over: Tags,
     pub(crate) firsts: Vec<Option<ItemId>>,
+}
+
+impl Notes {
+    /// Returns notes of nothing, which take no memory.
+    pub(crate) fn none(alloc: Global) -> Notes
+        ensures tags { result.over.entries ≡ [] }
+        ensures firsts { result.firsts.items ≡ [] }
+    {
+        Notes {
+            over: IndexMap::new(alloc),
+            firsts: Vec::new(alloc),
+        }
+    }
+
+    /// Empties the notes. They keep their room, if it is not for many tags, and if no tag is left.
+    pub(crate) fn clear(&mut self, alloc: Global)
+        ensures tags { self.new.over.entries ≡ [] }
+        ensures firsts { self.new.firsts.items ≡ [] }
+    {
+        if !self.over.is_empty() || self.over.capacity() > MOST_SPARE {
+            self.over = IndexMap::new(alloc);
+        }
+        self.firsts.clear();
+    }
 }
 
 /// Returns the first id that is kept for a tag, if there is one.
@@ -198,10 +226,10 @@ fn keep_ids(tags: &mut Tags, tag: Tag, ids: Ids)
     }
 }
 
-/// Puts the ids that are noted in place of those that are kept. There is room for them.
-pub(crate) fn keep_noted(tags: &mut Tags, mut over: Tags)
-    requires { length over.entries ≤ spare tags.old }
-    ensures { (tag : Tag) → ids_in tags.new.entries tag ≡ ids_over over.entries tags.old.entries tag }
+/// Moves the ids that are noted in place of those that are kept. There is room for them.
+pub(crate) fn keep_noted(tags: &mut Tags, over: &mut Tags)
+    requires { length over.old.entries ≤ spare tags.old }
+    ensures { (tag : Tag) → ids_in tags.new.entries tag ≡ ids_over over.old.entries tags.old.entries tag }
 {
     for _ in 0..over.len() {
         match over.pop() {

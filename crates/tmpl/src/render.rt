@@ -168,6 +168,16 @@ pub(crate) fn named(text: &str) -> Rendered
     }
 }
 
+// What is rendered, where it comes to this text, which is held already.
+pub(crate) fn given(text: ArrayString<LONGEST_NAME>) -> Rendered
+    ensures { result ≡ given (result_ok (name_of text.bytes)) }
+{
+    match Name::of(text) {
+        Some(name) => Rendered::Given(name),
+        None => Rendered::Skip,
+    }
+}
+
 // The number of 1 to 10 digits, at most the maximum.
 pub(crate) fn number_in(text: &str, max: u32) -> Option<u32>
     ensures { result ≡ option_and_then (up_to max) (digits number_digits text.now) }

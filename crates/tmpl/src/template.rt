@@ -4,7 +4,7 @@ ghost use Rattle.tmpl.specs.Rendering.{fields_of, rendered, rendered_number, giv
 
 use crate::Spot;
 use crate::lead::{Leads, leads_of};
-use crate::render::{named, number_in, push_text_of};
+use crate::render::{given, named, number_in, push_text_of};
 use crate::stretch::{all_right, is_fixed, is_single, uses_index};
 use arrayvec::ArrayString;
 use bmc_base::Name;
@@ -101,7 +101,7 @@ impl Template {
         }
         let mut out = ArrayString::new();
         match push_text_of(&mut out, self.text.as_str(), &self.leads, spot) {
-            Some(()) => named(out.as_str()),
+            Some(()) => given(out),
             None => Rendered::Skip,
         }
     }

@@ -1,4 +1,4 @@
-use Rattle.std.proofs.Common.{◌≡◌, ◌∙◌, ◌++◌, List, Option, inr, refl, sym, ap₂, arith, option_map}
+use Rattle.std.proofs.Common.{◌≡◌, ◌∙◌, ◌++◌, List, Option, inr, sym, ap₂, arith, option_map}
 use Rattle.std.specs.Prelude.{option_to_list}
 use Rattle.std.specs.List.{All}
 use Rattle.std.proofs.lemmas.Grind.{common_steps}
@@ -7,8 +7,8 @@ use Rattle.fru_area.specs.declared.field.Field.{Field}
 use Rattle.cfg_json.specs.Configs.{Config, IsValidExpose}
 use Rattle.cfg_json.specs.declared.expose.Expose.{Expose}
 use Rattle.cfg_json.specs.declared.item.Item.{Item}
-use Rattle.inventory.specs.Items.{board_items, entry_fields, exposes_of, rendered_items}
-use Rattle.inventory.specs.declared.shown.Shown.{Shown}
+use Rattle.inventory.specs.Items.{entry_fields, exposes_of}
+use Rattle.inventory.specs.Naming.{named_among, named_items}
 use Rattle.inventory.proofs.ComingLemmas.{is_shown}
 use Rattle.inventory.proofs.coming.show_board.Goals as goal
 
@@ -17,19 +17,20 @@ returns-in_ok-push g c =
     let all : List Config = c.args.shelf.now ++ option_to_list (option_map (λ config. config.now) c.args.plus) in
     let board = c.args.board.now in
     let fields_at = entry_fields c.args.moment.now.entries in
-    let items : c.append_items.new.items.items ≡ board_items all fields_at board =
-    c.in_ok-append_items.ensures
+    let items : c.append_named.new.items.items ≡ named_items all fields_at board =
+    c.in_ok-append_named.ensures
     ∙ ap₂ (λ (front : List Item) (more : List Item). front ++ more) c.new-items.ensures.items
-    (ap₂ (λ (fields : Option (List Field)) (exposes : List Expose). rendered_items board fields exposes) c.record_at.ensures
+    (ap₂ (λ (fields : Option (List Field)) (exposes : List Expose). named_among board fields exposes) c.record_at.ensures
     c.exposes_at-exposes.ensures.value) in
     let valid : All IsValidExpose (exposes_of all board.key.config) =
     All-same IsValidExpose (exposes_of all board.key.config) c.exposes_at-exposes.result.now (sym c.exposes_at-exposes.ensures.value)
     c.exposes_at-exposes.ensures.valid in
-    let shown : Shown = record { key = board.key; items = c.append_items.new.items } in
+    let shown = c.new.result in
+    let shown_items : shown.items.items ≡ named_items all fields_at board = c.new.ensures.items ∙ items in
     inr (
       shown,
-      refl,
-      items,
-      is_shown all fields_at board c.append_items.new.items items (grind (arith, common_steps)) valid,
+      c.new.ensures.key,
+      shown_items,
+      is_shown all fields_at board shown c.new.ensures.key shown_items (grind (arith, common_steps)) valid,
       c.in_ok-push.ensures.items,
     )

@@ -3,7 +3,8 @@ use Rattle.std.specs.Prelude.{option_to_list}
 use Rattle.std.proofs.lemmas.List.{take_all}
 use Rattle.std.proofs.lemmas.Option.{slice_get_read}
 use Rattle.cfg_json.specs.Configs.{Config}
-use Rattle.inventory.specs.Items.{entry_fields, items}
+use Rattle.inventory.specs.Items.{entry_fields}
+use Rattle.inventory.specs.Naming.{all_named}
 use Rattle.inventory.specs.declared.board.Board.{Board}
 use Rattle.inventory.proofs.ComingLemmas.{drop_all, listed_all, listed_more, listed_none, IsListed}
 use Rattle.inventory.proofs.LessLemmas.{drop_at, take_at}
@@ -31,7 +32,7 @@ pub returns-clause-items : goal.returns-clause-items
 returns-clause-items g c =
     let all : List Config = c.args.shelf.now ++ option_to_list (option_map (λ config. config.now) c.args.plus) in
     c.loop-board.invariant.items_are
-    ∙ ap (items all (entry_fields c.args.moment.now.entries)) (take_all c.loop-board.board-index c.args.boards.now c.loop-board-test.false)
+    ∙ ap (all_named all (entry_fields c.args.moment.now.entries)) (take_all c.loop-board.board-index c.args.boards.now c.loop-board-test.false)
 
 pub returns-clause-shown : goal.returns-clause-shown
 returns-clause-shown g c =

@@ -25,7 +25,7 @@ invariant_of-self-2 g c =
     let tags = c.self.inside.tags.entries in
     let gone = c.in_ok-gone.gone.items in
     let new = c.in_ok-new.new.items in
-    let notes = c.in_ok-notes.notes in
+    let notes = c.note_change.new.notes in
     let all : List Config = c.args.shelf.now ++ option_to_list (option_map (λ config. config.now) c.args.plus) in
     let kept_lists = c.args.keep.now.kept in
     let fields_at = entry_fields c.args.after.now.entries in
@@ -40,7 +40,7 @@ invariant_of-self-2 g c =
     follows_as gone (items_of boards) (items_of new) gone_is items coming c.requires.tie.1 in
     let noted : AreNoted notes tags (noted_for gone boards new) =
     noted_as notes tags c.deref-2.ensures.value c.deref.ensures.value c.deref-3.ensures.value
-    (c.in_ok-notes.ensures (subst AreShown (sym c.deref.ensures.value) shown) (is_bearer (items_of boards)) c.self.invariant.kept) in
+    (c.in_ok-note_change.ensures (subst AreShown (sym c.deref.ensures.value) shown) (is_bearer (items_of boards)) c.self.invariant.kept) in
     let same : c.reserve-2.new.self.items ≡ boards = c.reserve-2.ensures.items in
     let same_tags : c.reserve.new.self.entries ≡ tags = c.reserve.ensures.entries in
     record {
@@ -69,7 +69,7 @@ returns-clause-staged g c next given =
     let tags = c.self.inside.tags.entries in
     let gone = c.in_ok-gone.gone.items in
     let new = c.in_ok-new.new.items in
-    let notes = c.in_ok-notes.notes in
+    let notes = c.note_change.new.notes in
     let all : List Config = c.args.shelf.now ++ option_to_list (option_map (λ config. config.now) c.args.plus) in
     let kept_lists = c.args.keep.now.kept in
     let fields_at = entry_fields c.args.after.now.entries in
@@ -90,7 +90,7 @@ returns-clause-gone g c =
     let tags = c.self.inside.tags.entries in
     let gone = c.in_ok-gone.gone.items in
     let new = c.in_ok-new.new.items in
-    let notes = c.in_ok-notes.notes in
+    let notes = c.note_change.new.notes in
     let all : List Config = c.args.shelf.now ++ option_to_list (option_map (λ config. config.now) c.args.plus) in
     let kept_lists = c.args.keep.now.kept in
     let fields_at = entry_fields c.args.after.now.entries in
@@ -105,7 +105,7 @@ returns-clause-gone g c =
     follows_as gone (items_of boards) (items_of new) gone_is items coming c.requires.tie.1 in
     let noted : AreNoted notes tags (noted_for gone boards new) =
     noted_as notes tags c.deref-2.ensures.value c.deref.ensures.value c.deref-3.ensures.value
-    (c.in_ok-notes.ensures (subst AreShown (sym c.deref.ensures.value) shown) (is_bearer (items_of boards)) c.self.invariant.kept) in
+    (c.in_ok-note_change.ensures (subst AreShown (sym c.deref.ensures.value) shown) (is_bearer (items_of boards)) c.self.invariant.kept) in
     told_gone gone keys boards new c.requires.tie.0 shown new_shown follows notes tags c.self.invariant.kept noted c.in_ok-items.items.gone
     (λ ids lists.
     c.in_ok-items.ensures.gone (subst AreShown (sym c.deref-4.ensures.value) shown) (subst AreShown (sym c.deref-5.ensures.value) new_shown)
@@ -122,7 +122,7 @@ returns-clause-new g c =
     let tags = c.self.inside.tags.entries in
     let gone = c.in_ok-gone.gone.items in
     let new = c.in_ok-new.new.items in
-    let notes = c.in_ok-notes.notes in
+    let notes = c.note_change.new.notes in
     let all : List Config = c.args.shelf.now ++ option_to_list (option_map (λ config. config.now) c.args.plus) in
     let kept_lists = c.args.keep.now.kept in
     let fields_at = entry_fields c.args.after.now.entries in
@@ -137,7 +137,7 @@ returns-clause-new g c =
     follows_as gone (items_of boards) (items_of new) gone_is items coming c.requires.tie.1 in
     let noted : AreNoted notes tags (noted_for gone boards new) =
     noted_as notes tags c.deref-2.ensures.value c.deref.ensures.value c.deref-3.ensures.value
-    (c.in_ok-notes.ensures (subst AreShown (sym c.deref.ensures.value) shown) (is_bearer (items_of boards)) c.self.invariant.kept) in
+    (c.in_ok-note_change.ensures (subst AreShown (sym c.deref.ensures.value) shown) (is_bearer (items_of boards)) c.self.invariant.kept) in
     told_new gone keys boards new c.requires.tie.0 shown new_shown follows notes tags c.self.invariant.kept noted c.in_ok-items.items.new
     (λ ids lists.
     c.in_ok-items.ensures.new (subst AreShown (sym c.deref-4.ensures.value) shown) (subst AreShown (sym c.deref-5.ensures.value) new_shown)

@@ -1,6 +1,6 @@
 use Rattle.std.proofs.Common.{◌≡◌, ◌≤◌, take, vec_len, vec_capacity}
 use Rattle.inventory.specs.Shown.{without_keys, AreOrdered}
-use Rattle.inventory.proofs.shown.remove_boards.Given as goal
+use Rattle.inventory.proofs.shown_boards.remove_boards.Given as goal
 
 abbrev pub invariant-loop-key : goal.invariant-loop-key
 invariant-loop-key l = record {

@@ -2,7 +2,7 @@ use Rattle.std.proofs.Common.{◌≡◌, ◌∙◌, Bool, true, false, cond, sym
 use Rattle.inventory.specs.Shown.{is_board}
 use Rattle.inventory.specs.declared.shown.Shown.{Shown}
 use Rattle.inventory.proofs.ShownLemmas.{board_at, items_in, there_at}
-use Rattle.inventory.proofs.shown.board_items.Goals as goal
+use Rattle.inventory.proofs.shown_boards.board_items.Goals as goal
 
 pub returns-then-is_board_at : goal.returns-then-is_board_at
 returns-then-is_board_at c shown =

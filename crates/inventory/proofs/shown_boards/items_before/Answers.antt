@@ -5,7 +5,7 @@ use Rattle.inventory.specs.Orders.{id_cmp}
 use Rattle.inventory.proofs.IdsLemmas.{id_total}
 use Rattle.inventory.proofs.ShownLemmas.{id_of}
 use Rattle.inventory.proofs.SortedLemmas.{count_is, is_before, partitioned}
-use Rattle.inventory.proofs.shown.items_before.Goals as goal
+use Rattle.inventory.proofs.shown_boards.items_before.Goals as goal
 
 pub returns-clause-value : goal.returns-clause-value
 returns-clause-value c ascend =

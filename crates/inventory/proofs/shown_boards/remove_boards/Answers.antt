@@ -3,7 +3,7 @@ use Rattle.std.proofs.lemmas.List.{take_more}
 use Rattle.inventory.specs.Shown.{without_keys, AreOrdered}
 use Rattle.inventory.specs.declared.board.BoardKey.{BoardKey}
 use Rattle.inventory.proofs.ShownLemmas.{ordered_without, without_more, without_none}
-use Rattle.inventory.proofs.shown.remove_boards.Goals as goal
+use Rattle.inventory.proofs.shown_boards.remove_boards.Goals as goal
 
 pub loop-key-init : goal.loop-key-init
 loop-key-init c = record { items = λ order. sym (without_none c.args.boards.now.items); len = omega arith; capacity = search arith }

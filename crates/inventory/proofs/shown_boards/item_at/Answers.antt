@@ -6,7 +6,7 @@ use Rattle.inventory.specs.Follows.{on}
 use Rattle.inventory.specs.Orders.{exposer, id_cmp, AreById}
 use Rattle.inventory.specs.Shown.{is_item_at, items_of}
 use Rattle.inventory.proofs.ShownLemmas.{by_id, item_found}
-use Rattle.inventory.proofs.shown.item_at.Goals as goal
+use Rattle.inventory.proofs.shown_boards.item_at.Goals as goal
 
 pub returns : goal.returns
 returns c shown =

@@ -5,7 +5,7 @@ use Rattle.inventory.specs.Orders.{key_cmp}
 use Rattle.inventory.specs.Shown.{AreOrdered}
 use Rattle.inventory.specs.declared.shown.Shown.{Shown}
 use Rattle.inventory.proofs.ShownLemmas.{board_inserted}
-use Rattle.inventory.proofs.shown.insert_board.Goals as goal
+use Rattle.inventory.proofs.shown_boards.insert_board.Goals as goal
 
 pub returns-clause-items : goal.returns-clause-items
 returns-clause-items c order =

@@ -1,7 +1,7 @@
 use Rattle.std.proofs.Common.{◌≡◌, ◌+◌, ◌≤◌, vec_len, vec_capacity}
 use Rattle.inventory.specs.Shown.{with_all}
 use Rattle.inventory.specs.Shown.{AreOrdered}
-use Rattle.inventory.proofs.shown.insert_boards.Given as goal
+use Rattle.inventory.proofs.shown_boards.insert_boards.Given as goal
 
 abbrev pub invariant-loop : goal.invariant-loop
 invariant-loop l = record {

@@ -5,7 +5,7 @@ use Rattle.inventory.specs.Orders.{key_cmp}
 use Rattle.inventory.specs.Shown.{is_board, AreOrdered}
 use Rattle.inventory.specs.declared.shown.Shown.{Shown}
 use Rattle.inventory.proofs.ShownLemmas.{board_removed}
-use Rattle.inventory.proofs.shown.remove_board.Goals as goal
+use Rattle.inventory.proofs.shown_boards.remove_board.Goals as goal
 
 pub returns-then-is_board_at-clause-items : goal.returns-then-is_board_at-clause-items
 returns-then-is_board_at-clause-items c order =

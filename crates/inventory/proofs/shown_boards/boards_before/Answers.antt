@@ -5,7 +5,7 @@ use Rattle.inventory.specs.Orders.{key_cmp}
 use Rattle.inventory.proofs.IdsLemmas.{key_total}
 use Rattle.inventory.proofs.ShownLemmas.{key_of_board}
 use Rattle.inventory.proofs.SortedLemmas.{count_is, is_before, partitioned}
-use Rattle.inventory.proofs.shown.boards_before.Goals as goal
+use Rattle.inventory.proofs.shown_boards.boards_before.Goals as goal
 
 pub returns-clause-value : goal.returns-clause-value
 returns-clause-value c ascend =

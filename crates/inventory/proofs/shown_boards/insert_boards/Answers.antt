@@ -2,7 +2,7 @@ use Rattle.std.proofs.Common.{◌≡◌, ◌∙◌, List, sym, subst, ap, arith}
 use Rattle.inventory.specs.Shown.{with_all, with_shown, AreOrdered}
 use Rattle.inventory.specs.declared.shown.Shown.{Shown}
 use Rattle.inventory.proofs.ShownLemmas.{ordered_before, with_last}
-use Rattle.inventory.proofs.shown.insert_boards.Goals as goal
+use Rattle.inventory.proofs.shown_boards.insert_boards.Goals as goal
 
 pub loop-preserved : goal.loop-preserved
 loop-preserved c =
