@@ -8,7 +8,7 @@ use Rattle.cfg_json.specs.declared.item.ItemId.{ItemId}
 use Rattle.cfg_json.specs.declared.item.ItemPart.{ItemPart}
 use Rattle.cfg_json.specs.declared.item.ItemPart.TheVariants as parts
 use Rattle.fan_zone.specs.Live.{LiveControl, controls, items_of, with_control}
-use Rattle.fan_zone.specs.SetRows.{is_control}
+use Rattle.inventory.specs.Items.{is_control}
 
 no_control : (id : ItemId) (part : ItemPart) (more : List LiveControl) → is_control part ≡ false → with_control id part more ≡ more
 no_control id (parts.Control item) more other = absurd (true≢false other)

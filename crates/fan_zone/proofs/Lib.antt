@@ -17,6 +17,8 @@ pub mod Room
 pub mod SeatLoop
 pub mod Renewing
 pub mod FindRows
+pub mod CutFans
+pub mod KeptFans
 pub mod SetLaw
 pub mod Apart
 pub mod NewSound

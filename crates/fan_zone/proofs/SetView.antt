@@ -14,7 +14,7 @@ use Rattle.fan_zone.specs.declared.rows.FanPlan.{FanPlan}
 use Rattle.fan_zone.specs.declared.rows.FanRow.{FanRow}
 use Rattle.live_sensors.specs.Sensors.{LiveSensors}
 use Rattle.fan_zone.specs.Ticks.{ZonesView}
-use Rattle.fan_zone.specs.Sets.{Seating, kept_numbers, kept_seat, free, cleared_box, seated, seated_free, seat_next, seat_all}
+use Rattle.fan_zone.specs.Sets.{Seating, kept_numbers, kept_seat, free, cleared, cleared_box, seated, seated_free, seat_next, seat_all}
 use Rattle.fan_zone.specs.SetRows.{plan_of, zone_row_of, fan_plan_of, fan_row_of}
 use Rattle.fan_zone.specs.Settings.{before, set_to}
 use Rattle.fan_zone.proofs.Numbered.{length-numbered}
@@ -69,6 +69,11 @@ length_seats : (rows : List ZoneRow) (sensors : LiveSensors) (old : List Held) (
     → length (seat_all rows sensors old s cs).bank ≡ length s.bank
 length_seats rows sensors old s [] = refl
 length_seats rows sensors old s (c ∷ cs) = length_seats rows sensors old (seat_next rows sensors old s c) cs ∙ length_one rows sensors c s (kept_seat old c.id)
+
+-- the seats of these controllers, where all were seated anew
+abbrev pub seats_by : List ZoneRow → LiveSensors → List Held → List Seen → List LiveControl → Seating
+seats_by rows sensors old bank cs =
+    seat_all rows sensors old (record { held = []; taken = kept_numbers old cs; bank = cleared (kept_numbers old cs) bank }) cs
 
 -- `set` keeps the number of boxes
 pub length_renewed : (rows : List ZoneRow) (sensors : LiveSensors) (old : List Held) (bank : List Seen) (live : List Item)

@@ -11,6 +11,7 @@ pub mod Live
 pub mod Sets
 pub mod SetRows
 pub mod Seats
+pub mod Kept
 pub mod Settings
 pub mod IsSets
 pub mod IsTicks

@@ -31,14 +31,14 @@ kept_zone name (Some row) = record { name = name; failsafe = row.failsafe; setpo
 abbrev pub zone_row_of : List ZonePlan → List ZoneRow → LiveZone → ZoneRow
 zone_row_of plans rows zone = kept_zone zone.name (find_zone zone.id plans rows)
 
--- whether an item is a controller
-abbrev pub is_control : ItemPart → Bool
-is_control (parts.Control item) = true
-is_control (parts.Zone setting) = false
-is_control parts.Fan = false
-is_control (parts.Sensor sensor) = false
-is_control (parts.Mux part) = false
-is_control parts.Passive = false
+-- whether an item is a fan
+abbrev pub is_fan : ItemPart → Bool
+is_fan parts.Fan = true
+is_fan (parts.Zone setting) = false
+is_fan (parts.Control item) = false
+is_fan (parts.Sensor sensor) = false
+is_fan (parts.Mux part) = false
+is_fan parts.Passive = false
 
 -- whether a controller commands fans
 abbrev pub commands_fans : ControlItem → Bool

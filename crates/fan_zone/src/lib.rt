@@ -4,6 +4,7 @@
 mod acting;
 mod bank;
 mod held;
+mod kept;
 mod law;
 mod passes;
 mod reading;

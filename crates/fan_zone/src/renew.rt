@@ -2,11 +2,13 @@ ghost use Rattle.std.specs.Prelude.{◌≡◌, ◌+◌, ◌≤◌, ◌<◌, ◌+
 ghost use Rattle.std.specs.Option.{MatchOption};
 ghost use Rattle.std.specs.Vec.{vec_capacity};
 ghost use Rattle.std.specs.List.{list_any};
-ghost use Rattle.fan_zone.specs.Live.{controls, fans, items_of, zones};
+ghost use Rattle.fan_zone.specs.Live.{controls, fan_id, fans, items_of, zones};
 ghost use Rattle.fan_zone.specs.Sound.{HaveOwnIds, fan_plan_id, zone_plan_id};
-ghost use Rattle.fan_zone.specs.SetRows.{commands_fans, is_control, outputs_to, first_from};
+ghost use Rattle.fan_zone.specs.SetRows.{commands_fans, outputs_to, first_from};
+ghost use Rattle.inventory.specs.Items.{is_control};
 ghost use Rattle.fan_zone.specs.SetRows.{fan_plan_of, fan_row_of, find_fan, find_zone, kept_zone, plan_of, zone_row_of};
 
+use crate::kept::{Middle, keep_ends, replace};
 use crate::passes::thermal_setpoint;
 use crate::resolve::{role_of, same_id, same_name};
 use crate::rows::{FanPlan, FanRow, ZonePlan, ZoneRow};
@@ -170,8 +172,28 @@ fn to_last<'l, 'i>(live: &'l [&'i Item]) -> &'l [&'i Item]
     &[]
 }
 
-// The number of the controller that holds a fan.
-fn holder(live: &[&Item], name: &Name) -> Option<usize>
+/// The items from the first controller to the last one.
+pub(crate) fn around_controllers<'l, 'i>(live: &'l [&'i Item]) -> &'l [&'i Item]
+    ensures { controls (items_of result.now) ≡ controls (items_of live.now) }
+{
+    to_last(from_first(live))
+}
+
+/// The number of the controller that holds a fan.
+#[inline(always)]
+pub(crate) fn holder(live: &[&Item], name: &Name) -> Option<usize>
+    ensures { result ≡ first_from 0 name.now (controls (items_of live.now)) }
+{
+    if live.is_empty() {
+        None
+    } else {
+        first_holder(live, name)
+    }
+}
+
+// The number of the first controller that outputs to this name. It is not inlined: mostly there is no controller to ask.
+#[inline(never)]
+fn first_holder(live: &[&Item], name: &Name) -> Option<usize>
     ensures { result ≡ first_from 0 name.now (controls (items_of live.now)) }
 {
     let mut number = 0;
@@ -276,24 +298,24 @@ pub(crate) fn add_zones(
     }
 }
 
-/// The fans of the live items, each with what it showed and the controller that holds it.
-pub(crate) fn add_fans(
+// The fans of some live items, each with what it showed and the controller that holds it.
+fn add_fans(
     next_plans: &mut Vec<FanPlan>,
     next_rows: &mut Vec<FanRow>,
     plans: &[FanPlan],
     rows: &[FanRow],
+    controllers: &[&Item],
     live: &[&Item],
 )
     requires plans { length next_plans.old.items + length (fans (items_of live.now)) ≤ vec_capacity next_plans.old }
     requires rows { length next_rows.old.items + length (fans (items_of live.now)) ≤ vec_capacity next_rows.old }
     requires same { length plans.now ≡ length rows.now }
     requires ids { HaveOwnIds fan_plan_id plans.now }
-    ensures plans { next_plans.new.items ≡ next_plans.old.items ++ map (fan_plan_of (controls (items_of live.now))) (fans (items_of live.now)) }
+    ensures plans { next_plans.new.items ≡ next_plans.old.items ++ map (fan_plan_of (controls (items_of controllers.now))) (fans (items_of live.now)) }
     ensures rows { next_rows.new.items ≡ next_rows.old.items ++ map (fan_row_of plans.now rows.now) (fans (items_of live.now)) }
     ensures room_plans { vec_capacity next_plans.old ≤ vec_capacity next_plans.new }
     ensures room_rows { vec_capacity next_rows.old ≤ vec_capacity next_rows.new }
 {
-    let controllers = to_last(from_first(live));
     let mut cursor = 0;
     for item in live {
         add_fan(
@@ -336,30 +358,43 @@ pub(crate) fn renew_zones(
     trade(rows, next_rows);
 }
 
-/// Makes the fans anew, each with what it showed.
+/// Makes the fans anew, each with what it showed. Those at the front and at the back that stay are kept in place: where one
+/// board comes or goes, only its fans lie between.
 pub(crate) fn renew_fans(
     plans: &mut Vec<FanPlan>,
     rows: &mut Vec<FanRow>,
     next_plans: &mut Vec<FanPlan>,
     next_rows: &mut Vec<FanRow>,
+    controllers: &[&Item],
     live: &[&Item],
 )
     requires plans_empty { next_plans.old.items ≡ [] }
     requires rows_empty { next_rows.old.items ≡ [] }
-    requires plans_room { length (fans (items_of live.now)) ≤ vec_capacity next_plans.old }
-    requires rows_room { length (fans (items_of live.now)) ≤ vec_capacity next_rows.old }
+    requires plans_room { length (fans (items_of live.now)) ≤ vec_capacity plans.old }
+    requires rows_room { length (fans (items_of live.now)) ≤ vec_capacity rows.old }
+    requires next_plans_room { length (fans (items_of live.now)) ≤ vec_capacity next_plans.old }
+    requires next_rows_room { length (fans (items_of live.now)) ≤ vec_capacity next_rows.old }
     requires same { length plans.old.items ≡ length rows.old.items }
     requires ids { HaveOwnIds fan_plan_id plans.old.items }
-    ensures plans { plans.new.items ≡ map (fan_plan_of (controls (items_of live.now))) (fans (items_of live.now)) }
+    requires live_ids { HaveOwnIds fan_id (fans (items_of live.now)) }
+    ensures plans { plans.new.items ≡ map (fan_plan_of (controls (items_of controllers.now))) (fans (items_of live.now)) }
     ensures rows { rows.new.items ≡ map (fan_row_of plans.old.items rows.old.items) (fans (items_of live.now)) }
     ensures plans_empty { next_plans.new.items ≡ [] }
     ensures rows_empty { next_rows.new.items ≡ [] }
-    ensures plans_room { vec_capacity next_plans.old ≤ vec_capacity plans.new }
-    ensures rows_room { vec_capacity next_rows.old ≤ vec_capacity rows.new }
-    ensures spare_plans { vec_capacity plans.old ≤ vec_capacity next_plans.new }
-    ensures spare_rows { vec_capacity rows.old ≤ vec_capacity next_rows.new }
+    ensures plans_room { vec_capacity plans.old ≤ vec_capacity plans.new }
+    ensures rows_room { vec_capacity rows.old ≤ vec_capacity rows.new }
+    ensures spare_plans { vec_capacity next_plans.old ≤ vec_capacity next_plans.new }
+    ensures spare_rows { vec_capacity next_rows.old ≤ vec_capacity next_rows.new }
 {
-    add_fans(next_plans, next_rows, plans, rows, live);
-    trade(plans, next_plans);
-    trade(rows, next_rows);
+    let Middle { start, end } = keep_ends(plans, rows, controllers, live);
+    add_fans(
+        next_plans,
+        next_rows,
+        &plans[start.fans..end.fans],
+        &rows[start.fans..end.fans],
+        controllers,
+        &live[start.items..end.items],
+    );
+    replace(plans, start.fans, end.fans, next_plans);
+    replace(rows, start.fans, end.fans, next_rows);
 }

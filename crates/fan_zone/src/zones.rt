@@ -14,7 +14,7 @@ use crate::bank::Bank;
 use crate::held::Held;
 use crate::passes::{step_fans, step_thermals};
 use crate::reading::good_until;
-use crate::renew::{renew_fans, renew_zones};
+use crate::renew::{around_controllers, renew_fans, renew_zones};
 use crate::rows::{FanPlan, FanRow, ZonePlan, ZoneRow};
 use crate::seats::renew_seats;
 use crate::showing::{grow_ages, is_some_due, show_fans, show_zones};
@@ -114,6 +114,7 @@ impl<C: Controller> Zones<C> {
         ensures means { IsSet self.old (items_of live.now) sensors.now self.new }
         ensures exact { self.new ≡ set_to (items_of live.now) sensors.now self.old }
     {
+        let controllers = around_controllers(live);
         renew_zones(
             &mut self.zone_plans,
             &mut self.zone_rows,
@@ -126,6 +127,7 @@ impl<C: Controller> Zones<C> {
             &mut self.fan_rows,
             &mut self.next_fan_plans,
             &mut self.next_fan_rows,
+            controllers,
             live,
         );
         renew_seats(
@@ -135,7 +137,7 @@ impl<C: Controller> Zones<C> {
             &mut self.next,
             &self.zone_rows,
             sensors,
-            live,
+            controllers,
         );
         self.due = true;
         self.steady = false;

@@ -2,7 +2,7 @@ use Rattle.std.proofs.Common.{◌≡◌, ◌+◌, ◌-◌, ◌<◌, ℕ, false, 
 use Rattle.std.specs.Borrow.{Bor}
 use Rattle.cfg_json.specs.declared.item.Item.{Item}
 use Rattle.fan_zone.specs.Live.{controls, items_of}
-use Rattle.fan_zone.specs.SetRows.{is_control}
+use Rattle.inventory.specs.Items.{is_control}
 use Rattle.fan_zone.proofs.ControlsLemmas.{not_last}
 use Rattle.fan_zone.proofs.renew.to_last.Goals as goal
 

@@ -1,7 +1,7 @@
 use Rattle.std.proofs.Common.{◌≡◌, ◌≤◌, drop}
 use Rattle.fan_zone.specs.Live.{controls, items_of}
 use Rattle.fan_zone.specs.SetRows.{first_from}
-use Rattle.fan_zone.proofs.renew.holder.Given as goal
+use Rattle.fan_zone.proofs.renew.first_holder.Given as goal
 
 abbrev pub invariant-loop-item : goal.invariant-loop-item
 invariant-loop-item l =
