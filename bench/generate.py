@@ -27,6 +27,8 @@
   under     16 configurations, of which 4 find each FRU; else as present
   risers    as present, where each FRU has a board that exposes nothing
   blades    as present, where each FRU has a board with a sensor
+  crowded   as present, where each FRU has a board with a sensor and 255
+            passive exposes
   trays     as present, where each FRU has a board with four fans
   passive   four configurations with 256 passive exposes each find all of COUNT
             FRUs, so 256 of them have 262,144 items; else as present
@@ -59,7 +61,8 @@ from record import board_area, chassis_area, product_area, record
 # Each workload, and the most that COUNT can be: 256 FRUs may be present, in two of them there is one more, and there may
 # be 128 fans, 4,096 sensors and 32 zones.
 WORKLOADS = dict.fromkeys(("plugs", "refused", "comments", "long", "toolong", "records"), 256)
-WORKLOADS |= dict.fromkeys(("present", "boards", "regex", "found", "idle", "under", "risers", "blades", "rack"), 256)
+WORKLOADS |= dict.fromkeys(("present", "boards", "regex", "found", "idle", "under", "rack"), 256)
+WORKLOADS |= dict.fromkeys(("risers", "blades", "crowded"), 256)
 WORKLOADS |= dict.fromkeys(("mux", "still"), 255)
 WORKLOADS |= {"trays": 31, "passive": 256, "readings": 4096, "lists": 4096, "ticks": 32, "busy": 32}
 TEXTS = ["Norrland Systems AB", "Riser, 2 x16", "NSR2404200117", "310-00511-01", "FRU 2.1"]
@@ -209,6 +212,13 @@ def blades(lines, frus):
     limits = [{"Direction": "greater than", "Severity": 1, "Value": 95, "Hysteresis": 2}]
     sensor = {"Name": "Temp $index", "Type": "Sensor", "Thresholds": limits}
     yield config(0, looking_for("PRODUCT_NAME", "Riser"), Exposes=[sensor])
+    yield from present(lines, frus)
+
+
+def crowded(lines, frus):
+    exposes = [{"Name": f"Part $index.{at}", "Type": "EEPROM"} for at in range(255)]
+    exposes.append({"Name": "Temp $index", "Type": "Sensor"})
+    yield config(0, looking_for("PRODUCT_NAME", "Riser"), Exposes=exposes)
     yield from present(lines, frus)
 
 
