@@ -1,19 +1,21 @@
 -- Ticks at which no input is bad, and rows of zones that stay as they are.
 use Rattle.std.proofs.Common.{◌≡◌, ℕ, ◌+◌, ◌<◌, ◌≤◌, ℤ, Bool, true, false, not, ◌&&◌, ◌||◌, if◌then◌else◌, nat_eq}
 use Rattle.std.proofs.Common.{List, [], ◌∷◌, length, map, take, get_or, Option, Some, None, min, slice_get}
-use Rattle.std.proofs.Common.{refl, ap, sym, ◌∙◌, arith}
+use Rattle.std.proofs.Common.{refl, ap, sym, subst, ◌∙◌, nat_lt, arith}
 use Rattle.std.proofs.Math.Bool.{and-false}
 use Rattle.std.proofs.Math.Nat.{min-le_left, min-le_right}
-use Rattle.std.proofs.lemmas.Bool.{false≢true, false_from_ne_true, not-true, or_from, or_parts}
+use Rattle.std.proofs.lemmas.Bool.{false≢true, false_from_ne_true, ltb-false, ltb-true, not-true, or_from, or_left, or_parts, or_right}
 use Rattle.std.proofs.lemmas.List.{take_all}
 use Rattle.std.proofs.lemmas.List.Folds.{list_any_at, list_any_more}
 use Rattle.std.proofs.lemmas.Option.{none-some, same_Some, slice_get-get_or}
 use Rattle.std.specs.Int.{int_max}
 use Rattle.std.specs.List.{All, fold, list_any}
 use Rattle.std.specs.Option.{ForSome, is_some}
+use Rattle.bmc_base.specs.Counts.{last_count}
 use Rattle.bmc_base.specs.declared.milli.Milli.{Milli}
 use Rattle.ctl_face.specs.Seen.{Seen}
 use Rattle.ctl_face.specs.declared.sample.Sample.{Sample}
+use Rattle.sensor_core.specs.Fresh.{IsGoodFor, IsLastGood}
 use Rattle.sensor_core.specs.Sensors.{Sensor}
 use Rattle.fan_zone.specs.Boxes.{box_at}
 use Rattle.fan_zone.specs.declared.held.Held.{Held}
@@ -24,7 +26,7 @@ use Rattle.fan_zone.specs.IsTicks.{stepped_by}
 use Rattle.fan_zone.specs.Passes.{fan_sample, fan_sample_at, milli, pass, shown_setpoint, step_box, thermal_sample, thermal_sample_at, thermal_setpoint}
 use Rattle.fan_zone.specs.Rows.{is_in_failsafe, min_thermal, numbered, setpoint_of, thermal_output, thermal_outputs, with_output, zone_row}
 use Rattle.fan_zone.specs.Sound.{Differ, number_of}
-use Rattle.fan_zone.specs.Steady.{AreShown, earlier, IsGoodFor, IsSteady, has_bad_input_now, is_due, steady_row}
+use Rattle.fan_zone.specs.Steady.{AreShown, earlier, IsSteady, has_bad_input_now, is_due, steady_row}
 use Rattle.fan_zone.specs.Ticks.{ZonesView, aged}
 use Rattle.fan_zone.proofs.Numbered.{all_tail, numbered_same, numbered_twice}
 use Rattle.fan_zone.proofs.OwnBoxes.{pass_own}
@@ -33,10 +35,16 @@ use Rattle.fan_zone.proofs.Taken.{any_mapped}
 -- ---- until when something is good
 
 -- what is good as another is
+last_alike : (bad same : ℕ → Bool) (last : ℕ) → ((tick : ℕ) → bad tick ≡ same tick) → IsLastGood bad last → IsLastGood same last
+last_alike bad same last alike good = record {
+  good = λ tick le. sym (alike tick) ∙ good.good tick le;
+  ends = λ lt. sym (alike (last + 1)) ∙ good.ends lt;
+}
+
 pub good_alike : (bad same : ℕ → Bool) (now : ℕ) (until : Option ℕ) → ((tick : ℕ) → bad tick ≡ same tick) → IsGoodFor bad now until → IsGoodFor same now until
 good_alike bad same now until alike good = record {
   some = good.some ∙ ap not (alike now);
-  good = λ last e later le. sym (alike later) ∙ good.good last e later le;
+  last = λ last e. last_alike bad same last alike (good.last last e);
 }
 
 some_earlier : (until other : Option ℕ) → is_some (earlier until other) ≡ (is_some until && is_some other)
@@ -48,17 +56,33 @@ either_bad : (bad other : Bool) → (not bad && not other) ≡ not (bad || other
 either_bad true other = refl
 either_bad false other = refl
 
+-- behind the earlier one of two last ticks one of both is bad
+earlier_ends : (bad other : ℕ → Bool) (one two : ℕ) → IsLastGood bad one → IsLastGood other two
+    → min one two < last_count → (bad (min one two + 1) || other (min one two + 1)) ≡ true
+earlier_ends bad other one two good also lt = by (nat_lt one two) refl
+  where
+    by : (is : Bool) → nat_lt one two ≡ is → (bad (min one two + 1) || other (min one two + 1)) ≡ true
+    by true e =
+        let first : min one two ≡ one = omega (arith, ltb-true one two e) in
+        or_left (bad (min one two + 1)) (other (min one two + 1)) (ap (λ (tick : ℕ). bad (tick + 1)) first ∙ good.ends (omega (arith, lt, first)))
+    by false e =
+        let second : min one two ≡ two = omega (arith, ltb-false one two e) in
+        or_right (bad (min one two + 1)) (other (min one two + 1)) (ap (λ (tick : ℕ). other (tick + 1)) second ∙ also.ends (omega (arith, lt, second)))
+
 -- a tick up to the earlier one is up to both
-earlier_good : (bad other : ℕ → Bool) (until another : Option ℕ) (later last : ℕ)
-    → ForSome until (λ last. (tick : ℕ) → tick ≤ last → bad tick ≡ false) → ForSome another (λ last. (tick : ℕ) → tick ≤ last → other tick ≡ false)
-    → earlier until another ≡ Some last → later ≤ last → (bad later || other later) ≡ false
-earlier_good bad other None another later last good also e le = absurd (none-some last e)
-earlier_good bad other (Some one) None later last good also e le = absurd (none-some last e)
-earlier_good bad other (Some one) (Some two) later last good also e le =
-    let is : min one two ≡ last = same_Some (min one two) last e in
-    let first : later ≤ one = omega (arith, le, is, min-le_left one two) in
-    let second : later ≤ two = omega (arith, le, is, min-le_right one two) in
-    or_from (bad later) (other later) (good one refl later first) (also two refl later second)
+min_last : (bad other : ℕ → Bool) (one two : ℕ) → IsLastGood bad one → IsLastGood other two → IsLastGood (λ tick. bad tick || other tick) (min one two)
+min_last bad other one two good also = record {
+  good = λ tick le. or_from (bad tick) (other tick) (good.good tick (omega (arith, le, min-le_left one two)))
+      (also.good tick (omega (arith, le, min-le_right one two)));
+  ends = earlier_ends bad other one two good also;
+}
+
+earlier_last : (bad other : ℕ → Bool) (until another : Option ℕ) (last : ℕ) → ForSome until (IsLastGood bad) → ForSome another (IsLastGood other)
+    → earlier until another ≡ Some last → IsLastGood (λ tick. bad tick || other tick) last
+earlier_last bad other None another last good also e = absurd (none-some last e)
+earlier_last bad other (Some one) None last good also e = absurd (none-some last e)
+earlier_last bad other (Some one) (Some two) last good also e =
+    subst (IsLastGood (λ tick. bad tick || other tick)) (same_Some (min one two) last e) (min_last bad other one two (good one refl) (also two refl))
 
 -- both are good up to the earlier tick
 pub good_both : (bad other : ℕ → Bool) (now : ℕ) (until another : Option ℕ) → IsGoodFor bad now until → IsGoodFor other now another
@@ -66,16 +90,19 @@ pub good_both : (bad other : ℕ → Bool) (now : ℕ) (until another : Option �
 good_both bad other now until another good also = record {
   some = some_earlier until another
       ∙ (ap (λ (b : Bool). b && is_some another) good.some ∙ (ap (λ (b : Bool). not (bad now) && b) also.some ∙ either_bad (bad now) (other now)));
-  good = λ last e later le. earlier_good bad other until another later last good.good also.good e le;
+  last = λ last e. earlier_last bad other until another last good.last also.last e;
 }
 
--- what is never bad is good up to each tick
-pub good_none : (now last : ℕ) → IsGoodFor (λ tick. false) now (Some last)
-good_none now last = record { some = refl; good = λ tick e later le. refl }
+-- what is never bad is good up to the last tick that there is
+pub good_none : (now : ℕ) → IsGoodFor (λ tick. false) now (Some last_count)
+good_none now = record {
+  some = refl;
+  last = λ last e. record { good = λ tick le. refl; ends = λ lt. absurd (omega (arith, lt, same_Some last_count last e)) };
+}
 
 -- what is bad now is good up to no tick
 pub bad_now : (bad : ℕ → Bool) (now : ℕ) → bad now ≡ true → IsGoodFor bad now None
-bad_now bad now e = record { some = ap not (sym e); good = λ tick f. absurd (none-some tick f) }
+bad_now bad now e = record { some = ap not (sym e); last = λ last f. absurd (none-some last f) }
 
 -- where there is such a tick, it is not bad now
 pub none_bad : (bad : ℕ → Bool) (now : ℕ) (until : Option ℕ) → IsGoodFor bad now until → is_some until ≡ true → bad now ≡ false
@@ -87,8 +114,8 @@ none_bad bad now until good e = not-true (bad now) (sym good.some ∙ e)
 pub record InputsGood (slots : List (Option Sensor)) (now : ℕ) (inputs : List (Option ℕ)) (until : Option ℕ) (n : ℕ) : Type 0 where
   pub good : IsGoodFor (λ tick. list_any (is_bad_input slots tick) (take n inputs)) now until
 
-pub inputs_start : (slots : List (Option Sensor)) (now : ℕ) (inputs : List (Option ℕ)) (last : ℕ) → InputsGood slots now inputs (Some last) 0
-inputs_start slots now inputs last = record { good = good_none now last }
+pub inputs_start : (slots : List (Option Sensor)) (now : ℕ) (inputs : List (Option ℕ)) → InputsGood slots now inputs (Some last_count) 0
+inputs_start slots now inputs = record { good = good_none now }
 
 pub inputs_more : (slots : List (Option Sensor)) (now : ℕ) (inputs : List (Option ℕ)) (until another : Option ℕ) (n : ℕ) (input : Option ℕ)
     → InputsGood slots now inputs until n → n < length inputs → input ≡ get_or inputs n input
@@ -124,8 +151,8 @@ good_inputs_at slots now held n one none lt at = none_at (λ (x : Held). has_bad
 pub record HeldGood (slots : List (Option Sensor)) (now : ℕ) (held : List Held) (until : Option ℕ) (n : ℕ) : Type 0 where
   pub good : IsGoodFor (λ tick. has_bad_input_now slots tick (take n held)) now until
 
-pub held_start : (slots : List (Option Sensor)) (now : ℕ) (held : List Held) (last : ℕ) → HeldGood slots now held (Some last) 0
-held_start slots now held last = record { good = good_none now last }
+pub held_start : (slots : List (Option Sensor)) (now : ℕ) (held : List Held) → HeldGood slots now held (Some last_count) 0
+held_start slots now held = record { good = good_none now }
 
 pub held_more : (slots : List (Option Sensor)) (now : ℕ) (held : List Held) (until another : Option ℕ) (n : ℕ) (one : Held)
     → HeldGood slots now held until n → n < length held → one ≡ get_or held n one

@@ -1,7 +1,6 @@
 -- Until when the inputs of controllers are good, and the rows of zones that stay as they are meanwhile.
-use Rattle.std.specs.Prelude.{◌≡◌, ℕ, ◌≤◌, nat_eq, Bool, false, not, min, List, Option, None, Some, slice_get}
+use Rattle.std.specs.Prelude.{◌≡◌, ℕ, ◌≤◌, nat_eq, Bool, false, min, List, Option, None, Some, slice_get}
 use Rattle.std.specs.List.{list_any}
-use Rattle.std.specs.Option.{ForSome, is_some}
 use Rattle.ctl_face.specs.Seen.{Seen}
 use Rattle.fan_zone.specs.declared.held.Held.{Held}
 use Rattle.fan_zone.specs.declared.rows.ZonePlan.{ZonePlan}
@@ -16,11 +15,6 @@ use Rattle.fan_zone.specs.Ticks.{ZonesView}
 -- whether an input of one of some controllers is bad at a tick
 abbrev pub has_bad_input_now : List (Option Sensor) → ℕ → List Held → Bool
 has_bad_input_now slots now held = list_any (λ (one : Held). has_bad_input slots now one.inputs) held
-
--- something is good at a tick or bad, and where it is good now, this is a tick up to which it is good
-pub record IsGoodFor (bad : ℕ → Bool) (now : ℕ) (until : Option ℕ) : Type 0 where
-  pub some : is_some until ≡ not (bad now)
-  pub good : ForSome until (λ last. (later : ℕ) → later ≤ last → bad later ≡ false)
 
 -- the earlier one of two ticks, if there are both
 abbrev pub earlier : Option ℕ → Option ℕ → Option ℕ

@@ -1,8 +1,8 @@
 ghost use Rattle.std.specs.Prelude.{◌≡◌, true, false, option_copied};
 ghost use Rattle.fan_zone.specs.Inputs.{good_input, good_inputs, has_bad_input, input_of, is_bad_input, sensor_of};
 ghost use Rattle.fan_zone.specs.Best.{better, better_with};
-ghost use Rattle.fan_zone.specs.Steady.{earlier, has_bad_input_now, IsGoodFor};
-ghost use Rattle.sensor_core.specs.Sensors.{is_bad};
+ghost use Rattle.fan_zone.specs.Steady.{earlier, has_bad_input_now};
+ghost use Rattle.sensor_core.specs.Fresh.{IsGoodFor};
 
 use crate::held::{Held, Role};
 use bmc_base::Milli;
@@ -126,32 +126,17 @@ fn earlier(until: Option<u64>, other: Option<u64>) -> Option<u64>
     }
 }
 
-// A tick up to which a sensor is not bad, as long as it stays as it is. There is none where it is bad now.
-fn sensor_good_until(sensor: &Sensor, now: u64) -> Option<u64>
-    ensures { IsGoodFor (is_bad sensor.now) now result }
-{
-    if sensor.is_bad(now) {
-        return None;
-    }
-    let timeout = sensor.setting().timeout;
-    if timeout == 0 {
-        return Some(u64::MAX);
-    }
-    let age = sensor.age(now).unwrap_or(0);
-    Some(now.saturating_add(u64::from(timeout).saturating_sub(age)))
-}
-
-// A tick up to which an input is not bad.
+// The last tick up to which an input is not bad, as long as its sensor stays as it is. There is none where it is bad now.
 fn input_good_until(sensors: &SensorTable, now: u64, input: Option<usize>) -> Option<u64>
     ensures { IsGoodFor (λ tick. is_bad_input sensors.now.slots tick input) now result }
 {
     match sensor_of(sensors, input) {
         None => None,
-        Some(sensor) => sensor_good_until(sensor, now),
+        Some(sensor) => sensor.good_until(now),
     }
 }
 
-// A tick up to which none of some inputs is bad.
+// The last tick up to which none of some inputs is bad.
 fn inputs_good_until(sensors: &SensorTable, now: u64, inputs: &[Option<usize>]) -> Option<u64>
     ensures { IsGoodFor (λ tick. has_bad_input sensors.now.slots tick inputs.now) now result }
 {
@@ -162,8 +147,8 @@ fn inputs_good_until(sensors: &SensorTable, now: u64, inputs: &[Option<usize>]) 
     until
 }
 
-/// A tick up to which no input of some controllers is bad, as long as the sensors stay as they are. There is none where one is bad
-/// now.
+/// The last tick up to which no input of some controllers is bad, as long as the sensors stay as they are. There is none where one
+/// is bad now.
 pub(crate) fn good_until(sensors: &SensorTable, now: u64, held: &[Held]) -> Option<u64>
     ensures { IsGoodFor (λ tick. has_bad_input_now sensors.now.slots tick held.now) now result }
 {

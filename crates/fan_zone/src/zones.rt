@@ -7,8 +7,9 @@ ghost use Rattle.fan_zone.specs.Settings.{CanSet, set_to};
 ghost use Rattle.fan_zone.specs.Live.{items_of};
 ghost use Rattle.fan_zone.specs.Failsafe.{IsFailsafe};
 ghost use Rattle.fan_zone.specs.Sound.{most_fans, most_zones};
-ghost use Rattle.fan_zone.specs.Steady.{has_bad_input_now, IsGoodFor};
+ghost use Rattle.fan_zone.specs.Steady.{has_bad_input_now};
 ghost use Rattle.fan_zone.specs.Ticks.{no_zones, ticked};
+ghost use Rattle.sensor_core.specs.Fresh.{IsGoodFor};
 
 use crate::bank::Bank;
 use crate::held::Held;
@@ -143,8 +144,8 @@ impl<C: Controller> Zones<C> {
         self.steady = false;
     }
 
-    /// Returns a tick up to which no input of a controller is bad, as long as the sensors stay as they are: the last one, where no
-    /// reading is later than `now`. There is none where an input is bad at tick `now`.
+    /// Returns the last tick up to which no input of a controller is bad, as long as the sensors stay as they are, or none where an
+    /// input is bad at tick `now`. It is `u64::MAX` where none ever will be.
     pub fn good_until(&self, sensors: &SensorTable, now: u64) -> Option<u64>
         ensures { IsGoodFor (λ tick. has_bad_input_now sensors.now.slots tick self.now.held) now result }
     {

@@ -2,7 +2,7 @@ ghost use Rattle.std.specs.Prelude.{◌≡◌, ◌↔◌, IsOk, OnOk, OnErr, ◌
 ghost use Rattle.sensor_core.specs.Limits.{IsValidLimit};
 ghost use Rattle.sensor_core.specs.Settings.{IsValidSetting, IsRaw, most_limits};
 ghost use Rattle.sensor_core.specs.Sensors.{Good, Lost, sensor_of, has_failed, age_at, is_bad, has_alarm, all_alarms};
-ghost use Rattle.sensor_core.specs.Fresh.{fresh_until};
+ghost use Rattle.sensor_core.specs.Fresh.{fresh_until, IsGoodFor};
 ghost use Rattle.sensor_core.specs.Updates.{alarms_after, good_after, lost_after, Takes};
 
 use crate::{Limit, ReadingRange, SensorSetting};
@@ -173,6 +173,17 @@ impl Sensor {
         match self.last {
             None => true,
             Some(reading) => self.is_failed() || tick > reading.fresh_until,
+        }
+    }
+
+    /// Returns the last tick at which the sensor is a good input, as long as it stays as it is, or none where it is bad at this
+    /// tick. It is `u64::MAX` where the timeout never passes.
+    pub fn good_until(&self, tick: u64) -> Option<u64>
+        ensures { IsGoodFor (is_bad self.now) tick result }
+    {
+        match self.last {
+            Some(reading) if !self.is_bad(tick) => Some(reading.fresh_until),
+            _ => None,
         }
     }
 }

@@ -182,6 +182,29 @@ fn scale(num: i64, den: i64, offset: i64) -> SensorSetting {
 }
 
 #[test]
+fn good_until_the_timeout_passes(rt: HostRuntime) {
+    let setting = eight_limits();
+    assert!(rt; setting.is_valid());
+    let mut sensor = Sensor::new(setting);
+    assert_eq!(rt; sensor.good_until(0), None);
+    assert_eq!(rt; sensor.good(1, 10), Ok(()));
+    assert_eq!(rt; sensor.good_until(10), Some(30));
+    assert_eq!(rt; sensor.good_until(30), Some(30));
+    assert_eq!(rt; sensor.good_until(31), None);
+    assert_eq!(rt; sensor.good(1, u64::MAX - 20), Ok(()));
+    assert_eq!(rt; sensor.good_until(u64::MAX), Some(u64::MAX));
+    for _ in 0..5 {
+        sensor.lost();
+    }
+    assert_eq!(rt; sensor.good_until(u64::MAX - 20), None);
+    let setting = scale(1, 1, 0);
+    assert!(rt; setting.is_valid());
+    let mut timeless = Sensor::new(setting);
+    assert_eq!(rt; timeless.good(1, 10), Ok(()));
+    assert_eq!(rt; timeless.good_until(0), Some(u64::MAX));
+}
+
+#[test]
 fn raw_numbers_have_values(rt: HostRuntime) {
     let rows = &[
         (1, 1, 0, 41_000, Ok(41_000)),

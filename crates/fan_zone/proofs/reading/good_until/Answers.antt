@@ -1,4 +1,4 @@
-use Rattle.std.proofs.Common.{sym, subst, arith, ap, ◌+◌, ◌≡◌, ◌∙◌, ℕ, Option, List}
+use Rattle.std.proofs.Common.{sym, subst, arith, ap, ◌+◌, ℕ, Option}
 use Rattle.fan_zone.specs.Inputs.{has_bad_input}
 use Rattle.fan_zone.proofs.SteadyLemmas.{HeldGood, good_alike, held_more, held_end}
 use Rattle.fan_zone.proofs.reading.good_until.Goals as goal
