@@ -1,7 +1,7 @@
 -- What each act leaves of what is known of the bus and of the sensors.
 use Rattle.std.proofs.Common.{arith, ◌≡◌, ◌∙◌, ℕ, List, [], ◌∷◌, Bool, true, false, ◌&&◌, nat_eq, if◌then◌else◌, Option, Some, None, Ok, Err, map}
 use Rattle.std.proofs.Common.{refl, ap, ap₂, sym, subst, option_map}
-use Rattle.std.specs.Prelude.{⊤, ℤ, ◌≤◌, nat_lt, unsigned_abs, Result, IfOk, OnErr, IfSome, is_none, bytes_eq}
+use Rattle.std.specs.Prelude.{⊤, ℤ, ◌≤◌, nat_lt, unsigned_abs, Result, IfOk, OnErr, IfSome, is_none, bytes_eq, option_and_then, slice_index_or}
 use Rattle.std.specs.Map.{lookup}
 use Rattle.std.specs.Option.{is_some}
 use Rattle.std.specs.Result.{is_err}
@@ -14,7 +14,7 @@ use Rattle.inventory.specs.Boards.{boards_in, board_places}
 use Rattle.inventory.specs.Items.{items_less, items, live, holder}
 use Rattle.inventory.specs.declared.family.Family.TheVariants as families
 use Rattle.inventory.proofs.ListLemmas.{all_any}
-use Rattle.sensor_core.specs.Sensors.{Outcome, Good, Sensor, sensor_of}
+use Rattle.sensor_core.specs.Sensors.{Outcome, Good, Sensor, sensor_of, has_failed, all_alarms, ShowSame}
 use Rattle.sensor_core.specs.Settings.{most_raw, IsRaw}
 use Rattle.sensor_core.specs.Updates.{good_after, lost_after, Takes}
 use Rattle.sensor_core.specs.declared.setting.SensorSetting.{SensorSetting}
@@ -40,6 +40,8 @@ use Rattle.bmc_machine.proofs.SettledLemmas.{of_sensors, sensor_settled}
 use Rattle.bmc_watch.specs.Watches.{WatchView, no_view, fru_entry, view_items, WatchStands, IsSame}
 use Rattle.bmc_watch.specs.Settling.{AreKept, Settles, SettlesUnless}
 use Rattle.bmc_watch.specs.Steps.{Tries}
+use Rattle.bmc_watch.specs.declared.readings.Glimpse.{Glimpse}
+use Rattle.bmc_watch.proofs.ReadingsLemmas.{none_told}
 use Rattle.bmc_watch.proofs.StockLemmas.{kept_sensor}
 use Rattle.bmc_watch.proofs.WatchesLemmas.{live_is, stands_none}
 use Rattle.bmc_core.specs.Senses.{KeepsSlots, SensesView, SensorsStand, AreLast, SensesStand, quiet_senses, AreUnchanged}
@@ -332,6 +334,22 @@ slot_stays old new name slot same has = ap (lookup (bytes_eq name)) same ∙ has
 told_between : (name : List ℕ) (old new : Option Sensor) (before after : Sensor) → old ≡ Some before → new ≡ Some after
     → sensor_changes name before after ≡ changes_of_sensor name old new
 told_between name old new before after was is = sym (ap₂ (changes_of_sensor name) was is)
+
+-- a sensor that shows the same is told of with nothing
+pub nothing_told : (watch : WatchView) (name : List ℕ) (before after : Sensor) → ShowSame before after
+    → record watch { changes = [] } ≡ record watch { changes = sensor_changes name before after }
+nothing_told watch name before after same =
+    let glimpse : Glimpse = record { failed = has_failed before; alarms = all_alarms before } in
+    ap (λ (told : List Change). record watch { changes = told })
+    (sym (none_told name glimpse before after (record { failed = refl; alarms = refl }) (record { failed = same.failed; alarms = same.alarms })))
+
+-- the sensor of a name is what a step makes of it
+pub sensor_made : (old new : LiveSensors) (name : List ℕ) (slot : ℕ) (change : Sensor → Sensor) (before : Sensor) → Changes old new slot change
+    → slot_of old name ≡ Some slot → sensor_in old name ≡ Some before → sensor_in new name ≡ Some (change before)
+sensor_made old new name slot change before changed has was =
+    ap (option_and_then (λ (its : ℕ). slice_index_or new.slots its None)) (slot_stays old new name slot changed.names has)
+    ∙ changed.slots.changed
+    ∙ ap (option_map change) (sym (ap (option_and_then (λ (its : ℕ). slice_index_or old.slots its None)) has) ∙ was)
 
 module _ (old new : SensesView) (name : List ℕ) (slot : ℕ) (found : Option ℕ) (before after : Sensor) (now : LiveSensors)
     (same : is_none found ≡ is_none (sensor_in old.sensors name)) (some : found ≡ Some slot) (has : found ≡ slot_of old.sensors name)

@@ -177,10 +177,14 @@ impl<L: Ledger> Senses<L> {
         let before = Glimpse::of(sensor);
         let known = health.after_reading(sensor, tick);
         match self.sensors.good(slot, raw, tick) {
-            Ok(()) => {
+            Ok(otherwise) => {
                 *health = known;
-                self.watch
-                    .tell_reading(name, &before, self.sensors.at(slot));
+                if otherwise {
+                    let after = self.sensors.at(slot);
+                    self.watch.tell_reading(name, &before, after);
+                } else {
+                    self.watch.forget_changes();
+                }
                 Ok(())
             }
             Err(ReadingRange) => self.refuse(Refusal::ReadingRange),

@@ -94,8 +94,8 @@ fn apply<L: Ledger, C: Controller>(
     effect_of(done)
 }
 
-// Does what a command asks for. It is called and not inlined: a command is then taken apart once.
-#[inline(never)]
+// Does what a command asks for. It is inlined, as what reads a command is: a command is then never put together in memory.
+#[inline(always)]
 #[tactic(auto, using(crate::proofs::RunsLemmas::silent_answers, crate::proofs::RunsLemmas::refused_answers))]
 fn run_command<L: Ledger, C: Controller>(
     alloc: Global,

@@ -84,7 +84,7 @@ fn word(bytes: &[u8]) -> Option<(&[u8], &[u8])>
 }
 
 // Reads a place, from a bus of 0 to 255 and an address of 0 to 127.
-#[inline]
+#[inline(always)]
 #[tactic(auto, unfolding(crate::specs::Commands::place_named))]
 fn read_place(bus: &[u8], address: &[u8]) -> Result<Place, ScriptFault>
     ensures { result ≡ place_named bus.now address.now }
@@ -95,6 +95,7 @@ fn read_place(bus: &[u8], address: &[u8]) -> Result<Place, ScriptFault>
 }
 
 // Reads what stands behind `plug `.
+#[inline(always)]
 #[tactic(auto, unfolding(crate::specs::Commands::plug_of))]
 fn read_plug(alloc: Global, rest: &[u8]) -> Result<Command<'_>, ScriptFault>
     ensures { GivesCommand result (plug_of rest.now) }
@@ -113,6 +114,7 @@ fn read_plug(alloc: Global, rest: &[u8]) -> Result<Command<'_>, ScriptFault>
 }
 
 // Reads what stands behind `unplug `.
+#[inline(always)]
 #[tactic(auto, unfolding(crate::specs::Commands::unplug_of))]
 fn read_unplug(rest: &[u8]) -> Result<Command<'_>, ScriptFault>
     ensures { result ≡ unplug_of rest.now }
@@ -122,6 +124,7 @@ fn read_unplug(rest: &[u8]) -> Result<Command<'_>, ScriptFault>
 }
 
 // Reads what stands behind `config `.
+#[inline(always)]
 #[tactic(auto, unfolding(crate::specs::Commands::config_of))]
 fn read_config(rest: &[u8]) -> Result<Command<'_>, ScriptFault>
     ensures { result ≡ config_of rest.now }
@@ -141,6 +144,7 @@ fn last_word(bytes: &[u8]) -> Option<(&[u8], &[u8])>
 }
 
 // Reads a name: 1 to 64 bytes of UTF-8.
+#[inline(always)]
 #[tactic(auto, using(crate::proofs::NamesLemmas::name_in_text, crate::proofs::NamesLemmas::name_in_other))]
 fn read_name(bytes: &[u8]) -> Option<NameText<'_>>
     ensures { result ≡ name_in bytes.now }
@@ -150,6 +154,7 @@ fn read_name(bytes: &[u8]) -> Option<NameText<'_>>
 }
 
 // Reads what stands behind `read `.
+#[inline(always)]
 #[tactic(auto, unfolding(crate::specs::Commands::read_of))]
 fn read_read(rest: &[u8]) -> Result<Command<'_>, ScriptFault>
     ensures { result ≡ read_of rest.now }
@@ -161,6 +166,7 @@ fn read_read(rest: &[u8]) -> Result<Command<'_>, ScriptFault>
 }
 
 // Reads what stands behind `lose `.
+#[inline(always)]
 #[tactic(auto, unfolding(crate::specs::Commands::lose_of))]
 fn read_lose(rest: &[u8]) -> Result<Command<'_>, ScriptFault>
     ensures { result ≡ lose_of rest.now }
@@ -170,6 +176,7 @@ fn read_lose(rest: &[u8]) -> Result<Command<'_>, ScriptFault>
 }
 
 // Reads what stands behind `tick `.
+#[inline(always)]
 #[tactic(auto, unfolding(crate::specs::Commands::ticks_of))]
 fn read_ticks(rest: &[u8]) -> Result<Command<'_>, ScriptFault>
     ensures { result ≡ ticks_of rest.now }
@@ -197,6 +204,7 @@ fn topic_of(word: &[u8]) -> Option<Topic>
 }
 
 // Reads what stands behind `show `.
+#[inline(always)]
 #[tactic(auto, unfolding(crate::specs::Commands::show_of))]
 fn read_show(rest: &[u8]) -> Result<Command<'_>, ScriptFault>
     ensures { result ≡ show_of rest.now }

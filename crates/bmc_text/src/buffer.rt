@@ -14,6 +14,7 @@ use memchr::memchr;
 pub(crate) const LONGEST_LINE: usize = 9000;
 
 // The place of the first newline, where none stands before `from`.
+#[inline(always)]
 pub(crate) fn newline_behind(bytes: &[u8], from: usize) -> Option<usize>
     requires within { from ≤ length bytes.now }
     requires none { HasNoNewline (take from bytes.now) }

@@ -349,6 +349,7 @@ impl Lines {
     }
 
     // The place of the first newline that waits. No byte is searched twice.
+    #[inline(always)]
     pub(crate) fn newline(&mut self) -> Option<usize>
         ensures place { MatchOption result (HasNoNewline self.old.waiting) (λ at. IsNewline self.old.waiting at) }
         ensures same { self.new ≡ self.old }

@@ -64,6 +64,7 @@ fn with_sign(negative: bool, value: u64) -> i64
 
 /// A raw reading: an optional `-` and 1 to 18 decimal digits, leading zeros among them, or none where the
 /// text is anything else.
+#[inline(always)]
 pub fn read_raw(text: &[u8]) -> Option<i64>
     ensures { result ≡ raw text.now }
 {

@@ -393,7 +393,9 @@ fn tell_once(
         return Err(Fail::from("there is no such sensor"));
     };
     match reading {
-        Some(raw) => sensors.good(slot, raw, now)?,
+        Some(raw) => {
+            sensors.good(slot, raw, now)?;
+        }
         None => sensors.lost(slot),
     }
     Ok(())

@@ -1,7 +1,7 @@
 -- Names and their slots, where the sensor in one slot changes, goes or comes.
 use Rattle.std.proofs.Common.{arith, ◌≡◌, ◌≢◌, ◌∙◌, ◌<◌, ◌≤◌, ℕ, length, nat_eq, bytes_eq, Bool, true, false, cond, List}
 use Rattle.std.proofs.Common.{Option, Some, None, IsSome, IfSome, option_map, slice_index_or}
-use Rattle.std.proofs.Common.{Result, Ok, Err, OnOk, refl, sym, ap, subst, true≢false}
+use Rattle.std.proofs.Common.{Result, Ok, Err, IfOk, refl, sym, ap, subst, true≢false}
 use Rattle.std.specs.Prelude.{option_and_then}
 use Rattle.std.specs.Option.{is_some}
 use Rattle.std.specs.Map.{lookup}
@@ -50,10 +50,11 @@ no_slot names slots name tied none = of (lookup (bytes_eq name) names) refl none
     of (Some slot) has empty = absurd (not_empty names slots name slot tied has empty)
 
 -- what holds of the sensor in a slot holds of the sensor of each name that has the slot
-pub at_names : {T E : Type 0} (result : Result T E) (names : List (List ℕ × ℕ)) (slots : List (Option Sensor)) (slot : ℕ) (P : Sensor → Type 0)
-    → IfSome (at slots slot) (λ sensor. OnOk result (P sensor))
-    → OnOk result ((name : List ℕ) → lookup (bytes_eq name) names ≡ Some slot → IfSome (option_and_then (at slots) (lookup (bytes_eq name) names)) P)
-at_names (Ok x) names slots slot P holds = λ name has. subst (λ found. IfSome found P) (sym (ap (option_and_then (at slots)) has)) holds
+pub at_names : {T E : Type 0} (result : Result T E) (names : List (List ℕ × ℕ)) (slots : List (Option Sensor)) (slot : ℕ) (P : T → Sensor → Type 0)
+    → IfSome (at slots slot) (λ sensor. IfOk result (λ x. P x sensor))
+    → IfOk result (λ x.
+    (name : List ℕ) → lookup (bytes_eq name) names ≡ Some slot → IfSome (option_and_then (at slots) (lookup (bytes_eq name) names)) (P x))
+at_names (Ok x) names slots slot P holds = λ name has. subst (λ found. IfSome found (P x)) (sym (ap (option_and_then (at slots)) has)) holds
 at_names (Err e) names slots slot P holds = tt
 
 -- another name has another slot

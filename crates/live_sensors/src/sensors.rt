@@ -2,7 +2,7 @@ ghost use Rattle.std.specs.Prelude.{◌≡◌, ◌<◌, ◌≤◌, ◌+◌, ◌�
 ghost use Rattle.std.specs.Prelude.{None, Some, Ok, is_none, IfSome, OnSome, IsOk, IfOk, OnOk, OnErr};
 ghost use Rattle.bmc_base.specs.Names.{name_of};
 ghost use Rattle.sensor_core.specs.Settings.{IsValidSetting, IsRaw};
-ghost use Rattle.sensor_core.specs.Sensors.{Good, Lost, sensor_of};
+ghost use Rattle.sensor_core.specs.Sensors.{Good, Lost, ShowSame, sensor_of};
 ghost use Rattle.sensor_core.specs.Updates.{good_after, lost_after, Takes};
 ghost use Rattle.cfg_json.specs.declared.item.Item.{Item};
 ghost use Rattle.live_sensors.specs.Sensors.{slot_of, sensor_in, ContainsSlot, AtSlot, Changes};
@@ -117,11 +117,12 @@ impl LiveSensors {
     }
 
     /// Takes a good reading of the sensor in a slot that a name has, as [`Sensor::good`] does.
-    pub fn good(&mut self, slot: usize, raw: i64, tick: u64) -> Result<(), ReadingRange>
+    pub fn good(&mut self, slot: usize, raw: i64, tick: u64) -> Result<bool, ReadingRange>
         requires { ContainsSlot self.old.names slot }
         ensures range { IsOk result ↔ IsRaw raw }
         ensures changes { OnOk result (Changes self.old self.new slot (λ sensor. good_after sensor raw tick)) }
         ensures takes { OnOk result (AtSlot self.old slot (λ sensor. Takes sensor (good_after sensor raw tick) (Good raw tick))) }
+        ensures shown { IfOk result (λ otherwise. AtSlot self.old slot (λ sensor. otherwise ≡ false → ShowSame sensor (good_after sensor raw tick))) }
         ensures same { OnErr result (self.new ≡ self.old) }
     {
         self.table.good_at(slot, raw, tick)

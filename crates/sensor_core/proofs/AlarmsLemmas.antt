@@ -1,9 +1,10 @@
 -- Alarms, one value on.
-use Rattle.std.proofs.Common.{◌≡◌, ℕ, zero, suc, ◌+◌, ◌<◌, ℤ, pos, ◌+ℤ◌, ◌-ℤ◌, ◌≤ℤ◌, Bool, true, false, cond, not, ◌&&◌, ◌||◌, List, [], ◌∷◌, ◌++◌, map, take}
+use Rattle.std.proofs.Common.{◌≡◌, ℕ, zero, suc, ◌+◌, ◌<◌, ℤ, pos, ◌+ℤ◌, ◌-ℤ◌, ◌≤ℤ◌, Bool, true, false, true≢false, cond, not, ◌&&◌, ◌||◌, List, [], ◌∷◌, ◌++◌, map, take}
 use Rattle.std.proofs.Common.{drop, set, get_or, length, replicate, refl, sym, ap, add-one, ap₂, ◌∙◌, arith}
+use Rattle.std.proofs.Math.Bool.{beq}
 use Rattle.std.proofs.Math.Seq.{take-append_seam, drop-append_seam}
 use Rattle.std.proofs.lemmas.Int.{ints}
-use Rattle.std.proofs.lemmas.List.{take_all}
+use Rattle.std.proofs.lemmas.List.{take_all, set-get_or}
 use Rattle.std.proofs.lemmas.List.Elements.{All-head, All-tail}
 use Rattle.std.proofs.lemmas.List.Sums.{take_while-cons}
 use Rattle.std.specs.Int.RustNames.{int_lt, int_le}
@@ -92,6 +93,16 @@ mixed_whole : (limits : List Limit) (alarms now : List Bool) (value : Milli) (n 
 mixed_whole limits alarms now value n e is =
     is ∙ ap (mixed limits alarms value) e
     ∙ ap (λ all. alarms_after all (take (length limits) alarms) value ++ drop (length limits) alarms) (take_all (length limits) limits (omega arith))
+
+-- an alarm that is put as it was changes nothing
+pub put_same : (alarms : List Bool) (n : ℕ) (next on : Bool) → not (beq next (get_or alarms n on)) ≡ false → set alarms n next ≡ alarms
+put_same alarms n next on same = ap (set alarms n) (equal next (get_or alarms n on) same) ∙ set-get_or alarms n on
+  where
+    equal : (a b : Bool) → not (beq a b) ≡ false → a ≡ b
+    equal true true same = refl
+    equal false false same = refl
+    equal true false same = absurd (true≢false same)
+    equal false true same = absurd (true≢false same)
 
 pub mixed_all : (limits : List Limit) (alarms now : List Bool) (value : Milli) (n : ℕ) → n ≡ length limits → now ≡ mixed limits alarms value n
     → take (length limits) now ≡ alarms_after limits (take (length limits) alarms) value

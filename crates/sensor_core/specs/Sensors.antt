@@ -1,5 +1,5 @@
 -- What a sensor shows of its outcomes, which are searched as a whole. The newest outcome is first.
-use Rattle.std.specs.Prelude.{ℕ, ◌-◌, ◌==◌, min, nat_lt, ℤ, Bool, true, false, not, ◌&&◌, ◌||◌, List, [], ◌∷◌, ◌++◌, map, replicate, slice_index_or}
+use Rattle.std.specs.Prelude.{◌≡◌, ℕ, ◌-◌, ◌==◌, min, nat_lt, ℤ, Bool, true, false, not, ◌&&◌, ◌||◌, List, [], ◌∷◌, ◌++◌, map, replicate, slice_index_or}
 use Rattle.std.specs.Prelude.{Option, Some, None, is_none, option_map}
 use Rattle.std.specs.Option.{option_map_or}
 use Rattle.std.specs.List.{filter_map, prefix_len}
@@ -97,3 +97,8 @@ has_alarm sensor position = slice_index_or sensor.alarms position false
 -- the alarms at all positions that a limit may have
 abbrev pub all_alarms : Sensor → List Bool
 all_alarms sensor = sensor.alarms ++ replicate (most_limits - sensor.setting.count) false
+
+-- two sensors show the same: whether they failed, and which alarms are on
+pub record ShowSame (before after : Sensor) : Type 0 where
+  pub failed : has_failed before ≡ has_failed after
+  pub alarms : all_alarms before ≡ all_alarms after

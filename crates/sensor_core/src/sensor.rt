@@ -1,7 +1,7 @@
-ghost use Rattle.std.specs.Prelude.{◌≡◌, ◌↔◌, IsOk, OnOk, OnErr, ◌≤◌, [], length, take, drop, All};
+ghost use Rattle.std.specs.Prelude.{◌≡◌, ◌↔◌, false, IsOk, IfOk, OnOk, OnErr, ◌≤◌, [], length, take, drop, All};
 ghost use Rattle.sensor_core.specs.Limits.{IsValidLimit};
 ghost use Rattle.sensor_core.specs.Settings.{IsValidSetting, IsRaw, most_limits};
-ghost use Rattle.sensor_core.specs.Sensors.{Good, Lost, sensor_of, has_failed, age_at, is_bad, has_alarm, all_alarms};
+ghost use Rattle.sensor_core.specs.Sensors.{Good, Lost, sensor_of, has_failed, age_at, is_bad, has_alarm, all_alarms, ShowSame};
 ghost use Rattle.sensor_core.specs.Fresh.{fresh_until, IsGoodFor};
 ghost use Rattle.sensor_core.specs.Updates.{alarms_after, good_after, lost_after, Takes};
 
@@ -69,36 +69,41 @@ impl Sensor {
         }
     }
 
-    /// Takes a good reading, a raw number at a tick. A failed sensor works again. `ReadingRange`
-    /// comes where the number is out of its range, -1,000,000,000 to 1,000,000,000, and then
-    /// nothing changes.
-    pub fn good(&mut self, raw: i64, tick: u64) -> Result<(), ReadingRange>
+    /// Takes a good reading, a raw number at a tick. A failed sensor works again. Returns whether
+    /// it may show otherwise than before: where it had not failed and no alarm goes on or off, it
+    /// does not. `ReadingRange` comes where the number is out of its range, -1,000,000,000 to
+    /// 1,000,000,000, and then nothing changes.
+    pub fn good(&mut self, raw: i64, tick: u64) -> Result<bool, ReadingRange>
         ensures range { IsOk result ↔ IsRaw raw }
         ensures takes { OnOk result (Takes self.old self.new (Good raw tick)) }
         ensures after { OnOk result (self.new ≡ good_after self.old raw tick) }
+        ensures shown { IfOk result (λ otherwise. otherwise ≡ false → ShowSame self.old (good_after self.old raw tick)) }
         ensures same { OnErr result (self.new ≡ self.old) }
     {
         if raw.unsigned_abs() > MOST_RAW {
             return Err(ReadingRange);
         }
-        self.take_reading(raw, tick);
-        Ok(())
+        Ok(self.take_reading(raw, tick))
     }
 
-    // Takes a good reading whose raw number is in its range.
-    fn take_reading(&mut self, raw: i64, tick: u64)
+    // Takes a good reading whose raw number is in its range. Returns whether the sensor may show
+    // otherwise than before.
+    fn take_reading(&mut self, raw: i64, tick: u64) -> bool
         requires { IsRaw raw }
         ensures after { self.new ≡ good_after self.old raw tick }
+        ensures shown { result ≡ false → ShowSame self.old self.new }
         ensures valid { IsValidSetting self.old.setting }
     {
+        let had_failed = self.is_failed();
         let value = self.setting.value(raw);
-        update_alarms(&mut self.alarms, self.setting.limits_in_use(), value);
+        let switched = update_alarms(&mut self.alarms, self.setting.limits_in_use(), value);
         self.last = Some(Reading {
             value,
             tick,
             fresh_until: fresh_until(self.setting.timeout, tick),
         });
         self.losses = 0;
+        had_failed || switched
     }
 
     /// Takes a loss. With the fifth in a row the sensor fails. The value and the alarms stay.
@@ -199,14 +204,22 @@ fn fresh_until(timeout: u32, tick: u64) -> u64
     }
 }
 
-// Puts the alarm of each limit on or off by one more value.
-fn update_alarms(alarms: &mut [bool; 8], limits: &[Limit], value: Milli)
+// Puts the alarm of each limit on or off by one more value. Returns whether one went on or off.
+fn update_alarms(alarms: &mut [bool; 8], limits: &[Limit], value: Milli) -> bool
     requires valid { All IsValidLimit limits.now }
     requires few { length limits.now ≤ most_limits }
     ensures in_use { take (length limits.now) alarms.new ≡ alarms_after limits.now (take (length limits.now) alarms.old) value }
     ensures behind { drop (length limits.now) alarms.new ≡ drop (length limits.now) alarms.old }
+    ensures same { result ≡ false → alarms.new ≡ alarms.old }
 {
+    let mut switched = false;
     for (n, limit) in limits.iter().enumerate() {
-        alarms[n] = limit.is_on_after(alarms[n], value);
+        let was_on = alarms[n];
+        let is_on = limit.is_on_after(was_on, value);
+        if is_on != was_on {
+            switched = true;
+        }
+        alarms[n] = is_on;
     }
+    switched
 }

@@ -1,8 +1,8 @@
-ghost use Rattle.std.specs.Prelude.{◌≡◌, ◌<◌, ◌≤◌, ◌+◌, ◌↔◌, [], Some, None, IsOk, IfOk, OnOk, OnErr, option_map, option_copied, IfSome};
+ghost use Rattle.std.specs.Prelude.{◌≡◌, false, ◌<◌, ◌≤◌, ◌+◌, ◌↔◌, [], Some, None, IsOk, IfOk, OnOk, OnErr, option_map, option_copied, IfSome};
 ghost use Rattle.std.specs.Option.{option_copied_mut};
 ghost use Rattle.std.specs.Borrow.{sem};
 ghost use Rattle.sensor_core.specs.Settings.{IsRaw};
-ghost use Rattle.sensor_core.specs.Sensors.{Good, Lost};
+ghost use Rattle.sensor_core.specs.Sensors.{Good, Lost, ShowSame};
 ghost use Rattle.sensor_core.specs.Updates.{good_after, lost_after, Takes};
 ghost use Rattle.sensor_core.specs.Tables.{sensor_at, IsLive, Puts};
 ghost use Rattle.sensor_core.specs.Lends.{LendsSensor};
@@ -94,11 +94,13 @@ impl SensorTable {
     }
 
     /// Takes a good reading of the sensor in a slot that has one, as [`Sensor::good`] does.
-    pub fn good_at(&mut self, slot: usize, raw: i64, tick: u64) -> Result<(), ReadingRange>
+    pub fn good_at(&mut self, slot: usize, raw: i64, tick: u64) -> Result<bool, ReadingRange>
         requires { IsLive self.old slot }
         ensures range { IsOk result ↔ IsRaw raw }
         ensures takes { IfSome (sensor_at self.old slot) (λ sensor. OnOk result (Takes sensor (good_after sensor raw tick) (Good raw tick))) }
         ensures puts { OnOk result (Puts self.old self.new slot (option_map (λ sensor. good_after sensor raw tick) (sensor_at self.old slot))) }
+        ensures shown { IfSome (sensor_at self.old slot) (λ sensor.
+            IfOk result (λ otherwise. otherwise ≡ false → ShowSame sensor (good_after sensor raw tick))) }
         ensures same { OnErr result (self.new ≡ self.old) }
         ensures spare { self.new.spare ≡ self.old.spare }
     {

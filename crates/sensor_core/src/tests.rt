@@ -156,8 +156,13 @@ fn outcomes_in_turn(rt: HostRuntime) {
     let mut sensor = Sensor::new(setting);
     assert_eq!(rt; sensor.alarms().len(), 8);
     for (number, row) in ROWS.iter().enumerate() {
+        let before = (sensor.is_failed(), sensor.all_alarms());
         match row.raw {
-            Some(raw) => assert_eq!(rt; sensor.good(raw, row.tick), Ok(()), "in row {number}"),
+            Some(raw) => {
+                let otherwise = sensor.good(raw, row.tick);
+                let after = (sensor.is_failed(), sensor.all_alarms());
+                assert_eq!(rt; otherwise, Ok(after != before), "in row {number}");
+            }
             None => sensor.lost(),
         }
         let value = sensor.value().map(|value| value.0);
@@ -187,11 +192,11 @@ fn good_until_the_timeout_passes(rt: HostRuntime) {
     assert!(rt; setting.is_valid());
     let mut sensor = Sensor::new(setting);
     assert_eq!(rt; sensor.good_until(0), None);
-    assert_eq!(rt; sensor.good(1, 10), Ok(()));
+    assert!(rt; sensor.good(1, 10).is_ok());
     assert_eq!(rt; sensor.good_until(10), Some(30));
     assert_eq!(rt; sensor.good_until(30), Some(30));
     assert_eq!(rt; sensor.good_until(31), None);
-    assert_eq!(rt; sensor.good(1, u64::MAX - 20), Ok(()));
+    assert!(rt; sensor.good(1, u64::MAX - 20).is_ok());
     assert_eq!(rt; sensor.good_until(u64::MAX), Some(u64::MAX));
     for _ in 0..5 {
         sensor.lost();
@@ -200,7 +205,7 @@ fn good_until_the_timeout_passes(rt: HostRuntime) {
     let setting = scale(1, 1, 0);
     assert!(rt; setting.is_valid());
     let mut timeless = Sensor::new(setting);
-    assert_eq!(rt; timeless.good(1, 10), Ok(()));
+    assert_eq!(rt; timeless.good(1, 10), Ok(false));
     assert_eq!(rt; timeless.good_until(0), Some(u64::MAX));
 }
 
@@ -243,7 +248,7 @@ fn raw_numbers_have_values(rt: HostRuntime) {
         assert!(rt; setting.is_valid());
         let mut sensor = Sensor::new(setting);
         sensor.lost();
-        assert_eq!(rt; sensor.good(raw, 7), wanted.map(|_| ()), "at {raw}");
+        assert_eq!(rt; sensor.good(raw, 7), wanted.map(|_| false), "at {raw}");
         assert_eq!(rt;
             sensor.value().map(|value| value.0),
             wanted.ok(),
@@ -325,7 +330,7 @@ fn settings_are_valid(rt: HostRuntime) {
     setting.count = 7;
     assert!(rt; setting.is_valid());
     let mut sensor = Sensor::new(setting);
-    assert_eq!(rt; sensor.good(-1_000_000_000, 0), Ok(()));
+    assert_eq!(rt; sensor.good(-1_000_000_000, 0), Ok(true));
     assert_alarms(&rt, &sensor, 0b0011_1000, 0);
 }
 
@@ -344,7 +349,7 @@ fn sensors_by_slot(rt: HostRuntime) -> Result<(), Fail> {
     table.reserve(rt.alloc(), 20)?;
     let second = table.put(Sensor::new(setting));
     assert!(rt; table.get(first).is_some() && table.get(second).is_some());
-    assert_eq!(rt; table.good_at(first, 5, 1), Ok(()));
+    assert_eq!(rt; table.good_at(first, 5, 1), Ok(false));
     for _ in 0..5 {
         assert!(rt; table.get(second).is_some());
         table.lost_at(second);

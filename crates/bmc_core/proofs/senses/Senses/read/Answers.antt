@@ -1,14 +1,15 @@
 -- A name without a sensor is refused, and so is a raw number out of its range; else the sensor takes the reading.
-use Rattle.std.proofs.Common.{rules, ◌≡◌, ◌∙◌, ℤ, List, Option, refl, sym, ap, subst, w64, to_z, of_z}
+use Rattle.std.proofs.Common.{rules, ◌≡◌, ◌∙◌, ℤ, false, List, Option, IfSome, refl, sym, ap, subst, w64, to_z, of_z}
 use Rattle.live_sensors.specs.Sensors.{LiveSensors}
 use Rattle.bmc_machine.specs.Histories.{Read}
-use Rattle.sensor_core.specs.Sensors.{Sensor}
+use Rattle.sensor_core.specs.Sensors.{Sensor, ShowSame}
+use Rattle.sensor_core.specs.Updates.{good_after}
 use Rattle.bmc_core.specs.declared.input_health.InputHealth.{InputHealth}
 use Rattle.bmc_core.specs.Acts.{Notes}
 use Rattle.bmc_core.specs.Health.{IsTrueOf}
 use Rattle.bmc_core.proofs.HealthLemmas.{sensor_at_slot, true_after_reading}
 use Rattle.bmc_core.specs.Senses.{SensesView, quiet_senses}
-use Rattle.bmc_core.proofs.NotesLemmas.{read_unknown, read_outside, read_told, slot_stays}
+use Rattle.bmc_core.proofs.NotesLemmas.{read_unknown, read_outside, read_told, slot_stays, nothing_told, sensor_made}
 use Rattle.bmc_core.proofs.senses.Senses.read.Goals as goal
 
 pub returns-in_default-clause-notes : goal.returns-in_default-clause-notes
@@ -18,19 +19,41 @@ returns-in_default-clause-notes g c =
     (read_unknown old c.refuse.new.self c.args.name.now c.args.raw c.slot.result c.refuse.result c.slot.ensures.sensor c.in_default.is
     c.refuse.ensures.result (c.refuse.ensures.left ∙ ap quiet_senses (sym c.self.view_is)))
 
-pub returns-in-Ok-clause-notes : goal.returns-in-Ok-clause-notes
-returns-in-Ok-clause-notes g c =
+pub returns-then-otherwise-clause-notes : goal.returns-then-otherwise-clause-notes
+returns-then-otherwise-clause-notes g c =
     let old : SensesView = record { watch = c.self.inside.watch; sensors = c.self.inside.sensors; ticks = c.self.inside.ticks } in
     let new : SensesView = record { watch = c.tell_reading.new.self; sensors = c.good.new.self; ticks = c.self.inside.ticks } in
     let has = sym c.slot.ensures.slot ∙ c.in-Some.is in
     let same : to_z w64 (of_z w64 c.args.raw) ≡ c.args.raw = search rules in
     subst (λ (raw : ℤ). Notes c.args.self.now (Read c.args.name.now raw) _ new) same
     (subst (λ (senses : SensesView). Notes senses (Read c.args.name.now (to_z w64 (of_z w64 c.args.raw))) _ new) c.self.view_is
-    (read_told old new c.args.name.now c.in-Some.slot c.slot.result c.at-sensor.result.now c.at.result.now c.good.new.self c.slot.ensures.sensor c.in-Some.is
+    (read_told old new c.args.name.now c.in-Some.slot c.slot.result c.at-sensor.result.now c.at-after.result.now c.good.new.self c.slot.ensures.sensor c.in-Some.is
     c.slot.ensures.slot (c.at-sensor.ensures c.args.name.now has)
-    (c.at.ensures c.args.name.now (slot_stays c.self.inside.sensors c.good.new.self c.args.name.now c.in-Some.slot c.in-Ok.ensures.changes.names has))
+    (c.at-after.ensures c.args.name.now (slot_stays c.self.inside.sensors c.good.new.self c.args.name.now c.in-Some.slot c.in-Ok.ensures.changes.names has))
     (c.tell_reading.ensures c.at-sensor.result.now c.of-before.ensures) refl refl _ c.self.inside.ticks (c.in-Ok.ensures.range.0 refl) refl
     c.in-Ok.ensures.changes c.in-Ok.ensures.takes _ refl))
+
+pub returns-else-otherwise-clause-notes : goal.returns-else-otherwise-clause-notes
+returns-else-otherwise-clause-notes g c =
+    let old : SensesView = record { watch = c.self.inside.watch; sensors = c.self.inside.sensors; ticks = c.self.inside.ticks } in
+    let new : SensesView = record { watch = c.forget_changes.new.self; sensors = c.good.new.self; ticks = c.self.inside.ticks } in
+    let raw : ℤ = to_z w64 (of_z w64 c.args.raw) in
+    let before : Sensor = c.at-sensor.result.now in
+    let after : Sensor = good_after before raw c.self.inside.ticks in
+    let has = sym c.slot.ensures.slot ∙ c.in-Some.is in
+    let was = c.at-sensor.ensures c.args.name.now has in
+    let same : raw ≡ c.args.raw = search rules in
+    let shown : ShowSame before after =
+    subst (λ (sensor : Option Sensor). IfSome sensor (λ sensor. c.in-Ok.otherwise ≡ false → ShowSame sensor (good_after sensor raw c.self.inside.ticks))) was
+    (c.in-Ok.ensures.shown c.args.name.now has) c.if-otherwise.false in
+    subst (λ (raw : ℤ). Notes c.args.self.now (Read c.args.name.now raw) _ new) same
+    (subst (λ (senses : SensesView). Notes senses (Read c.args.name.now raw) _ new) c.self.view_is
+    (read_told old new c.args.name.now c.in-Some.slot c.slot.result before after c.good.new.self c.slot.ensures.sensor c.in-Some.is
+    c.slot.ensures.slot was
+    (sensor_made old.sensors new.sensors c.args.name.now c.in-Some.slot (λ sensor. good_after sensor raw c.self.inside.ticks) before
+    c.in-Ok.ensures.changes has was)
+    (c.forget_changes.ensures ∙ nothing_told old.watch c.args.name.now before after shown) refl refl _ c.self.inside.ticks
+    (c.in-Ok.ensures.range.0 refl) refl c.in-Ok.ensures.changes c.in-Ok.ensures.takes _ refl))
 
 pub returns-in-Err-clause-notes : goal.returns-in-Err-clause-notes
 returns-in-Err-clause-notes g c =
@@ -44,8 +67,22 @@ returns-in-Err-clause-notes g c =
     ∙ ap (λ (sensors : LiveSensors). quiet_senses (record { watch = c.self.inside.watch; sensors = sensors; ticks = c.self.inside.ticks }))
     c.in-Err.ensures.same)))
 
-pub returns-in-Ok-clause-health : goal.returns-in-Ok-clause-health
-returns-in-Ok-clause-health g c = λ held is.
+pub returns-then-otherwise-clause-health : goal.returns-then-otherwise-clause-health
+returns-then-otherwise-clause-health g c = λ held is.
+    let old = c.self.inside.sensors in
+    let new = c.good.new.self in
+    let name = c.args.name.now in
+    let slot = c.in-Some.slot in
+    let sensor : Sensor = c.at-sensor.result.now in
+    let health = c.args.health.now in
+    let has = sym c.slot.ensures.slot ∙ c.in-Some.is in
+    let here = sensor_at_slot old name slot sensor has (c.at-sensor.ensures name has) in
+    let was : IsTrueOf old.slots held health = subst (λ (view : SensesView). IsTrueOf view.sensors.slots held health) (sym c.self.view_is) is in
+    subst (λ (it : InputHealth). IsTrueOf new.slots held it) (sym c.after_reading-known.ensures)
+    (true_after_reading old.slots new.slots slot _ c.self.inside.ticks sensor held health c.in-Ok.ensures.changes.slots here was)
+
+pub returns-else-otherwise-clause-health : goal.returns-else-otherwise-clause-health
+returns-else-otherwise-clause-health g c = λ held is.
     let old = c.self.inside.sensors in
     let new = c.good.new.self in
     let name = c.args.name.now in

@@ -1,8 +1,8 @@
-use Rattle.std.proofs.Common.{◌≡◌, ◌∙◌, ℕ, min, ℤ, OnOk, option_map, w64, of_z, to_z, refl, ap, subst}
+use Rattle.std.proofs.Common.{◌≡◌, ◌∙◌, ℕ, min, ℤ, Bool, false, IfOk, OnOk, option_map, w64, of_z, to_z, refl, ap, subst}
 use Rattle.std.proofs.lemmas.Int.{to_z-of_z}
 use Rattle.std.proofs.lemmas.Result.{on_ok_weaker}
 use Rattle.indexmap.specs.IndexMap.{spare}
-use Rattle.sensor_core.specs.Sensors.{Sensor, Good}
+use Rattle.sensor_core.specs.Sensors.{Sensor, Good, ShowSame}
 use Rattle.sensor_core.specs.Updates.{good_after, Takes}
 use Rattle.live_sensors.specs.Sensors.{LiveSensors, AtSlot}
 use Rattle.live_sensors.proofs.SlotsLemmas.{at, at_names, changes}
@@ -27,4 +27,12 @@ returns-clause-takes c =
     let passed : ℤ = to_z w64 (of_z w64 c.args.raw) in
     subst (λ (raw : ℤ). OnOk c.good_at.result (AtSlot c.args.self.now c.args.slot (takes raw))) (raw_is c)
     (subst (λ (sensors : LiveSensors). OnOk c.good_at.result (AtSlot sensors c.args.slot (takes passed))) c.self.view_is
-    (at_names c.good_at.result c.self.inside.slots.entries c.self.inside.table.slots c.args.slot (takes passed) c.good_at.ensures.takes))
+    (at_names c.good_at.result c.self.inside.slots.entries c.self.inside.table.slots c.args.slot (λ _. takes passed) c.good_at.ensures.takes))
+
+pub returns-clause-shown : goal.returns-clause-shown
+returns-clause-shown c =
+    let shown : ℤ → Bool → Sensor → Type 0 = λ raw otherwise sensor. otherwise ≡ false → ShowSame sensor (good_after sensor raw c.args.tick) in
+    let passed : ℤ = to_z w64 (of_z w64 c.args.raw) in
+    subst (λ (raw : ℤ). IfOk c.good_at.result (λ otherwise. AtSlot c.args.self.now c.args.slot (shown raw otherwise))) (raw_is c)
+    (subst (λ (sensors : LiveSensors). IfOk c.good_at.result (λ otherwise. AtSlot sensors c.args.slot (shown passed otherwise))) c.self.view_is
+    (at_names c.good_at.result c.self.inside.slots.entries c.self.inside.table.slots c.args.slot (shown passed) c.good_at.ensures.shown))
