@@ -27,8 +27,8 @@ returns-then-otherwise-clause-notes g c =
     let same : to_z w64 (of_z w64 c.args.raw) ≡ c.args.raw = search rules in
     subst (λ (raw : ℤ). Notes c.args.self.now (Read c.args.name.now raw) _ new) same
     (subst (λ (senses : SensesView). Notes senses (Read c.args.name.now (to_z w64 (of_z w64 c.args.raw))) _ new) c.self.view_is
-    (read_told old new c.args.name.now c.in-Some.slot c.slot.result c.at-sensor.result.now c.at-after.result.now c.good.new.self c.slot.ensures.sensor c.in-Some.is
-    c.slot.ensures.slot (c.at-sensor.ensures c.args.name.now has)
+    (read_told old new c.args.name.now c.in-Some.slot c.slot.result c.at-sensor.result.now c.at-after.result.now c.good.new.self c.slot.ensures.sensor
+    c.in-Some.is c.slot.ensures.slot (c.at-sensor.ensures c.args.name.now has)
     (c.at-after.ensures c.args.name.now (slot_stays c.self.inside.sensors c.good.new.self c.args.name.now c.in-Some.slot c.in-Ok.ensures.changes.names has))
     (c.tell_reading.ensures c.at-sensor.result.now c.of-before.ensures) refl refl _ c.self.inside.ticks (c.in-Ok.ensures.range.0 refl) refl
     c.in-Ok.ensures.changes c.in-Ok.ensures.takes _ refl))
@@ -48,8 +48,8 @@ returns-else-otherwise-clause-notes g c =
     (c.in-Ok.ensures.shown c.args.name.now has) c.if-otherwise.false in
     subst (λ (raw : ℤ). Notes c.args.self.now (Read c.args.name.now raw) _ new) same
     (subst (λ (senses : SensesView). Notes senses (Read c.args.name.now raw) _ new) c.self.view_is
-    (read_told old new c.args.name.now c.in-Some.slot c.slot.result before after c.good.new.self c.slot.ensures.sensor c.in-Some.is
-    c.slot.ensures.slot was
+    (read_told old new c.args.name.now c.in-Some.slot c.slot.result before after c.good.new.self c.slot.ensures.sensor
+    c.in-Some.is c.slot.ensures.slot was
     (sensor_made old.sensors new.sensors c.args.name.now c.in-Some.slot (λ sensor. good_after sensor raw c.self.inside.ticks) before
     c.in-Ok.ensures.changes has was)
     (c.forget_changes.ensures ∙ nothing_told old.watch c.args.name.now before after shown) refl refl _ c.self.inside.ticks
