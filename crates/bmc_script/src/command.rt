@@ -243,6 +243,7 @@ impl<'l> Command<'l> {
     pub fn read(alloc: Global, line: &'l [u8]) -> Result<Command<'l>, ScriptFault>
         ensures { GivesCommand result (command_of line.now) }
     {
+        // Each of these is inlined, and so is the caller's match: a command is then never put together in memory.
         match line {
             [] | [b'#', ..] => Ok(Command::Nothing),
             // told apart in place: a verb and a space cost no search for the space

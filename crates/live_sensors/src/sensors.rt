@@ -122,7 +122,7 @@ impl LiveSensors {
         ensures range { IsOk result ↔ IsRaw raw }
         ensures changes { OnOk result (Changes self.old self.new slot (λ sensor. good_after sensor raw tick)) }
         ensures takes { OnOk result (AtSlot self.old slot (λ sensor. Takes sensor (good_after sensor raw tick) (Good raw tick))) }
-        ensures shown { IfOk result (λ otherwise. AtSlot self.old slot (λ sensor. otherwise ≡ false → ShowSame sensor (good_after sensor raw tick))) }
+        ensures shown { IfOk result (λ otherwise. AtSlot self.old slot (λ sensor. otherwise ≡ false ↔ ShowSame sensor (good_after sensor raw tick))) }
         ensures same { OnErr result (self.new ≡ self.old) }
     {
         self.table.good_at(slot, raw, tick)

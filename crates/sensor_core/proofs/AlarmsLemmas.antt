@@ -1,11 +1,11 @@
 -- Alarms, one value on.
-use Rattle.std.proofs.Common.{◌≡◌, ℕ, zero, suc, ◌+◌, ◌<◌, ℤ, pos, ◌+ℤ◌, ◌-ℤ◌, ◌≤ℤ◌, Bool, true, false, true≢false}
+use Rattle.std.proofs.Common.{◌≡◌, ℕ, zero, suc, ◌+◌, ◌<◌, ◌≤◌, ℤ, pos, ◌+ℤ◌, ◌-ℤ◌, ◌≤ℤ◌, Bool, true, false, true≢false}
 use Rattle.std.proofs.Common.{cond, not, ◌&&◌, ◌||◌, List, [], ◌∷◌, ◌++◌, map, take}
-use Rattle.std.proofs.Common.{drop, set, get_or, length, replicate, refl, sym, ap, add-one, ap₂, ◌∙◌, arith}
+use Rattle.std.proofs.Common.{drop, set, get_or, length, replicate, refl, sym, ap, subst, add-one, ap₂, ◌∙◌, arith}
 use Rattle.std.proofs.Math.Bool.{beq}
 use Rattle.std.proofs.Math.Seq.{take-append_seam, drop-append_seam}
 use Rattle.std.proofs.lemmas.Int.{ints}
-use Rattle.std.proofs.lemmas.List.{take_all, set-get_or}
+use Rattle.std.proofs.lemmas.List.{take_all, take-set, take-append-drop, length-take-le, set-get_or, get_or-set_same}
 use Rattle.std.proofs.lemmas.List.Elements.{All-head, All-tail}
 use Rattle.std.proofs.lemmas.List.Sums.{take_while-cons}
 use Rattle.std.specs.Int.RustNames.{int_lt, int_le}
@@ -120,3 +120,25 @@ mixed_behind limits alarms now value n e is =
     ap (drop (length limits)) (mixed_whole limits alarms now value n e is)
     ∙ ap (λ m. drop m (after ++ drop (length limits) alarms)) (sym (length_after limits (take (length limits) alarms) value))
     ∙ drop-append_seam after (drop (length limits) alarms)
+
+-- where an alarm is put and all are as they were, they were so before it was put
+pub same_before : (limits : List Limit) (alarms now : List Bool) (value : Milli) (n : ℕ) (next : Bool) → n ≤ length limits
+    → now ≡ mixed limits alarms value n → set now n next ≡ alarms → now ≡ alarms
+same_before limits alarms now value n next few is same =
+    let after = alarms_after (take n limits) (take n alarms) value in
+    let size : length after ≡ n = length_after (take n limits) (take n alarms) value ∙ length-take-le n limits few in
+    let behind : drop n now ≡ drop n alarms =
+    ap (drop n) is ∙ ap (λ m. drop m (after ++ drop n alarms)) (sym size) ∙ drop-append_seam after (drop n alarms) in
+    let front : take n now ≡ take n alarms = sym (take-set now n next) ∙ ap (take n) same in
+    sym (take-append-drop n now) ∙ ap₂ (λ xs ys. xs ++ ys) front behind ∙ take-append-drop n alarms
+
+-- and then it is put as it was
+pub put_as_before : (alarms now : List Bool) (n : ℕ) (next on : Bool) → n < length alarms → now ≡ alarms → set now n next ≡ alarms
+    → not (beq next (get_or now n on)) ≡ false
+put_as_before alarms now n next on fits was same =
+    let inside : n < length now = subst (λ all. n < length all) (sym was) fits in
+    ap (λ (it : Bool). not (beq next it)) (ap (λ all. get_or all n on) (was ∙ sym same) ∙ get_or-set_same now n next on inside) ∙ equal next
+  where
+    equal : (a : Bool) → not (beq a a) ≡ false
+    equal true = refl
+    equal false = refl

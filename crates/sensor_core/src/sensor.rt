@@ -70,14 +70,14 @@ impl Sensor {
     }
 
     /// Takes a good reading, a raw number at a tick. A failed sensor works again. Returns whether
-    /// it may show otherwise than before: where it had not failed and no alarm goes on or off, it
-    /// does not. `ReadingRange` comes where the number is out of its range, -1,000,000,000 to
-    /// 1,000,000,000, and then nothing changes.
+    /// it shows otherwise than before: whether it had failed, or an alarm goes on or off.
+    /// `ReadingRange` comes where the number is out of its range, -1,000,000,000 to 1,000,000,000,
+    /// and then nothing changes.
     pub fn good(&mut self, raw: i64, tick: u64) -> Result<bool, ReadingRange>
         ensures range { IsOk result ↔ IsRaw raw }
         ensures takes { OnOk result (Takes self.old self.new (Good raw tick)) }
         ensures after { OnOk result (self.new ≡ good_after self.old raw tick) }
-        ensures shown { IfOk result (λ otherwise. otherwise ≡ false → ShowSame self.old (good_after self.old raw tick)) }
+        ensures shown { IfOk result (λ otherwise. otherwise ≡ false ↔ ShowSame self.old (good_after self.old raw tick)) }
         ensures same { OnErr result (self.new ≡ self.old) }
     {
         if raw.unsigned_abs() > MOST_RAW {
@@ -86,12 +86,12 @@ impl Sensor {
         Ok(self.take_reading(raw, tick))
     }
 
-    // Takes a good reading whose raw number is in its range. Returns whether the sensor may show
+    // Takes a good reading whose raw number is in its range. Returns whether the sensor shows
     // otherwise than before.
     fn take_reading(&mut self, raw: i64, tick: u64) -> bool
         requires { IsRaw raw }
         ensures after { self.new ≡ good_after self.old raw tick }
-        ensures shown { result ≡ false → ShowSame self.old self.new }
+        ensures shown { result ≡ false ↔ ShowSame self.old self.new }
         ensures valid { IsValidSetting self.old.setting }
     {
         let had_failed = self.is_failed();
@@ -210,7 +210,7 @@ fn update_alarms(alarms: &mut [bool; 8], limits: &[Limit], value: Milli) -> bool
     requires few { length limits.now ≤ most_limits }
     ensures in_use { take (length limits.now) alarms.new ≡ alarms_after limits.now (take (length limits.now) alarms.old) value }
     ensures behind { drop (length limits.now) alarms.new ≡ drop (length limits.now) alarms.old }
-    ensures same { result ≡ false → alarms.new ≡ alarms.old }
+    ensures same { result ≡ false ↔ alarms.new ≡ alarms.old }
 {
     let mut switched = false;
     for (n, limit) in limits.iter().enumerate() {

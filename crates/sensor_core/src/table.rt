@@ -100,7 +100,7 @@ impl SensorTable {
         ensures takes { IfSome (sensor_at self.old slot) (λ sensor. OnOk result (Takes sensor (good_after sensor raw tick) (Good raw tick))) }
         ensures puts { OnOk result (Puts self.old self.new slot (option_map (λ sensor. good_after sensor raw tick) (sensor_at self.old slot))) }
         ensures shown { IfSome (sensor_at self.old slot) (λ sensor.
-            IfOk result (λ otherwise. otherwise ≡ false → ShowSame sensor (good_after sensor raw tick))) }
+            IfOk result (λ otherwise. otherwise ≡ false ↔ ShowSame sensor (good_after sensor raw tick))) }
         ensures same { OnErr result (self.new ≡ self.old) }
         ensures spare { self.new.spare ≡ self.old.spare }
     {

@@ -1,5 +1,6 @@
 -- A name without a sensor is refused, and so is a raw number out of its range; else the sensor takes the reading.
 use Rattle.std.proofs.Common.{rules, ◌≡◌, ◌∙◌, ℤ, false, List, Option, IfSome, refl, sym, ap, subst, w64, to_z, of_z}
+use Rattle.std.specs.Prelude.{◌↔◌}
 use Rattle.live_sensors.specs.Sensors.{LiveSensors}
 use Rattle.bmc_machine.specs.Histories.{Read}
 use Rattle.sensor_core.specs.Sensors.{Sensor, ShowSame}
@@ -43,9 +44,10 @@ returns-else-otherwise-clause-notes g c =
     let has = sym c.slot.ensures.slot ∙ c.in-Some.is in
     let was = c.at-sensor.ensures c.args.name.now has in
     let same : raw ≡ c.args.raw = search rules in
-    let shown : ShowSame before after =
-    subst (λ (sensor : Option Sensor). IfSome sensor (λ sensor. c.in-Ok.otherwise ≡ false → ShowSame sensor (good_after sensor raw c.self.inside.ticks))) was
-    (c.in-Ok.ensures.shown c.args.name.now has) c.if-otherwise.false in
+    let told : c.in-Ok.otherwise ≡ false ↔ ShowSame before after =
+    subst (λ (sensor : Option Sensor). IfSome sensor (λ sensor. c.in-Ok.otherwise ≡ false ↔ ShowSame sensor (good_after sensor raw c.self.inside.ticks))) was
+    (c.in-Ok.ensures.shown c.args.name.now has) in
+    let shown = told.0 c.if-otherwise.false in
     subst (λ (raw : ℤ). Notes c.args.self.now (Read c.args.name.now raw) _ new) same
     (subst (λ (senses : SensesView). Notes senses (Read c.args.name.now raw) _ new) c.self.view_is
     (read_told old new c.args.name.now c.in-Some.slot c.slot.result before after c.good.new.self c.slot.ensures.sensor

@@ -1,4 +1,5 @@
 use Rattle.std.proofs.Common.{◌≡◌, ◌∙◌, ℕ, min, ℤ, Bool, false, IfOk, OnOk, option_map, w64, of_z, to_z, refl, ap, subst}
+use Rattle.std.specs.Prelude.{◌↔◌}
 use Rattle.std.proofs.lemmas.Int.{to_z-of_z}
 use Rattle.std.proofs.lemmas.Result.{on_ok_weaker}
 use Rattle.indexmap.specs.IndexMap.{spare}
@@ -31,7 +32,7 @@ returns-clause-takes c =
 
 pub returns-clause-shown : goal.returns-clause-shown
 returns-clause-shown c =
-    let shown : ℤ → Bool → Sensor → Type 0 = λ raw otherwise sensor. otherwise ≡ false → ShowSame sensor (good_after sensor raw c.args.tick) in
+    let shown : ℤ → Bool → Sensor → Type 0 = λ raw otherwise sensor. otherwise ≡ false ↔ ShowSame sensor (good_after sensor raw c.args.tick) in
     let passed : ℤ = to_z w64 (of_z w64 c.args.raw) in
     subst (λ (raw : ℤ). IfOk c.good_at.result (λ otherwise. AtSlot c.args.self.now c.args.slot (shown raw otherwise))) (raw_is c)
     (subst (λ (sensors : LiveSensors). IfOk c.good_at.result (λ otherwise. AtSlot sensors c.args.slot (shown passed otherwise))) c.self.view_is
