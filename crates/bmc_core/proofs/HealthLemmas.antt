@@ -162,3 +162,11 @@ pub sensor_at_slot : (sensors : LiveSensors) (name : List ℕ) (slot : ℕ) (sen
     → slice_index_or sensors.slots slot None ≡ Some sensor
 sensor_at_slot sensors name slot sensor has is =
     sym (ap (λ (its : Option ℕ). option_and_then (λ (n : ℕ). slice_index_or sensors.slots n None) its) has) ∙ is
+
+-- what is known behind a reading is true, where the sensor is that of a name
+pub true_behind_reading : (old new : LiveSensors) (name : List ℕ) (slot : ℕ) (raw : ℤ) (tick : ℕ) (sensor : Sensor) (held : List Held)
+    (health known : InputHealth) → ChangesSlot old.slots new.slots slot (λ one. good_after one raw tick) → slot_of old name ≡ Some slot
+    → sensor_in old name ≡ Some sensor → known ≡ health_after_reading health sensor tick → IsTrueOf old.slots held health → IsTrueOf new.slots held known
+true_behind_reading old new name slot raw tick sensor held health known changes has at is was =
+    subst (λ (it : InputHealth). IsTrueOf new.slots held it) (sym is)
+    (true_after_reading old.slots new.slots slot raw tick sensor held health changes (sensor_at_slot old name slot sensor has at) was)

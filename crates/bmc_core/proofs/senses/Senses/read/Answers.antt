@@ -5,10 +5,9 @@ use Rattle.live_sensors.specs.Sensors.{LiveSensors}
 use Rattle.bmc_machine.specs.Histories.{Read}
 use Rattle.sensor_core.specs.Sensors.{Sensor, ShowSame}
 use Rattle.sensor_core.specs.Updates.{good_after}
-use Rattle.bmc_core.specs.declared.input_health.InputHealth.{InputHealth}
 use Rattle.bmc_core.specs.Acts.{Notes}
 use Rattle.bmc_core.specs.Health.{IsTrueOf}
-use Rattle.bmc_core.proofs.HealthLemmas.{sensor_at_slot, true_after_reading}
+use Rattle.bmc_core.proofs.HealthLemmas.{true_behind_reading}
 use Rattle.bmc_core.specs.Senses.{SensesView, quiet_senses}
 use Rattle.bmc_core.proofs.NotesLemmas.{read_unknown, read_outside, read_told, slot_stays, nothing_told, sensor_made}
 use Rattle.bmc_core.proofs.senses.Senses.read.Goals as goal
@@ -71,31 +70,17 @@ returns-in-Err-clause-notes g c =
 
 pub returns-then-otherwise-clause-health : goal.returns-then-otherwise-clause-health
 returns-then-otherwise-clause-health g c = λ held is.
-    let old = c.self.inside.sensors in
-    let new = c.good.new.self in
-    let name = c.args.name.now in
-    let slot = c.in-Some.slot in
-    let sensor : Sensor = c.at-sensor.result.now in
-    let health = c.args.health.now in
     let has = sym c.slot.ensures.slot ∙ c.in-Some.is in
-    let here = sensor_at_slot old name slot sensor has (c.at-sensor.ensures name has) in
-    let was : IsTrueOf old.slots held health = subst (λ (view : SensesView). IsTrueOf view.sensors.slots held health) (sym c.self.view_is) is in
-    subst (λ (it : InputHealth). IsTrueOf new.slots held it) (sym c.after_reading-known.ensures)
-    (true_after_reading old.slots new.slots slot _ c.self.inside.ticks sensor held health c.in-Ok.ensures.changes.slots here was)
+    true_behind_reading c.self.inside.sensors c.good.new.self c.args.name.now c.in-Some.slot _ c.self.inside.ticks c.at-sensor.result.now held
+    c.args.health.now _ c.in-Ok.ensures.changes.slots has (c.at-sensor.ensures c.args.name.now has) c.after_reading-known.ensures
+    (subst (λ (view : SensesView). IsTrueOf view.sensors.slots held c.args.health.now) (sym c.self.view_is) is)
 
 pub returns-else-otherwise-clause-health : goal.returns-else-otherwise-clause-health
 returns-else-otherwise-clause-health g c = λ held is.
-    let old = c.self.inside.sensors in
-    let new = c.good.new.self in
-    let name = c.args.name.now in
-    let slot = c.in-Some.slot in
-    let sensor : Sensor = c.at-sensor.result.now in
-    let health = c.args.health.now in
     let has = sym c.slot.ensures.slot ∙ c.in-Some.is in
-    let here = sensor_at_slot old name slot sensor has (c.at-sensor.ensures name has) in
-    let was : IsTrueOf old.slots held health = subst (λ (view : SensesView). IsTrueOf view.sensors.slots held health) (sym c.self.view_is) is in
-    subst (λ (it : InputHealth). IsTrueOf new.slots held it) (sym c.after_reading-known.ensures)
-    (true_after_reading old.slots new.slots slot _ c.self.inside.ticks sensor held health c.in-Ok.ensures.changes.slots here was)
+    true_behind_reading c.self.inside.sensors c.good.new.self c.args.name.now c.in-Some.slot _ c.self.inside.ticks c.at-sensor.result.now held
+    c.args.health.now _ c.in-Ok.ensures.changes.slots has (c.at-sensor.ensures c.args.name.now has) c.after_reading-known.ensures
+    (subst (λ (view : SensesView). IsTrueOf view.sensors.slots held c.args.health.now) (sym c.self.view_is) is)
 
 pub returns-in-Err-clause-health : goal.returns-in-Err-clause-health
 returns-in-Err-clause-health g c = λ held is.
