@@ -326,6 +326,15 @@ read_outside old new name raw slot found result same some outside is left =
         by true is = refl
         by false is = absurd (outside (grind (arith, nat_tests, is)))
 
+-- what is known, part by part
+abbrev senses_of : WatchView → LiveSensors → ℕ → SensesView
+senses_of watch sensors ticks = record { watch = watch; sensors = sensors; ticks = ticks }
+
+-- where the sensors are the same as before they were asked for a name, so is what is known
+pub asked : {watch : WatchView} {now sensors : LiveSensors} {ticks : ℕ} {view : SensesView} → now ≡ sensors
+    → senses_of watch sensors ticks ≡ view → senses_of watch now ticks ≡ view
+asked {watch} {now} {sensors} {ticks} {view} same is = ap (λ (each : LiveSensors). senses_of watch each ticks) same ∙ is
+
 -- a name has its slot as long as the slots of the names stay
 pub slot_stays : (old new : LiveSensors) (name : List ℕ) (slot : ℕ) → new.names ≡ old.names → slot_of old name ≡ Some slot → slot_of new name ≡ Some slot
 slot_stays old new name slot same has = ap (lookup (bytes_eq name)) same ∙ has

@@ -36,7 +36,7 @@ impl Counts {
                 Body::Sensor(_) => counts.sensors += 1,
                 Body::Zone(_) => counts.zones += 1,
                 Body::Fan => counts.fans += 1,
-                Body::Control(part) => match part.setting.kind() {
+                Body::Control(part) => match part.get().setting.kind() {
                     Kind::Pid => counts.pids += 1,
                     Kind::Stepwise => counts.steps += 1,
                 },

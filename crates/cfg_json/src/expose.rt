@@ -1,5 +1,6 @@
 ghost use Rattle.std.specs.Prelude.{◌≡◌, ◌∷◌, ◌++◌, [], IfOk, OnOk, OnErr};
 
+use crate::Boxed;
 use bmc_base::{Bytes, Milli, Name, OutOfMemory};
 use ctl_face::Setting;
 use sensor_core::SensorSetting;
@@ -18,17 +19,17 @@ pub struct Expose {
     pub body: Body,
 }
 
-/// What an expose has by its type.
+/// What an expose has by its type. It is small: what is large stands in memory of its own.
 #[derive(Drop)]
 pub enum Body {
     /// A sensor (type `Sensor`).
-    Sensor(SensorPart),
+    Sensor(Boxed<SensorPart>),
     /// A fan (type `Fan`).
     Fan,
     /// A zone of fans (type `Pid.Zone`).
     Zone(ZoneSetting),
     /// A controller (type `Pid` or `Stepwise`).
-    Control(ControlPart),
+    Control(Boxed<ControlPart>),
     /// A multiplexer (type `Mux`).
     Mux(MuxPart),
     /// An expose of any other type, of which nothing else is read.
@@ -40,9 +41,9 @@ pub enum Body {
 #[derive(Drop)]
 pub struct SensorPart {
     /// What gives the bus at which it is, 0 to 255, if that is given.
-    pub bus: Option<Template>,
+    pub bus: Option<Boxed<Template>>,
     /// What gives the address at which it is, 0 to 127, if that is given.
-    pub address: Option<Template>,
+    pub address: Option<Boxed<Template>>,
     /// How its values come of raw numbers, when they are too old, and its limits.
     pub setting: SensorSetting,
 }

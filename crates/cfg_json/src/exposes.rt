@@ -10,7 +10,7 @@ use crate::controls::{read_pid, read_stepwise};
 use crate::sensors::read_sensor;
 use crate::template_names::read_name;
 use crate::values::{MOST_UNITS, list, milli_within, required, short_text};
-use crate::{Body, ConfigFault, Expose, Exposes, ZoneSetting};
+use crate::{Body, Boxed, ConfigFault, Expose, Exposes, ZoneSetting};
 use bmc_base::Name;
 use serde_json::Value;
 use std::alloc::Global;
@@ -58,11 +58,20 @@ fn read_body(alloc: Global, members: &Value, kind: &Name) -> Result<Body, Config
     ensures { Gives result (body_of (view members.now) kind.now) }
 {
     match kind.as_str() {
-        "Sensor" => Ok(Body::Sensor(read_sensor(alloc, members)?)),
+        "Sensor" => {
+            let sensor = read_sensor(alloc, members)?;
+            Ok(Body::Sensor(Boxed::new(alloc, sensor)?))
+        }
         "Fan" => Ok(Body::Fan),
         "Pid.Zone" => Ok(Body::Zone(read_zone(members)?)),
-        "Pid" => Ok(Body::Control(read_pid(alloc, members)?)),
-        "Stepwise" => Ok(Body::Control(read_stepwise(alloc, members)?)),
+        "Pid" => {
+            let control = read_pid(alloc, members)?;
+            Ok(Body::Control(Boxed::new(alloc, control)?))
+        }
+        "Stepwise" => {
+            let control = read_stepwise(alloc, members)?;
+            Ok(Body::Control(Boxed::new(alloc, control)?))
+        }
         "Mux" => Ok(Body::Mux(read_mux(alloc, required(members, "Channels")?)?)),
         _ => Ok(Body::Passive),
     }

@@ -6,7 +6,7 @@ ghost use Rattle.cfg_json.specs.Sensors.{side_of, limit_of, slots_of, setting_of
 ghost use Rattle.cfg_json.specs.Readings.{Gives};
 
 use crate::values::{list, milli_or_none, milli_within, required, text, whole_or, whole_within};
-use crate::{ConfigFault, SensorPart};
+use crate::{Boxed, ConfigFault, SensorPart};
 use bmc_base::Milli;
 use sensor_core::{Limit, SensorSetting};
 use serde_json::{Number, Value};
@@ -51,11 +51,14 @@ fn read_optional(
     alloc: Global,
     value: Option<&Value>,
     most: u8,
-) -> Result<Option<Template>, ConfigFault>
+) -> Result<Option<Boxed<Template>>, ConfigFault>
     ensures { Gives result (optional (number_template most) (option_map (λ number. view number.now) value.entry)) }
 {
     match value {
-        Some(value) => Ok(Some(read_number(alloc, value, most)?)),
+        Some(value) => {
+            let number = read_number(alloc, value, most)?;
+            Ok(Some(Boxed::new(alloc, number)?))
+        }
         None => Ok(None),
     }
 }

@@ -103,7 +103,7 @@ fn first_rules_of_outputs(rt: HostRuntime) -> Result<(), Fail> {
 // The controller that an expose is.
 pub(crate) fn control_in<'a>(rt: &impl Abort, expose: &'a Expose) -> &'a ControlPart {
     match &expose.body {
-        Body::Control(part) => part,
+        Body::Control(part) => part.get(),
         _ => panic!(rt; "a controller"),
     }
 }

@@ -1,6 +1,6 @@
 use crate::reading::{assert_members, read};
 use bmc_base::Milli;
-use cfg_json::{Body, Counts, Expose, SensorPart, settings_are_valid};
+use cfg_json::{Body, Boxed, Counts, Expose, SensorPart, settings_are_valid};
 use sensor_core::{Limit, SensorSetting};
 use std::alloc::Global;
 use std::process::Abort;
@@ -150,19 +150,19 @@ fn first_rules_of_sensors(rt: HostRuntime) -> Result<(), Fail> {
 // The sensor that an expose is.
 fn sensor_in<'a>(rt: &impl Abort, expose: &'a Expose) -> &'a SensorPart {
     match &expose.body {
-        Body::Sensor(part) => part,
+        Body::Sensor(part) => part.get(),
         _ => panic!(rt; "a sensor"),
     }
 }
 
 // The number as which a template is rendered without a place and a record, at index 7.
-fn number_at(template: &Option<Template>) -> Option<u32> {
+fn number_at(template: &Option<Boxed<Template>>) -> Option<u32> {
     let spot = Spot {
         place: None,
         fru: None,
         index: 7,
     };
-    template.as_ref()?.render_number(&spot, 255)
+    template.as_ref()?.get().render_number(&spot, 255)
 }
 
 // A setting with these limits in use, of which the numbers are told by one another.

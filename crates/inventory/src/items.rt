@@ -1,4 +1,4 @@
-ghost use Rattle.std.specs.Prelude.{◌≡◌, ◌++◌, filter_map, option_map, option_to_list, Some, IfOk, OnOk};
+ghost use Rattle.std.specs.Prelude.{◌≡◌, ◌++◌, filter_map, option_map, option_copied, option_to_list, Some, IfOk, OnOk};
 ghost use Rattle.std.specs.List.{All};
 ghost use Rattle.bmc_base.specs.Places.{last_bus};
 ghost use Rattle.tmpl.specs.Rendering.{fields_of, rendered_number};
@@ -61,13 +61,23 @@ fn render_mux(alloc: Global, part: &MuxPart, spot: &Spot<'_>) -> Result<MuxItem,
     })
 }
 
+// Borrows the template of a number, if there is one.
+fn template_in(number: &Option<Boxed<Template>>) -> Option<&Template>
+    ensures { option_copied result ≡ number.now }
+{
+    match number {
+        Some(template) => Some(template.get()),
+        None => None,
+    }
+}
+
 // Renders a sensor at a spot.
 fn render_sensor(part: &SensorPart, spot: &Spot<'_>) -> SensorItem
     ensures { result ≡ sensor_at spot.now.place (fields_of spot.now.fru) spot.now.index part.now }
 {
     SensorItem {
-        bus: render_number(part.bus.as_ref(), spot, LAST_BUS),
-        address: render_number(part.address.as_ref(), spot, LAST_ADDRESS),
+        bus: render_number(template_in(&part.bus), spot, LAST_BUS),
+        address: render_number(template_in(&part.address), spot, LAST_ADDRESS),
         setting: part.setting,
     }
 }
@@ -150,10 +160,10 @@ fn render_part(alloc: Global, body: &Body, spot: &Spot<'_>) -> Result<Option<Ite
     ensures { IfOk result (λ part. part ≡ part_of spot.now.place (fields_of spot.now.fru) spot.now.index body.now) }
 {
     match body {
-        Body::Sensor(part) => Ok(Some(render_boxed_sensor(alloc, part, spot)?)),
+        Body::Sensor(part) => Ok(Some(render_boxed_sensor(alloc, part.get(), spot)?)),
         Body::Fan => Ok(Some(ItemPart::Fan)),
         Body::Zone(setting) => Ok(Some(ItemPart::Zone(*setting))),
-        Body::Control(part) => render_boxed_control(alloc, part, spot),
+        Body::Control(part) => render_boxed_control(alloc, part.get(), spot),
         Body::Mux(part) => {
             let mux = Boxed::new(alloc, render_mux(alloc, part, spot)?)?;
             Ok(Some(ItemPart::Mux(mux)))

@@ -5,5 +5,6 @@ mod by_text;
 mod sensors;
 #[cfg(test)]
 mod tests;
+mod turns;
 
 pub use sensors::LiveSensors;

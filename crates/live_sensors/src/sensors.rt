@@ -1,5 +1,5 @@
 ghost use Rattle.std.specs.Prelude.{◌≡◌, ◌<◌, ◌≤◌, ◌+◌, ◌↔◌, ℕ, false, bytes_eq, if◌then◌else◌, List, [], length, All};
-ghost use Rattle.std.specs.Prelude.{None, Some, Ok, is_none, IfSome, OnSome, IsOk, IfOk, OnOk, OnErr};
+ghost use Rattle.std.specs.Prelude.{None, Some, Ok, is_none, option_map, IfSome, OnSome, IsOk, IfOk, OnOk, OnErr};
 ghost use Rattle.bmc_base.specs.Names.{name_of};
 ghost use Rattle.sensor_core.specs.Settings.{IsValidSetting, IsRaw};
 ghost use Rattle.sensor_core.specs.Sensors.{Good, Lost, ShowSame, sensor_of};
@@ -10,6 +10,7 @@ ghost use Rattle.inventory.specs.Items.{IsValidPart, IsValidItem};
 ghost use Rattle.live_sensors.specs.Items.{setting_in, is_sensor, has_sensor, dropped_one, started_one, dropped, started, settled};
 
 use crate::by_text::ByText;
+use crate::turns::Turns;
 use bmc_base::{Name, OutOfMemory};
 use cfg_json::{Item, ItemPart};
 use indexmap::IndexMap;
@@ -23,6 +24,7 @@ use std::marker::Model;
 pub struct LiveSensors {
     slots: IndexMap<Name, usize>,
     table: SensorTable,
+    turns: Turns,
 }
 
 impl Model for LiveSensors {
@@ -56,6 +58,7 @@ impl LiveSensors {
         Ok(LiveSensors {
             slots: IndexMap::new(alloc),
             table: SensorTable::new(alloc)?,
+            turns: Turns::new(alloc)?,
         })
     }
 
@@ -103,6 +106,40 @@ impl LiveSensors {
         // each key is a name, which is said with its text
         let _name = key.as_str();
         Some(*slot)
+    }
+
+    /// Returns the slot of a name, as [`LiveSensors::slot`] does, and notes that the name was asked for. Sensors are mostly asked for
+    /// in turn: the name that came behind the last one before is compared first, and only another one is looked up.
+    pub fn slot_in_turn(&mut self, name: &str) -> Option<usize>
+        ensures same { self.new ≡ self.old }
+        ensures slot { result ≡ slot_of self.new name.now }
+        ensures sensor { is_none result ≡ is_none (sensor_in self.new name.now) }
+        ensures contains { IfSome result (ContainsSlot self.new.names) }
+        ensures named { OnSome result (name_of name.now ≡ Ok name.now) }
+    {
+        let (position, slot) = self.seat(name)?;
+        self.turns.note(position);
+        Some(slot)
+    }
+
+    // Returns the position and the slot of a name, if it has one.
+    #[inline(always)]
+    fn seat(&self, name: &str) -> Option<(usize, usize)>
+        ensures slot { option_map (λ seat. seat.1) result ≡ slot_of self.now name.now }
+        ensures sensor { is_none result ≡ is_none (sensor_in self.now name.now) }
+        ensures contains { IfSome result (λ seat. ContainsSlot self.now.names seat.1) }
+        ensures named { OnSome result (name_of name.now ≡ Ok name.now) }
+    {
+        let expected = self.turns.expected();
+        if let Some((key, slot)) = self.slots.get_index(expected) {
+            if key.as_str() == name {
+                return Some((expected, *slot));
+            }
+        }
+        let (position, key, slot) = self.slots.get_full(ByText { text: name })?;
+        // each key is a name, which is said with its text
+        let _name = key.as_str();
+        Some((position, *slot))
     }
 
     /// Borrows the sensor in a slot that a name has.

@@ -1,4 +1,5 @@
-ghost use Rattle.std.specs.Prelude.{◌≡◌, ◌≤◌, ◌↔◌, IsTrue};
+ghost use Rattle.std.specs.Prelude.{◌≡◌, ◌≤◌, ◌≤ℤ◌, ◌↔◌, IsTrue, pos};
+ghost use Rattle.std.specs.Int.{int_div_euclid};
 ghost use Rattle.sensor_core.specs.Settings.{IsValidScale, IsValidSetting, IsRaw, most_limits, limits_of, value_of};
 
 use crate::Limit;
@@ -27,6 +28,19 @@ pub struct SensorSetting {
     pub limits: [Limit; 8],
     /// How many limits are in use, 0 to 8.
     pub count: u8,
+}
+
+// Returns the quotient of two numbers, rounded down. A divisor of 1 is told apart: most sensors have it, and no other step of a
+// reading takes as long as a division.
+fn quotient(number: i64, divisor: i64) -> i64
+    requires { pos 1 ≤ℤ divisor }
+    ensures { result ≡ int_div_euclid number divisor }
+{
+    if divisor == 1 {
+        number
+    } else {
+        number.div_euclid(divisor)
+    }
 }
 
 impl SensorSetting {
@@ -64,6 +78,6 @@ impl SensorSetting {
         requires raw { IsRaw raw }
         ensures { result ≡ value_of self.now raw }
     {
-        Milli((raw * self.num).div_euclid(self.den) + self.offset.0)
+        Milli(quotient(raw * self.num, self.den) + self.offset.0)
     }
 }

@@ -5,12 +5,12 @@ pub overflow_add-result : goal.overflow_add-result
 overflow_add-result c =
     let setting = c.args.self.now in
     let scale = c.requires.setting.scale in
-    let is = quotient_is c.args.raw setting.num setting.den _ c.requires.raw scale.factor scale.divides scale.divisor c.div_euclid.ensures in
-    sum_fits c.div_euclid.result setting.offset.0 is.small scale.shift
+    let is = quotient_is c.args.raw setting.num setting.den _ c.requires.raw scale.factor scale.divides scale.divisor c.quotient.ensures in
+    sum_fits c.quotient.result setting.offset.0 is.small scale.shift
 
 pub returns : goal.returns
 returns c =
     let setting = c.args.self.now in
     let scale = c.requires.setting.scale in
-    let is = quotient_is c.args.raw setting.num setting.den _ c.requires.raw scale.factor scale.divides scale.divisor c.div_euclid.ensures in
-    value_is c.args.raw setting.num setting.den c.div_euclid.result setting.offset.0 is scale.shift
+    let is = quotient_is c.args.raw setting.num setting.den _ c.requires.raw scale.factor scale.divides scale.divisor c.quotient.ensures in
+    value_is c.args.raw setting.num setting.den c.quotient.result setting.offset.0 is scale.shift
