@@ -17,8 +17,8 @@ returns-in_default-clause-notes g c =
     let old : SensesView = record { watch = c.self.inside.watch; sensors = c.slot_in_turn.new.self; ticks = c.self.inside.ticks } in
     let is : old ≡ c.args.self.now = asked c.slot_in_turn.ensures.same c.self.view_is in
     subst (λ (senses : SensesView). Notes senses (Lose c.args.name.now) c.refuse.result c.refuse.new.self) is
-    (lose_unknown old c.refuse.new.self c.args.name.now c.slot_in_turn.result c.refuse.result c.slot_in_turn.ensures.sensor c.in_default.is c.refuse.ensures.result
-    c.refuse.ensures.left)
+    (lose_unknown old c.refuse.new.self c.args.name.now c.slot_in_turn.result c.refuse.result c.slot_in_turn.ensures.sensor c.in_default.is
+    c.refuse.ensures.result c.refuse.ensures.left)
 
 pub returns-clause-notes : goal.returns-clause-notes
 returns-clause-notes g c =
@@ -27,8 +27,8 @@ returns-clause-notes g c =
     let new : SensesView = record { watch = c.tell_reading.new.self; sensors = c.lost.new.self; ticks = c.self.inside.ticks } in
     let has = sym c.slot_in_turn.ensures.slot ∙ c.in-Some.is in
     subst (λ (senses : SensesView). Notes senses (Lose c.args.name.now) _ new) is
-    (lose_told old new c.args.name.now c.in-Some.slot c.slot_in_turn.result c.at-sensor.result.now c.at-sensor-2.result.now c.lost.new.self c.slot_in_turn.ensures.sensor
-    c.in-Some.is c.slot_in_turn.ensures.slot (c.at-sensor.ensures c.args.name.now has)
+    (lose_told old new c.args.name.now c.in-Some.slot c.slot_in_turn.result c.at-sensor.result.now c.at-sensor-2.result.now c.lost.new.self
+    c.slot_in_turn.ensures.sensor c.in-Some.is c.slot_in_turn.ensures.slot (c.at-sensor.ensures c.args.name.now has)
     (c.at-sensor-2.ensures c.args.name.now (slot_stays c.slot_in_turn.new.self c.lost.new.self c.args.name.now c.in-Some.slot c.lost.ensures.changes.names has))
     (c.tell_reading.ensures c.at-sensor.result.now c.of-before.ensures) refl refl
     c.lost.ensures.changes _ refl)

@@ -29,8 +29,8 @@ returns-then-otherwise-clause-notes g c =
     let same : to_z w64 (of_z w64 c.args.raw) ≡ c.args.raw = search rules in
     subst (λ (raw : ℤ). Notes c.args.self.now (Read c.args.name.now raw) _ new) same
     (subst (λ (senses : SensesView). Notes senses (Read c.args.name.now (to_z w64 (of_z w64 c.args.raw))) _ new) is
-    (read_told old new c.args.name.now c.in-Some.slot c.slot_in_turn.result c.at-sensor.result.now c.at-after.result.now c.good.new.self c.slot_in_turn.ensures.sensor
-    c.in-Some.is c.slot_in_turn.ensures.slot (c.at-sensor.ensures c.args.name.now has)
+    (read_told old new c.args.name.now c.in-Some.slot c.slot_in_turn.result c.at-sensor.result.now c.at-after.result.now c.good.new.self
+    c.slot_in_turn.ensures.sensor c.in-Some.is c.slot_in_turn.ensures.slot (c.at-sensor.ensures c.args.name.now has)
     (c.at-after.ensures c.args.name.now (slot_stays c.slot_in_turn.new.self c.good.new.self c.args.name.now c.in-Some.slot c.in-Ok.ensures.changes.names has))
     (c.tell_reading.ensures c.at-sensor.result.now c.of-before.ensures) refl refl _ c.self.inside.ticks (c.in-Ok.ensures.range.0 refl) refl
     c.in-Ok.ensures.changes c.in-Ok.ensures.takes _ refl))
