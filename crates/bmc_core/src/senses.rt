@@ -169,7 +169,7 @@ impl<L: Ledger> Senses<L> {
         ensures names { self.new.sensors.names ≡ self.old.sensors.names }
         ensures health { (held : List Held) → IsTrueOf self.old.sensors.slots held health.old → IsTrueOf self.new.sensors.slots held health.new }
     {
-        let Some(slot) = self.sensors.slot_in_turn(name) else {
+        let Some(slot) = self.sensors.find_slot(name) else {
             return self.refuse(Refusal::UnknownSensor);
         };
         let tick = self.ticks;
@@ -197,7 +197,7 @@ impl<L: Ledger> Senses<L> {
         ensures names { self.new.sensors.names ≡ self.old.sensors.names }
         ensures health { (held : List Held) → IsTrueOf self.old.sensors.slots held health.old → IsTrueOf self.new.sensors.slots held health.new }
     {
-        let Some(slot) = self.sensors.slot_in_turn(name) else {
+        let Some(slot) = self.sensors.find_slot(name) else {
             return self.refuse(Refusal::UnknownSensor);
         };
         let sensor = self.sensors.at(slot);

@@ -2,9 +2,9 @@
 #![tactic(auto)]
 
 mod by_text;
+mod followers;
 mod sensors;
 #[cfg(test)]
 mod tests;
-mod turns;
 
 pub use sensors::LiveSensors;

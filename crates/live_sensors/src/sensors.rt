@@ -10,7 +10,7 @@ ghost use Rattle.inventory.specs.Items.{IsValidPart, IsValidItem};
 ghost use Rattle.live_sensors.specs.Items.{setting_in, is_sensor, has_sensor, dropped_one, started_one, dropped, started, settled};
 
 use crate::by_text::ByText;
-use crate::turns::Turns;
+use crate::followers::Followers;
 use bmc_base::{Name, OutOfMemory};
 use cfg_json::{Item, ItemPart};
 use indexmap::IndexMap;
@@ -24,7 +24,7 @@ use std::marker::Model;
 pub struct LiveSensors {
     slots: IndexMap<Name, usize>,
     table: SensorTable,
-    turns: Turns,
+    followers: Followers,
 }
 
 impl Model for LiveSensors {
@@ -58,7 +58,7 @@ impl LiveSensors {
         Ok(LiveSensors {
             slots: IndexMap::new(alloc),
             table: SensorTable::new(alloc)?,
-            turns: Turns::new(alloc)?,
+            followers: Followers::new(alloc)?,
         })
     }
 
@@ -108,29 +108,29 @@ impl LiveSensors {
         Some(*slot)
     }
 
-    /// Returns the slot of a name, as [`LiveSensors::slot`] does, and notes that the name was asked for. Sensors are mostly asked for
-    /// in turn: the name that came behind the last one before is compared first, and only another one is looked up.
-    pub fn slot_in_turn(&mut self, name: &str) -> Option<usize>
+    /// Returns the slot of a name, as [`LiveSensors::slot`] does, and notes that the name was asked for. The name that came behind
+    /// the last one before is compared first, and only another one is looked up.
+    pub fn find_slot(&mut self, name: &str) -> Option<usize>
         ensures same { self.new ≡ self.old }
         ensures slot { result ≡ slot_of self.new name.now }
         ensures sensor { is_none result ≡ is_none (sensor_in self.new name.now) }
         ensures contains { IfSome result (ContainsSlot self.new.names) }
         ensures named { OnSome result (name_of name.now ≡ Ok name.now) }
     {
-        let (position, slot) = self.seat(name)?;
-        self.turns.note(position);
+        let (position, slot) = self.find(name)?;
+        self.followers.note(position);
         Some(slot)
     }
 
     // Returns the position and the slot of a name, if it has one.
     #[inline(always)]
-    fn seat(&self, name: &str) -> Option<(usize, usize)>
-        ensures slot { option_map (λ seat. seat.1) result ≡ slot_of self.now name.now }
+    fn find(&self, name: &str) -> Option<(usize, usize)>
+        ensures slot { option_map (λ found. found.1) result ≡ slot_of self.now name.now }
         ensures sensor { is_none result ≡ is_none (sensor_in self.now name.now) }
-        ensures contains { IfSome result (λ seat. ContainsSlot self.now.names seat.1) }
+        ensures contains { IfSome result (λ found. ContainsSlot self.now.names found.1) }
         ensures named { OnSome result (name_of name.now ≡ Ok name.now) }
     {
-        let expected = self.turns.expected();
+        let expected = self.followers.expected();
         if let Some((key, slot)) = self.slots.get_index(expected) {
             if key.as_str() == name {
                 return Some((expected, *slot));

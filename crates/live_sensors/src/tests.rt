@@ -77,12 +77,12 @@ fn tell(sensors: &mut LiveSensors, alloc: Global, name: &str, act: Act) -> Resul
         Act::Go => sensors.settle(&[item(name, sensor(alloc)?)?], &[]),
         Act::FanGoes => sensors.settle(&[item(name, ItemPart::Fan)?], &[]),
         Act::Read(raw) => {
-            if let Some(slot) = sensors.slot_in_turn(name) {
+            if let Some(slot) = sensors.find_slot(name) {
                 sensors.good(slot, raw, 7)?;
             }
         }
         Act::Lose => {
-            if let Some(slot) = sensors.slot_in_turn(name) {
+            if let Some(slot) = sensors.find_slot(name) {
                 sensors.lost(slot);
             }
         }

@@ -14,36 +14,36 @@ use Rattle.bmc_core.proofs.senses.Senses.lose.Goals as goal
 
 pub returns-in_default-clause-notes : goal.returns-in_default-clause-notes
 returns-in_default-clause-notes g c =
-    let old : SensesView = record { watch = c.self.inside.watch; sensors = c.slot_in_turn.new.self; ticks = c.self.inside.ticks } in
-    let is : old ≡ c.args.self.now = asked c.slot_in_turn.ensures.same c.self.view_is in
+    let old : SensesView = record { watch = c.self.inside.watch; sensors = c.find_slot.new.self; ticks = c.self.inside.ticks } in
+    let is : old ≡ c.args.self.now = asked c.find_slot.ensures.same c.self.view_is in
     subst (λ (senses : SensesView). Notes senses (Lose c.args.name.now) c.refuse.result c.refuse.new.self) is
-    (lose_unknown old c.refuse.new.self c.args.name.now c.slot_in_turn.result c.refuse.result c.slot_in_turn.ensures.sensor c.in_default.is
+    (lose_unknown old c.refuse.new.self c.args.name.now c.find_slot.result c.refuse.result c.find_slot.ensures.sensor c.in_default.is
     c.refuse.ensures.result c.refuse.ensures.left)
 
 pub returns-clause-notes : goal.returns-clause-notes
 returns-clause-notes g c =
-    let old : SensesView = record { watch = c.self.inside.watch; sensors = c.slot_in_turn.new.self; ticks = c.self.inside.ticks } in
-    let is : old ≡ c.args.self.now = asked c.slot_in_turn.ensures.same c.self.view_is in
+    let old : SensesView = record { watch = c.self.inside.watch; sensors = c.find_slot.new.self; ticks = c.self.inside.ticks } in
+    let is : old ≡ c.args.self.now = asked c.find_slot.ensures.same c.self.view_is in
     let new : SensesView = record { watch = c.tell_reading.new.self; sensors = c.lost.new.self; ticks = c.self.inside.ticks } in
-    let has = sym c.slot_in_turn.ensures.slot ∙ c.in-Some.is in
+    let has = sym c.find_slot.ensures.slot ∙ c.in-Some.is in
     subst (λ (senses : SensesView). Notes senses (Lose c.args.name.now) _ new) is
-    (lose_told old new c.args.name.now c.in-Some.slot c.slot_in_turn.result c.at-sensor.result.now c.at-sensor-2.result.now c.lost.new.self
-    c.slot_in_turn.ensures.sensor c.in-Some.is c.slot_in_turn.ensures.slot (c.at-sensor.ensures c.args.name.now has)
-    (c.at-sensor-2.ensures c.args.name.now (slot_stays c.slot_in_turn.new.self c.lost.new.self c.args.name.now c.in-Some.slot c.lost.ensures.changes.names has))
+    (lose_told old new c.args.name.now c.in-Some.slot c.find_slot.result c.at-sensor.result.now c.at-sensor-2.result.now c.lost.new.self
+    c.find_slot.ensures.sensor c.in-Some.is c.find_slot.ensures.slot (c.at-sensor.ensures c.args.name.now has)
+    (c.at-sensor-2.ensures c.args.name.now (slot_stays c.find_slot.new.self c.lost.new.self c.args.name.now c.in-Some.slot c.lost.ensures.changes.names has))
     (c.tell_reading.ensures c.at-sensor.result.now c.of-before.ensures) refl refl
     c.lost.ensures.changes _ refl)
 
 pub returns-clause-health : goal.returns-clause-health
 returns-clause-health g c = λ held is.
-    let old = c.slot_in_turn.new.self in
-    let same = asked c.slot_in_turn.ensures.same c.self.view_is in
+    let old = c.find_slot.new.self in
+    let same = asked c.find_slot.ensures.same c.self.view_is in
     let new = c.lost.new.self in
     let name = c.args.name.now in
     let slot = c.in-Some.slot in
     let health = c.args.health.now in
     let was : Sensor = c.at-sensor.result.now in
     let now : Sensor = c.at-sensor-2.result.now in
-    let has = sym c.slot_in_turn.ensures.slot ∙ c.in-Some.is in
+    let has = sym c.find_slot.ensures.slot ∙ c.in-Some.is in
     let stays = slot_stays old new name slot c.lost.ensures.changes.names has in
     let here = sensor_at_slot old name slot was has (c.at-sensor.ensures name has) in
     let there = sensor_at_slot new name slot now stays (c.at-sensor-2.ensures name stays) in

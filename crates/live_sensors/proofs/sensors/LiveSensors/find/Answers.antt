@@ -3,7 +3,7 @@ use Rattle.std.specs.Cmp.Lexicographic.{bytes_decides}
 use Rattle.std.proofs.lemmas.Map.Made.{lookup_key_same}
 use Rattle.bmc_base.specs.Names.{name_of}
 use Rattle.live_sensors.proofs.SlotsLemmas.{contains_found, is_name}
-use Rattle.live_sensors.proofs.sensors.LiveSensors.seat.Goals as goal
+use Rattle.live_sensors.proofs.sensors.LiveSensors.find.Goals as goal
 
 pub returns-then-eq-clause-contains : goal.returns-then-eq-clause-contains
 returns-then-eq-clause-contains c = contains_found c.args.self.now.names c.args.name.now (Some c.in-Some.slot.now) (search rules)
