@@ -102,14 +102,13 @@ impl LiveSensors {
         ensures contains { IfSome result (ContainsSlot self.now.names) }
         ensures named { OnSome result (name_of name.now ≡ Ok name.now) }
     {
-        let (key, slot) = self.slots.get_key_value(ByText { text: name })?;
-        // each key is a name, which is said with its text
-        let _name = key.as_str();
-        Some(*slot)
+        let (_, slot) = self.look_up(name)?;
+        Some(slot)
     }
 
     /// Returns the slot of a name, as [`LiveSensors::slot`] does, and notes that the name was asked for. The name that came behind
     /// the last one before is compared first, and only another one is looked up.
+    #[inline(always)]
     pub fn find_slot(&mut self, name: &str) -> Option<usize>
         ensures same { self.new ≡ self.old }
         ensures slot { result ≡ slot_of self.new name.now }
@@ -122,7 +121,7 @@ impl LiveSensors {
         Some(slot)
     }
 
-    // Returns the position and the slot of a name, if it has one.
+    // Returns the position and the slot of a name, if it has one. The name that is expected is compared before any is looked up.
     #[inline(always)]
     fn find(&self, name: &str) -> Option<(usize, usize)>
         ensures slot { option_map (λ found. found.1) result ≡ slot_of self.now name.now }
@@ -136,6 +135,18 @@ impl LiveSensors {
                 return Some((expected, *slot));
             }
         }
+        self.look_up(name)
+    }
+
+    // Looks a name up, and returns its position and its slot, if it has one. It is not inlined: mostly it is the name that is
+    // expected.
+    #[inline(never)]
+    fn look_up(&self, name: &str) -> Option<(usize, usize)>
+        ensures slot { option_map (λ found. found.1) result ≡ slot_of self.now name.now }
+        ensures sensor { is_none result ≡ is_none (sensor_in self.now name.now) }
+        ensures contains { IfSome result (λ found. ContainsSlot self.now.names found.1) }
+        ensures named { OnSome result (name_of name.now ≡ Ok name.now) }
+    {
         let (position, key, slot) = self.slots.get_full(ByText { text: name })?;
         // each key is a name, which is said with its text
         let _name = key.as_str();
