@@ -3,7 +3,7 @@ use crate::lone::{push_key, swap_beside};
 use crate::{Board, BoardKey, BoardKeys, IndexKeep, Moment, list_items};
 use bmc_base::{Milli, Name, Place, Silent, Steps};
 use cfg_json::{
-    Body, Config, ControlItem, ControlPart, Expose, Item, ItemPart, Names, Shelf, Templates,
+    Body, Boxed, Config, ControlItem, ControlPart, Expose, Item, ItemPart, Names, Shelf, Templates,
 };
 use ctl_face::{PidClass, PidSetting, Setting};
 use found_set::{Facts, FoundSet};
@@ -379,15 +379,16 @@ fn templates(alloc: Global, texts: &[&str]) -> Result<Templates, Fail> {
 
 fn control(alloc: Global, texts: Texts<'_>) -> Result<Expose, Fail> {
     let (name, zone, inputs, outputs) = texts;
+    let control = ControlPart {
+        setting: IDLE,
+        zone: Template::parse(alloc, zone)?,
+        inputs: templates(alloc, inputs)?,
+        outputs: templates(alloc, outputs)?,
+    };
     Ok(Expose {
         name: Template::parse(alloc, name)?,
         kind: Name::new("Pid")?,
-        body: Body::Control(ControlPart {
-            setting: IDLE,
-            zone: Template::parse(alloc, zone)?,
-            inputs: templates(alloc, inputs)?,
-            outputs: templates(alloc, outputs)?,
-        }),
+        body: Body::Control(Boxed::new(alloc, control)?),
     })
 }
 
