@@ -6,7 +6,7 @@ ghost use Rattle.bmc_machine.specs.Histories.{begun};
 ghost use Rattle.bmc_report.specs.declared.refusal.Origin.TheVariants.{File, Line};
 ghost use Rattle.event_log.specs.Kept.{most_errors};
 ghost use Rattle.bmc_io.specs.Told.{Told};
-ghost use Rattle.bmc_core.specs.Acts.{step_of};
+ghost use Rattle.bmc_core.specs.Acts.{step_of, Applies};
 ghost use Rattle.bmc_core.specs.Cores.{IsStated};
 ghost use Rattle.cfg_json.specs.Verdicts.{Accepted};
 ghost use Rattle.bmc_run.specs.Runs.{Answers, AnswersItem, LeavesItem, AnswersNext, CountsItem, IsReady, IsAfter, TakesItem, TakesNext};
@@ -94,6 +94,35 @@ fn apply<L: Ledger, C: Controller>(
     effect_of(done)
 }
 
+// Does an act, by a call.
+#[inline(never)]
+fn call_core<L: Ledger, C: Controller>(
+    alloc: Global,
+    core: &mut Core<L, C>,
+    act: Act<'_, L>,
+    steps: &mut Steps<L>,
+) -> Result<(), CoreFault>
+    ensures { Applies core.old (step_of act.entry) result core.new }
+{
+    core.apply(alloc, act, steps)
+}
+
+// As `apply`, but by a call. What reads a line is to be inlined, and the compiler inlines nothing that grows very large: so only
+// what scripts ask for most is inlined with it.
+#[inline(always)]
+#[tactic(auto, using(crate::proofs::RunsLemmas::act_answers))]
+fn apply_by_call<L: Ledger, C: Controller>(
+    alloc: Global,
+    core: &mut Core<L, C>,
+    act: Act<'_, L>,
+    steps: &mut Steps<L>,
+) -> Result<Effect, OutOfMemory>
+    ensures { IfOk result (λ effect. Answers (λ line past. answer_step line past (step_of act.entry)) effect core.old core.new) }
+{
+    let done = call_core(alloc, core, act, steps);
+    effect_of(done)
+}
+
 // Does what a command asks for. It is inlined, as what reads a command is: a command is then never put together in memory.
 #[inline(always)]
 #[tactic(auto, using(crate::proofs::RunsLemmas::silent_answers, crate::proofs::RunsLemmas::refused_answers))]
@@ -110,11 +139,11 @@ fn run_command<L: Ledger, C: Controller>(
         // an item with a block is never a line
         Command::Config(_) => Ok(Effect::Refused(Refusal::ConfigShort)),
         Command::Plug(place, bytes) => {
-            apply(alloc, core, Act::Plug(*place, bytes.as_slice()), steps)
+            apply_by_call(alloc, core, Act::Plug(*place, bytes.as_slice()), steps)
         }
         Command::Unplug(place) => apply(alloc, core, Act::Unplug(*place), steps),
         Command::Good(name, raw) => apply(alloc, core, Act::Good(name.as_str(), *raw), steps),
-        Command::Lost(name) => apply(alloc, core, Act::Lost(name.as_str()), steps),
+        Command::Lost(name) => apply_by_call(alloc, core, Act::Lost(name.as_str()), steps),
         Command::Ticks(count) => Ok(Effect::Ticks(*count)),
         Command::Show(topic) => Ok(Effect::Shown(*topic)),
     }

@@ -1,2 +1,3 @@
 pub mod CommandsLemmas
 pub mod NamesLemmas
+pub mod ReadingsLemmas

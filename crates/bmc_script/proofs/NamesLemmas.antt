@@ -60,7 +60,7 @@ HasNoSpace-reverse bytes none k within =
 pub last_none : (bytes : List ℕ) → HasNoSpace bytes → split_last_space bytes ≡ None
 last_none bytes none = rw (split_none (reverse bytes) (HasNoSpace-reverse bytes none)) refl
 
-last_parts : (front back : List ℕ) → HasNoSpace back → split_last_space (front ++ 32 ∷ back) ≡ Some (front, back)
+pub last_parts : (front back : List ℕ) → HasNoSpace back → split_last_space (front ++ 32 ∷ back) ≡ Some (front, back)
 last_parts front back none =
     let turned : reverse (front ++ 32 ∷ back) ≡ reverse back ++ 32 ∷ reverse front =
     reverse-append front (32 ∷ back) ∙ rw (reverse_onto back 32 [], append_assoc) refl in

@@ -4,9 +4,10 @@ ghost use Rattle.bmc_script.specs.Commands.{GivesCommand, command_of, verb_comma
 ghost use Rattle.bmc_script.specs.Commands.{is_blank, split_last_space, name_in, read_of, lose_of, ticks_of, topic_of, show_of};
 
 use crate::NameText;
+use crate::reading::split_reading;
 use bmc_base::{Bytes, Place};
 use bmc_report::Topic;
-use bmc_text::{HexFault, hex_bytes, read_number, read_raw};
+use bmc_text::{HexFault, hex_bytes, read_number};
 use std::alloc::Global;
 use std::str;
 use thiserror::Error;
@@ -133,16 +134,6 @@ fn read_config(rest: &[u8]) -> Result<Command<'_>, ScriptFault>
     Ok(Command::Config(size))
 }
 
-// Splits bytes at the last space: what stands before it, and what behind it.
-fn last_word(bytes: &[u8]) -> Option<(&[u8], &[u8])>
-    ensures { option_map (λ parts. (parts.0.now, parts.1.now)) result ≡ split_last_space bytes.now }
-{
-    match bytes.iter().rposition(|byte| *byte == b' ') {
-        Some(at) => Some((&bytes[..at], &bytes[at + 1..])),
-        None => None,
-    }
-}
-
 // Reads a name: 1 to 64 bytes of UTF-8.
 #[inline(always)]
 #[tactic(auto, using(crate::proofs::NamesLemmas::name_in_text, crate::proofs::NamesLemmas::name_in_other))]
@@ -159,9 +150,8 @@ fn read_name(bytes: &[u8]) -> Option<NameText<'_>>
 fn read_read(rest: &[u8]) -> Result<Command<'_>, ScriptFault>
     ensures { result ≡ read_of rest.now }
 {
-    let (name, number) = last_word(rest).ok_or(ScriptFault::BadArguments)?;
+    let (name, raw) = split_reading(rest).ok_or(ScriptFault::BadArguments)?;
     let name = read_name(name).ok_or(ScriptFault::BadArguments)?;
-    let raw = read_raw(number).ok_or(ScriptFault::BadArguments)?;
     Ok(Command::Good(name, raw))
 }
 

@@ -4,6 +4,7 @@
 mod command;
 mod examples;
 mod name_text;
+mod reading;
 #[cfg(test)]
 mod tests;
 
