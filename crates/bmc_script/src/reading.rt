@@ -2,8 +2,7 @@ ghost use Rattle.std.specs.Prelude.{◌≡◌, ◌<◌, ◌^◌, None, IfSome, o
 ghost use Rattle.bmc_text.specs.Words.{raw_digits};
 ghost use Rattle.bmc_script.specs.Readings.{EndsInDigits, reading_parts};
 
-// The most digits of a raw reading.
-const RAW_DIGITS: usize = 18;
+use bmc_text::RAW_DIGITS;
 
 // Splits a text in front of the 1 to 18 digits at its end: what stands before them, and their number. It goes from behind, and
 // through each digit once.

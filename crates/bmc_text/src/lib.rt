@@ -18,5 +18,5 @@ pub use hexadecimal::{HexFault, hex_bytes};
 pub use items::{Items, NextItem, item_examples};
 pub use laws::{numbers_are_read_back, whole_items_stay};
 pub use lines::{Got, LineFault, Lines};
-pub use numbers::{decimal, number_examples, read_number, read_raw};
+pub use numbers::{RAW_DIGITS, decimal, number_examples, read_number, read_raw};
 pub use words::block_size;

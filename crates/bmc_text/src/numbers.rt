@@ -7,7 +7,7 @@ ghost use Rattle.bmc_text.specs.Words.{digits, number, raw, units, decimal_units
 const NUMBER_DIGITS: usize = 9;
 
 /// The most digits of a raw reading.
-const RAW_DIGITS: usize = 18;
+pub const RAW_DIGITS: usize = 18;
 
 /// The most digits of a decimal in front of its point.
 const WHOLE_DIGITS: usize = 10;

@@ -13,6 +13,10 @@ use std::marker::Model;
 // The most bytes of the text of a field.
 const LONGEST_TEXT: usize = 128;
 
+// For how many fields a list has room at first. They take less than a kibibyte, and a block of that size costs the C library
+// less to hand out again than a larger one.
+const ROOM: usize = 7;
+
 /// The text of a field in UTF-8: at most 128 bytes, which lie in the value itself.
 #[derive(Drop)]
 pub struct FieldText {
@@ -143,7 +147,7 @@ impl FieldList {
     pub fn new(alloc: Global) -> Result<FieldList, OutOfMemory>
         ensures { IfOk result (λ fields. fields ≡ []) }
     {
-        let fields = Vec::with_capacity(alloc, 8)?;
+        let fields = Vec::with_capacity(alloc, ROOM)?;
         Ok(FieldList { fields })
     }
 

@@ -35,7 +35,9 @@ pub loop-front-preserved : goal.loop-front-preserved
 loop-front-preserved c = record {
   whole = shorter c.args.text.now c.loop-front.front.now c.loop-front.invariant.whole;
   read = one_digit_more c.args.text.now c.loop-front.front.now c.loop-front.number c.loop-front.unit c.from.result
-      c.loop-front.invariant.whole c.loop-front.invariant.read c.in-48-to-57.len_at_least (few c) (is_one (get_or c.loop-front.front.now (length c.loop-front.front.now - 1) 0) (search rules) (search rules)) c.from.ensures (small c);
+      c.loop-front.invariant.whole c.loop-front.invariant.read c.in-48-to-57.len_at_least (few c)
+      (is_one (get_or c.loop-front.front.now (length c.loop-front.front.now - 1) 0) (search rules) (search rules))
+      c.from.ensures (small c);
 }
 
 pub returns-clause-below : goal.returns-clause-below
@@ -46,7 +48,9 @@ returns-then-text-rest-gt-RAW_DIGITS-clause-none c none =
     let less : length (take (length c.loop-front.front.now - 1) c.loop-front.front.now) ≡ length c.loop-front.front.now - 1 =
     length-take-le (length c.loop-front.front.now - 1) c.loop-front.front.now (omega arith) in
     one_too_many c.args.text.now c.loop-front.front.now c.loop-front.number c.loop-front.unit c.loop-front.invariant.whole c.loop-front.invariant.read
-    c.in-48-to-57.len_at_least (omega (arith, c.if-text-rest-gt-RAW_DIGITS.true, less, c.in-48-to-57.len_at_least)) (is_one (get_or c.loop-front.front.now (length c.loop-front.front.now - 1) 0) (search rules) (search rules))
+    c.in-48-to-57.len_at_least
+    (omega (arith, c.if-text-rest-gt-RAW_DIGITS.true, less, c.in-48-to-57.len_at_least))
+    (is_one (get_or c.loop-front.front.now (length c.loop-front.front.now - 1) 0) (search rules) (search rules))
 
 pub returns-then-front-text-clause-none : goal.returns-then-front-text-clause-none
 returns-then-front-text-clause-none c none =
