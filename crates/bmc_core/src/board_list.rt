@@ -17,7 +17,7 @@ fn bus_of(part: &ItemPart) -> Option<u8>
     ensures { result ≡ bus_in part.now }
 {
     match part {
-        ItemPart::Sensor(sensor) => sensor.get().bus,
+        ItemPart::Sensor(sensor) => sensor.bus,
         _ => None,
     }
 }
@@ -27,7 +27,7 @@ fn address_of(part: &ItemPart) -> Option<u8>
     ensures { result ≡ address_in part.now }
 {
     match part {
-        ItemPart::Sensor(sensor) => sensor.get().address,
+        ItemPart::Sensor(sensor) => sensor.address,
         _ => None,
     }
 }

@@ -1,6 +1,6 @@
 ghost use Rattle.std.specs.Prelude.{◌≡◌, ◌∷◌, ◌++◌, [], IfOk, OnOk, OnErr};
 
-use crate::Boxed;
+use crate::{Boxed, Shared};
 use bmc_base::{Bytes, Milli, Name, OutOfMemory};
 use ctl_face::Setting;
 use sensor_core::SensorSetting;
@@ -23,7 +23,7 @@ pub struct Expose {
 #[derive(Drop)]
 pub enum Body {
     /// A sensor (type `Sensor`).
-    Sensor(Boxed<SensorPart>),
+    Sensor(SensorPart),
     /// A fan (type `Fan`).
     Fan,
     /// A zone of fans (type `Pid.Zone`).
@@ -44,8 +44,8 @@ pub struct SensorPart {
     pub bus: Option<Boxed<Template>>,
     /// What gives the address at which it is, 0 to 127, if that is given.
     pub address: Option<Boxed<Template>>,
-    /// How its values come of raw numbers, when they are too old, and its limits.
-    pub setting: SensorSetting,
+    /// How its values come of raw numbers, when they are too old, and its limits. All sensors of the expose share it.
+    pub setting: Shared<SensorSetting>,
 }
 
 /// The setting of a zone. Both numbers are thousandths.

@@ -58,10 +58,7 @@ fn read_body(alloc: Global, members: &Value, kind: &Name) -> Result<Body, Config
     ensures { Gives result (body_of (view members.now) kind.now) }
 {
     match kind.as_str() {
-        "Sensor" => {
-            let sensor = read_sensor(alloc, members)?;
-            Ok(Body::Sensor(Boxed::new(alloc, sensor)?))
-        }
+        "Sensor" => Ok(Body::Sensor(read_sensor(alloc, members)?)),
         "Fan" => Ok(Body::Fan),
         "Pid.Zone" => Ok(Body::Zone(read_zone(members)?)),
         "Pid" => {

@@ -1,10 +1,9 @@
 ghost use Rattle.std.specs.Prelude.{◌≡◌, IfOk};
 
-use crate::{Boxed, Names, ZoneSetting};
+use crate::{Names, Shared, ZoneSetting};
 use bmc_base::{Bytes, Name, OutOfMemory, Place};
 use ctl_face::Setting;
 use sensor_core::SensorSetting;
-use std::alloc::Global;
 
 /// Which item it is: an expose of a board.
 #[derive(Clone, Copy, Debug, PartialEq, Eq)]
@@ -28,32 +27,32 @@ pub struct Item {
     pub part: ItemPart,
 }
 
-/// What an item has by the type of its expose. It is small: what is large stands in memory of its own.
+/// What an item has by the type of its expose. It is small: what is large stands in memory that copies of the item share.
 #[derive(Drop)]
 pub enum ItemPart {
     /// A sensor.
-    Sensor(Boxed<SensorItem>),
+    Sensor(SensorItem),
     /// A fan.
     Fan,
     /// A zone of fans.
     Zone(ZoneSetting),
     /// A controller.
-    Control(Boxed<ControlItem>),
+    Control(Shared<ControlItem>),
     /// A multiplexer.
-    Mux(Boxed<MuxItem>),
+    Mux(Shared<MuxItem>),
     /// An item of any other type.
     Passive,
 }
 
 /// A sensor at a board.
-#[derive(Clone, Copy, Debug, PartialEq, Eq)]
+#[derive(Drop)]
 pub struct SensorItem {
     /// The bus at which it is, if one is given that has a rendering at the board.
     pub bus: Option<u8>,
     /// The address at which it is, 0 to 127, if one is given that has a rendering at the board.
     pub address: Option<u8>,
-    /// How its values come of raw numbers, when they are too old, and its limits.
-    pub setting: SensorSetting,
+    /// How its values come of raw numbers, when they are too old, and its limits, which it shares with its expose.
+    pub setting: Shared<SensorSetting>,
 }
 
 /// A controller at a board.
@@ -79,62 +78,43 @@ pub struct MuxItem {
 }
 
 impl Item {
-    /// Returns an equal item.
-    pub fn copied(&self, alloc: Global) -> Result<Item, OutOfMemory>
+    /// Returns an equal item, which shares what is large. It takes no memory.
+    pub fn copied(&self) -> Result<Item, OutOfMemory>
         ensures { IfOk result (λ item. item ≡ self.now) }
     {
         Ok(Item {
             id: self.id,
             name: self.name.copied(),
-            part: self.part.copied(alloc)?,
+            part: self.part.copied()?,
         })
     }
 }
 
 impl ItemPart {
     // Returns an equal part.
-    fn copied(&self, alloc: Global) -> Result<ItemPart, OutOfMemory>
+    fn copied(&self) -> Result<ItemPart, OutOfMemory>
         ensures { IfOk result (λ part. part ≡ self.now) }
     {
         match self {
-            ItemPart::Sensor(sensor) => Ok(ItemPart::Sensor(Boxed::new(alloc, *sensor.get())?)),
+            ItemPart::Sensor(sensor) => Ok(ItemPart::Sensor(sensor.copied()?)),
             ItemPart::Fan => Ok(ItemPart::Fan),
             ItemPart::Zone(setting) => Ok(ItemPart::Zone(*setting)),
-            ItemPart::Control(control) => {
-                let copy = control.get().copied(alloc)?;
-                Ok(ItemPart::Control(Boxed::new(alloc, copy)?))
-            }
-            ItemPart::Mux(mux) => {
-                let copy = mux.get().copied(alloc)?;
-                Ok(ItemPart::Mux(Boxed::new(alloc, copy)?))
-            }
+            ItemPart::Control(control) => Ok(ItemPart::Control(control.shared()?)),
+            ItemPart::Mux(mux) => Ok(ItemPart::Mux(mux.shared()?)),
             ItemPart::Passive => Ok(ItemPart::Passive),
         }
     }
 }
 
-impl ControlItem {
-    // Returns an equal controller.
-    fn copied(&self, alloc: Global) -> Result<ControlItem, OutOfMemory>
-        ensures { IfOk result (λ control. control ≡ self.now) }
+impl SensorItem {
+    // Returns an equal sensor.
+    fn copied(&self) -> Result<SensorItem, OutOfMemory>
+        ensures { IfOk result (λ sensor. sensor ≡ self.now) }
     {
-        Ok(ControlItem {
-            setting: self.setting,
-            zone: self.zone.copied(),
-            inputs: self.inputs.copied(alloc)?,
-            outputs: self.outputs.copied(alloc)?,
-        })
-    }
-}
-
-impl MuxItem {
-    // Returns an equal multiplexer.
-    fn copied(&self, alloc: Global) -> Result<MuxItem, OutOfMemory>
-        ensures { IfOk result (λ mux. mux ≡ self.now) }
-    {
-        Ok(MuxItem {
-            fixed: Bytes::copy(alloc, self.fixed.as_slice())?,
-            moving: Bytes::copy(alloc, self.moving.as_slice())?,
+        Ok(SensorItem {
+            bus: self.bus,
+            address: self.address,
+            setting: self.setting.shared()?,
         })
     }
 }

@@ -19,6 +19,7 @@ mod names;
 mod pids;
 mod probe_texts;
 mod sensors;
+mod shared;
 mod shelf;
 mod stepwises;
 mod template_names;
@@ -32,4 +33,5 @@ pub use expose::{Body, ControlPart, Expose, Exposes, MuxPart, SensorPart, Templa
 pub use item::{ControlItem, Item, ItemId, ItemPart, MuxItem, SensorItem};
 pub use law::{answers_are_verdicts, controls_are_valid, settings_are_valid};
 pub use names::Names;
+pub use shared::Shared;
 pub use shelf::{MOST_CONFIGS, Shelf};

@@ -44,15 +44,4 @@ impl Names {
     {
         &self.names
     }
-
-    /// Returns equal names.
-    pub fn copied(&self, alloc: Global) -> Result<Names, OutOfMemory>
-        ensures { IfOk result (λ names. names ≡ self.now) }
-    {
-        let mut copy = Names::new(alloc);
-        for name in self.as_slice() {
-            copy.push(alloc, name.copied())?;
-        }
-        Ok(copy)
-    }
 }

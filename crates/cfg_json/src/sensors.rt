@@ -6,7 +6,7 @@ ghost use Rattle.cfg_json.specs.Sensors.{side_of, limit_of, slots_of, setting_of
 ghost use Rattle.cfg_json.specs.Readings.{Gives};
 
 use crate::values::{list, milli_or_none, milli_within, required, text, whole_or, whole_within};
-use crate::{Boxed, ConfigFault, SensorPart};
+use crate::{Boxed, ConfigFault, SensorPart, Shared};
 use bmc_base::Milli;
 use sensor_core::{Limit, SensorSetting};
 use serde_json::{Number, Value};
@@ -42,7 +42,7 @@ pub(crate) fn read_sensor(alloc: Global, members: &Value) -> Result<SensorPart, 
     Ok(SensorPart {
         bus,
         address,
-        setting,
+        setting: Shared::new(alloc, setting)?,
     })
 }
 

@@ -150,7 +150,7 @@ fn first_rules_of_sensors(rt: HostRuntime) -> Result<(), Fail> {
 // The sensor that an expose is.
 fn sensor_in<'a>(rt: &impl Abort, expose: &'a Expose) -> &'a SensorPart {
     match &expose.body {
-        Body::Sensor(part) => part.get(),
+        Body::Sensor(part) => part,
         _ => panic!(rt; "a sensor"),
     }
 }
@@ -205,7 +205,7 @@ fn assert_plain(rt: &impl Abort, sensor: &SensorPart) {
         limits: [UNUSED; 8],
         count: 0,
     };
-    assert_eq!(rt; sensor.setting, plain);
+    assert_eq!(rt; *sensor.setting.get(), plain);
 }
 
 #[test]
@@ -236,7 +236,7 @@ fn sensors(rt: HostRuntime) -> Result<(), Fail> {
             assert_eq!(rt; number_at(&first.bus), Some(76));
             assert_eq!(rt; number_at(&first.address), Some(14));
             let limits = [high, low, UNUSED, UNUSED, UNUSED, UNUSED, UNUSED, UNUSED];
-            assert_eq!(rt; first.setting, setting_with(limits, 2));
+            assert_eq!(rt; *first.setting.get(), setting_with(limits, 2));
             assert_plain(&rt, sensor_in(&rt, second));
         }
         _ => assert!(rt; false, "two exposes"),

@@ -7,7 +7,7 @@ ghost use Rattle.fan_zone.specs.Machine.{Stays, boxes, control_of, fan_pid, item
 
 use crate::Zones;
 use bmc_base::{Milli, Name};
-use cfg_json::{Boxed, ControlItem, Item, ItemId, ItemPart, Names, SensorItem, ZoneSetting};
+use cfg_json::{ControlItem, Item, ItemId, ItemPart, Names, SensorItem, Shared, ZoneSetting};
 use ctl_face::{
     Controller, CtlState, Kind, PidClass, PidSetting, Sample, Setting, StepRow, StepSetting,
 };
@@ -141,7 +141,7 @@ fn control(
         inputs,
         outputs,
     };
-    Ok(ItemPart::Control(Boxed::new(alloc, item)?))
+    Ok(ItemPart::Control(Shared::new(alloc, item)?))
 }
 
 fn pid(class: PidClass, setpoint: i64, p: i64, ff_gain: i64) -> Setting
@@ -330,12 +330,11 @@ fn sensor(alloc: Global, timeout: u32) -> Result<ItemPart, Fail>
     if !setting.is_valid() {
         return Err(Fail::from("the setting is not valid"));
     }
-    let sensor = SensorItem {
+    Ok(ItemPart::Sensor(SensorItem {
         bus: None,
         address: None,
-        setting,
-    };
-    Ok(ItemPart::Sensor(Boxed::new(alloc, sensor)?))
+        setting: Shared::new(alloc, setting)?,
+    }))
 }
 
 // The names of the sensors, and after how many ticks a reading is stale.

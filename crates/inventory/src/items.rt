@@ -13,7 +13,7 @@ use crate::{Board, Moment};
 use bmc_base::{Bytes, Ledger, OutOfMemory};
 use cfg_json::{
     Body, Boxed, Config, ControlItem, ControlPart, Expose, Item, ItemId, ItemPart, MuxItem,
-    MuxPart, Names, SensorItem, SensorPart, Shelf,
+    MuxPart, Names, SensorItem, SensorPart, Shared, Shelf,
 };
 use fru_record::FruRecord;
 use std::alloc::Global;
@@ -71,15 +71,15 @@ fn template_in(number: &Option<Boxed<Template>>) -> Option<&Template>
     }
 }
 
-// Renders a sensor at a spot.
-fn render_sensor(part: &SensorPart, spot: &Spot<'_>) -> SensorItem
-    ensures { result ≡ sensor_at spot.now.place (fields_of spot.now.fru) spot.now.index part.now }
+// Renders a sensor at a spot. It shares the setting of its expose.
+fn render_sensor(part: &SensorPart, spot: &Spot<'_>) -> Result<SensorItem, OutOfMemory>
+    ensures { IfOk result (λ sensor. sensor ≡ sensor_at spot.now.place (fields_of spot.now.fru) spot.now.index part.now) }
 {
-    SensorItem {
+    Ok(SensorItem {
         bus: render_number(template_in(&part.bus), spot, LAST_BUS),
         address: render_number(template_in(&part.address), spot, LAST_ADDRESS),
-        setting: part.setting,
-    }
+        setting: part.setting.shared()?,
+    })
 }
 
 // Renders names at a spot. There are none where one of them has no rendering.
@@ -125,22 +125,8 @@ fn render_control(
     }))
 }
 
-// Renders a sensor at a spot into memory of its own. It is called and not inlined: a sensor is large, and an expose that is none
-// is not to make room for one.
-#[inline(never)]
-fn render_boxed_sensor(
-    alloc: Global,
-    part: &SensorPart,
-    spot: &Spot<'_>,
-) -> Result<ItemPart, OutOfMemory>
-    ensures { IfOk result (λ item. Some item ≡ part_of spot.now.place (fields_of spot.now.fru) spot.now.index (bodies.Sensor part.now)) }
-{
-    let sensor = Boxed::new(alloc, render_sensor(part, spot))?;
-    Ok(ItemPart::Sensor(sensor))
-}
-
-// Renders a controller at a spot into memory of its own. There is none where one of its names has no rendering. It is not inlined
-// either.
+// Renders a controller at a spot into memory of its own. There is none where one of its names has no rendering. It is called and
+// not inlined: a controller is large, and an expose that is none is not to make room for one.
 #[inline(never)]
 fn render_boxed_control(
     alloc: Global,
@@ -150,7 +136,7 @@ fn render_boxed_control(
     ensures { IfOk result (λ item. item ≡ part_of spot.now.place (fields_of spot.now.fru) spot.now.index (bodies.Control part.now)) }
 {
     match render_control(alloc, part, spot)? {
-        Some(control) => Ok(Some(ItemPart::Control(Boxed::new(alloc, control)?))),
+        Some(control) => Ok(Some(ItemPart::Control(Shared::new(alloc, control)?))),
         None => Ok(None),
     }
 }
@@ -160,12 +146,12 @@ fn render_part(alloc: Global, body: &Body, spot: &Spot<'_>) -> Result<Option<Ite
     ensures { IfOk result (λ part. part ≡ part_of spot.now.place (fields_of spot.now.fru) spot.now.index body.now) }
 {
     match body {
-        Body::Sensor(part) => Ok(Some(render_boxed_sensor(alloc, part.get(), spot)?)),
+        Body::Sensor(part) => Ok(Some(ItemPart::Sensor(render_sensor(part, spot)?))),
         Body::Fan => Ok(Some(ItemPart::Fan)),
         Body::Zone(setting) => Ok(Some(ItemPart::Zone(*setting))),
         Body::Control(part) => render_boxed_control(alloc, part.get(), spot),
         Body::Mux(part) => {
-            let mux = Boxed::new(alloc, render_mux(alloc, part, spot)?)?;
+            let mux = Shared::new(alloc, render_mux(alloc, part, spot)?)?;
             Ok(Some(ItemPart::Mux(mux)))
         }
         Body::Passive => Ok(Some(ItemPart::Passive)),

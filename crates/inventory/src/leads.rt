@@ -240,7 +240,7 @@ fn copy_item(alloc: Global, list: &mut ItemList, item: Option<&Item>) -> Result<
     ensures { OnOk result (list.new ≡ list.old ++ option_to_list (option_map (λ item. item.now) item.entry)) }
 {
     if let Some(item) = item {
-        list.push(alloc, item.copied(alloc)?)?;
+        list.push(alloc, item.copied()?)?;
     }
     Ok(())
 }

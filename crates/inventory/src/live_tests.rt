@@ -4,7 +4,7 @@ use crate::tags::{Notes, Tags, first_of, keep_noted};
 use crate::tests::IDLE;
 use crate::{BoardKey, Shown};
 use bmc_base::{Milli, Name, Place};
-use cfg_json::{Boxed, ControlItem, Item, ItemId, ItemPart, Names, SensorItem, ZoneSetting};
+use cfg_json::{ControlItem, Item, ItemId, ItemPart, Names, SensorItem, Shared, ZoneSetting};
 use indexmap::IndexMap;
 use sensor_core::{Limit, SensorSetting};
 use std::alloc::Global;
@@ -30,18 +30,14 @@ const UNUSED: Limit = Limit {
     hysteresis: Milli(0),
 };
 
-// A sensor whose values are its raw numbers.
-const PLAIN: SensorItem = SensorItem {
-    bus: None,
-    address: None,
-    setting: SensorSetting {
-        num: 1,
-        den: 1,
-        offset: Milli(0),
-        timeout: 0,
-        limits: [UNUSED; 8],
-        count: 0,
-    },
+// The setting of a sensor whose values are its raw numbers.
+const PLAIN: SensorSetting = SensorSetting {
+    num: 1,
+    den: 1,
+    offset: Milli(0),
+    timeout: 0,
+    limits: [UNUSED; 8],
+    count: 0,
 };
 
 fn id(row: Row<'_>) -> ItemId {
@@ -66,13 +62,17 @@ fn control(alloc: Global) -> Result<ControlItem, Fail> {
 fn item(alloc: Global, row: Row<'_>) -> Result<Item, Fail> {
     let (_, _, _, name, role) = row;
     let part = match role {
-        Some(Role::Sensor) => ItemPart::Sensor(Boxed::new(alloc, PLAIN)?),
+        Some(Role::Sensor) => ItemPart::Sensor(SensorItem {
+            bus: None,
+            address: None,
+            setting: Shared::new(alloc, PLAIN)?,
+        }),
         Some(Role::Zone) => ItemPart::Zone(ZoneSetting {
             min_thermal: Milli(0),
             failsafe: Milli(100_000),
         }),
         Some(Role::Fan) => ItemPart::Fan,
-        Some(Role::Member) => ItemPart::Control(Boxed::new(alloc, control(alloc)?)?),
+        Some(Role::Member) => ItemPart::Control(Shared::new(alloc, control(alloc)?)?),
         None => ItemPart::Passive,
     };
     Ok(Item {

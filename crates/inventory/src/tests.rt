@@ -241,10 +241,11 @@ fn control_text(alloc: Global, control: &ControlItem) -> Result<String, Fail> {
 fn part_text(alloc: Global, part: &ItemPart) -> Result<String, Fail> {
     Ok(match part {
         ItemPart::Sensor(sensor) => {
-            let sensor = sensor.get();
             format!(in alloc;
                 "sensor {:?} {:?} {}",
-                sensor.bus, sensor.address, sensor.setting.num
+                sensor.bus,
+                sensor.address,
+                sensor.setting.get().num
             )?
         }
         ItemPart::Fan => String::from_str(alloc, "fan")?,

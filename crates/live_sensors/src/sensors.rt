@@ -44,7 +44,7 @@ fn setting_in(part: &ItemPart) -> Option<SensorSetting>
     ensures { result ≡ setting_in part.now }
 {
     match part {
-        ItemPart::Sensor(sensor) => Some(sensor.get().setting),
+        ItemPart::Sensor(sensor) => Some(*sensor.setting.get()),
         _ => None,
     }
 }

@@ -3,7 +3,7 @@ ghost use Rattle.inventory.specs.Items.{IsValidPart};
 
 use crate::LiveSensors;
 use bmc_base::{Milli, Name};
-use cfg_json::{Boxed, Item, ItemId, ItemPart, SensorItem};
+use cfg_json::{Item, ItemId, ItemPart, SensorItem, Shared};
 use sensor_core::{Limit, SensorSetting};
 use std::alloc::Global;
 use std::test::Fail;
@@ -36,12 +36,11 @@ fn sensor(alloc: Global) -> Result<ItemPart, Fail>
     if !setting.is_valid() {
         return Err(Fail::from("the setting is not valid"));
     }
-    let sensor = SensorItem {
+    Ok(ItemPart::Sensor(SensorItem {
         bus: None,
         address: None,
-        setting,
-    };
-    Ok(ItemPart::Sensor(Boxed::new(alloc, sensor)?))
+        setting: Shared::new(alloc, setting)?,
+    }))
 }
 
 // An item of this name.
