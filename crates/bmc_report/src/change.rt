@@ -76,7 +76,9 @@ pub enum Change {
 }
 
 impl Change {
-    /// Returns an equal change. It takes no memory.
+    /// Returns an equal change. It takes no memory. It is not inlined: where it is, a change is put together of small pieces on the
+    /// stack, and what then moves it waits for each of them.
+    #[inline(never)]
     pub fn copied(&self) -> Change
         ensures { result ≡ self.now }
     {

@@ -228,8 +228,11 @@ fn add_change(line: &mut Line, change: &Change)
 pub fn push_change(out: &mut String, tick: u64, change: &Change) -> Result<(), OutOfMemory>
     ensures { OnOk result (string_bytes out.new ≡ string_bytes out.old ++ change_line tick change.now) }
 {
+    let mut digits = itoa::Buffer::new();
+    let ticks = digits.format(tick);
+    // The line is made last, so that its length is known at the first push and need not be read back.
     let mut line = Line::new();
-    line.push_str(itoa::Buffer::new().format(tick));
+    line.push_str(ticks);
     line.push_str(" ");
     add_change(&mut line, change);
     line.push_str("\n");

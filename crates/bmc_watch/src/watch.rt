@@ -34,7 +34,7 @@ use cfg_json::{Config, Item, MOST_CONFIGS, Shelf};
 use fan_zone::{FanRow, ZoneRow};
 use found_set::FoundSet;
 use fru_record::FruRecord;
-use fru_rows::{Entries, FruRows, is_idle};
+use fru_rows::{Entries, FruRows, Hint, is_idle};
 use inventory::{Board, IndexKeep, Moment, Shown, Stock, Totals, difference, difference_by};
 use live_sensors::LiveSensors;
 use match_rows::make;
@@ -301,7 +301,8 @@ impl<L: Ledger> Watch<L> {
         ensures same { OnErr result (IsSame self.old self.new × AreKept sensors.old sensors.new) }
         ensures counted { TestsPlug (is_err result) self.old place bytes.now steps.old steps.new }
     {
-        if self.rows.entry(place).is_some() {
+        let hint = self.rows.hint(place);
+        if self.rows.entry(place, hint).is_some() {
             return Ok(self.refuse(Refusal::Occupied));
         }
         match FruRecord::decode(alloc, bytes) {
@@ -309,7 +310,7 @@ impl<L: Ledger> Watch<L> {
                 if self.rows.len() >= MOST_FRUS {
                     return Ok(self.refuse(Refusal::FruLimit));
                 }
-                self.add_fru(alloc, place, fru, sensors, steps)
+                self.add_fru(alloc, place, hint, fru, sensors, steps)
             }
             Err(rule) => {
                 let refusal = record_refused(rule)?;
@@ -323,6 +324,7 @@ impl<L: Ledger> Watch<L> {
         &mut self,
         alloc: Global,
         place: Place,
+        hint: Hint,
         fru: FruRecord,
         sensors: &mut LiveSensors,
         steps: &mut Steps<L>,
@@ -336,10 +338,10 @@ impl<L: Ledger> Watch<L> {
         let made = make(alloc, place, fru, &self.shelf, steps)?;
         let boxed = Box::new(alloc, made)?;
         if !is_idle(&boxed) {
-            return self.add_busy(alloc, boxed, sensors, steps);
+            return self.add_busy(alloc, boxed, hint, sensors, steps);
         }
         self.rows.reserve(alloc)?;
-        self.rows.plug(boxed);
+        self.rows.plug(boxed, hint);
         self.plugged = true;
         self.changes.clear();
         Ok(None)
@@ -351,6 +353,7 @@ impl<L: Ledger> Watch<L> {
         &mut self,
         alloc: Global,
         boxed: Box<Entry>,
+        hint: Hint,
         sensors: &mut LiveSensors,
         steps: &mut Steps<L>,
     ) -> Result<Option<Refusal>, OutOfMemory>
@@ -366,7 +369,7 @@ impl<L: Ledger> Watch<L> {
         let entry: &Entry = &boxed;
         let next = self.set.prepare_plug(alloc, entry, steps)?;
         let before = Moment::of(self.set.facts(), self.rows.busy());
-        let after = Moment::with(next.facts(), self.rows.busy(), &boxed);
+        let after = Moment::with(next.facts(), self.rows.busy(), &boxed, hint.busy);
         let difference = difference_by(alloc, &self.shelf, entry, &before, &after)?;
         let counted = count_boards(self.totals, &self.shelf, &difference);
         let totals = match counted {
@@ -390,7 +393,7 @@ impl<L: Ledger> Watch<L> {
             &mut self.changes,
         )?;
         self.set.commit(next);
-        self.rows.plug(boxed);
+        self.rows.plug(boxed, hint);
         self.plugged = true;
         self.totals = totals;
         tell_changes(&self.shelf, &mut self.keep, &gone, &mut self.changes);
@@ -414,14 +417,15 @@ impl<L: Ledger> Watch<L> {
         ensures same { OnErr result (IsSame self.old self.new × AreKept sensors.old sensors.new) }
         ensures counted { IsWithin steps.old steps.new (most_evals self.old.configs) }
     {
-        let Some(entry) = self.rows.entry(place) else {
+        let hint = self.rows.hint(place);
+        let Some(entry) = self.rows.entry(place, hint) else {
             return Ok(self.refuse(Refusal::NotPresent));
         };
         if is_idle(entry) {
-            self.rows.unplug(place);
+            self.rows.unplug(place, hint);
             self.changes.clear();
         } else {
-            self.remove_busy(alloc, place, sensors, steps)?;
+            self.remove_busy(alloc, place, hint, sensors, steps)?;
         }
         Ok(None)
     }
@@ -431,6 +435,7 @@ impl<L: Ledger> Watch<L> {
         &mut self,
         alloc: Global,
         place: Place,
+        hint: Hint,
         sensors: &mut LiveSensors,
         steps: &mut Steps<L>,
     ) -> Result<(), OutOfMemory>
@@ -439,12 +444,12 @@ impl<L: Ledger> Watch<L> {
         ensures same { OnErr result (IsSame self.old self.new × AreKept sensors.old sensors.new) }
         ensures counted { IsWithin steps.old steps.new (most_evals self.old.configs) }
     {
-        let Some(entry) = self.rows.entry(place) else {
+        let Some(entry) = self.rows.entry(place, hint) else {
             unreachable!()
         };
         let next = self.set.prepare_unplug(alloc, place, steps)?;
         let before = Moment::of(self.set.facts(), self.rows.busy());
-        let after = Moment::without(next.facts(), self.rows.busy(), place);
+        let after = Moment::without(next.facts(), self.rows.busy(), place, hint.busy);
         let difference = difference_by(alloc, &self.shelf, entry, &before, &after)?;
         let counted = count_boards(self.totals, &self.shelf, &difference);
         // Where a FRU is taken away no more boards pass a limit.
@@ -469,7 +474,7 @@ impl<L: Ledger> Watch<L> {
             &mut self.changes,
         )?;
         self.set.commit(next);
-        self.rows.unplug(place);
+        self.rows.unplug(place, hint);
         self.totals = totals;
         tell_changes(&self.shelf, &mut self.keep, &gone, &mut self.changes);
         tell_items(&items, &mut self.changes);

@@ -7,7 +7,7 @@ use Rattle.bmc_base.specs.Places.{Place}
 use Rattle.probe_lang.specs.declared.rows.Entry.{Entry}
 use Rattle.probe_lang.specs.Presents.{is_entry_at, holds_place, with_entry, without_entry}
 use Rattle.match_rows.proofs.RowsLemmas.{with_entry_by_place, without_entry_by_place, without_none}
-use Rattle.fru_rows.specs.Idle.{is_idle, busy}
+use Rattle.fru_rows.specs.Idle.{is_idle, busy, idle}
 use Rattle.fru_rows.specs.Parts.{joined, AreApart, AreSorted}
 use Rattle.fru_rows.proofs.JoinedLemmas.{all_with, all_filter, holds_with, same_back, same_alike, not_true, joined_none, filter_joined}
 
@@ -36,6 +36,22 @@ pub busy_joined : (entries others : List Entry) → AreSorted entries others →
 busy_joined entries others sorted =
     sym (filter_joined (λ (entry : Entry). not (is_idle entry)) entries others sorted.apart
     ∙ ap₂ joined (all_stay entries sorted.all_busy) (none_stays others sorted.all_idle) ∙ joined_none entries sorted.apart.order)
+
+all_left : (others : List Entry) → list_all is_idle others ≡ true → idle others ≡ others
+all_left [] all = refl
+all_left (other ∷ others) all =
+    let parts = and_parts _ _ all in
+    ap₂ (λ (stays : Bool) (later : List Entry). cond stays (other ∷ later) later) parts.0 (all_left others parts.1)
+
+none_left : (entries : List Entry) → list_all (λ (entry : Entry). not (is_idle entry)) entries ≡ true → idle entries ≡ []
+none_left [] all = refl
+none_left (entry ∷ entries) all =
+    let parts = and_parts _ _ all in
+    ap₂ (λ (stays : Bool) (later : List Entry). cond stays (entry ∷ later) later) (not_true _ parts.0) (none_left entries parts.1)
+
+pub idle_joined : (entries others : List Entry) → AreSorted entries others → others ≡ idle (joined entries others)
+idle_joined entries others sorted =
+    sym (filter_joined is_idle entries others sorted.apart ∙ ap₂ joined (none_left entries sorted.all_busy) (all_left others sorted.all_idle))
 
 -- ---- an entry comes
 

@@ -9,3 +9,7 @@ is_idle entry = length entry.hits == 0 && length entry.channels == 0
 -- those with hits or channels
 abbrev pub busy : List Entry → List Entry
 busy entries = filter (λ (entry : Entry). not (is_idle entry)) entries
+
+-- the others
+abbrev pub idle : List Entry → List Entry
+idle entries = filter is_idle entries

@@ -7,4 +7,4 @@ mod rows;
 mod tests;
 
 pub use entries::Entries;
-pub use rows::{FruRows, is_idle};
+pub use rows::{FruRows, Hint, is_idle};

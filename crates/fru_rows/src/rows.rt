@@ -1,11 +1,12 @@
 ghost use Rattle.std.specs.Prelude.{◌≡◌, ◌<◌, [], false, true, length, find, option_map, Some, IfOk, OnOk, IsTrue};
 ghost use Rattle.std.specs.Option.{is_some};
 ghost use Rattle.probe_lang.specs.Presents.{unboxed, is_entry_at, holds_place, with_entry, without_entry, are_by_place};
-ghost use Rattle.fru_rows.specs.Idle.{is_idle, busy};
+ghost use Rattle.match_rows.specs.Rows.{count_before};
+ghost use Rattle.fru_rows.specs.Idle.{is_idle, busy, idle};
 
 use crate::Entries;
 use bmc_base::{OutOfMemory, Place};
-use match_rows::Rows;
+use match_rows::{Rows, count_before};
 use probe_lang::Entry;
 use std::alloc::Global;
 use std::marker::Model;
@@ -28,6 +29,15 @@ impl Model for FruRows {
     ghost view = { λ r. rows_of r.busy r.idle };
 
     ghost invariant = { λ r. AreSorted r.busy.entries r.idle.entries };
+}
+
+/// Where a place is, or would be, among the entries: so many with hits or channels come before it, and so many of the others.
+#[derive(Clone, Copy, Debug, PartialEq, Eq)]
+pub struct Hint {
+    /// How many with hits or channels come before it.
+    pub busy: usize,
+    /// How many others do.
+    pub idle: usize,
 }
 
 /// Whether a FRU has neither hits nor channels.
@@ -81,42 +91,54 @@ impl FruRows {
         Entries::of(self.busy.entries(), self.idle.entries())
     }
 
-    /// Borrows the entry at a place, if there is one.
-    pub fn entry(&self, place: Place) -> Option<&Entry>
+    /// Searches a place. What then asks for the entry there, or puts one there, need not search it again.
+    pub fn hint(&self, place: Place) -> Hint
+        ensures busy { result.busy ≡ count_before place (busy self.now.entries) }
+        ensures idle { result.idle ≡ count_before place (idle self.now.entries) }
+    {
+        Hint {
+            busy: count_before(self.busy.entries(), place, 0),
+            idle: count_before(self.idle.entries(), place, 0),
+        }
+    }
+
+    /// Borrows the entry at a place, if there is one. It looks first where the hint says.
+    pub fn entry(&self, place: Place, hint: Hint) -> Option<&Entry>
         ensures value { option_map (λ entry. entry.now) result ≡ find (is_entry_at place) self.now.entries }
         ensures held { is_some result ≡ holds_place self.now.entries place }
         ensures order { IsTrue (are_by_place self.now.entries) }
     {
-        let busy = self.busy.entry(place);
+        let busy = self.busy.entry_near(place, hint.busy);
         if busy.is_some() {
             return busy;
         }
-        self.idle.entry(place)
+        self.idle.entry_near(place, hint.idle)
     }
 
-    /// Puts an entry among the others, where there is room and its place is free. It takes no memory.
-    pub fn plug(&mut self, entry: Box<Entry>)
+    /// Puts an entry among the others, where there is room and its place is free. It looks first where the hint says. It takes no
+    /// memory.
+    pub fn plug(&mut self, entry: Box<Entry>, hint: Hint)
         requires room { 0 < self.old.spare }
         requires free { holds_place self.old.entries entry.value.place ≡ false }
         ensures { self.new.entries ≡ with_entry entry.value self.old.entries }
     {
         if is_idle(&entry) {
-            self.idle.plug(entry);
+            self.idle.plug_near(entry, hint.idle);
         } else {
-            self.busy.plug(entry);
+            self.busy.plug_near(entry, hint.busy);
         }
     }
 
-    /// Takes out the entry at a place that is held, and returns it. It takes no memory.
-    pub fn unplug(&mut self, place: Place) -> Box<Entry>
+    /// Takes out the entry at a place that is held, and returns it. It looks first where the hint says. It takes no memory.
+    pub fn unplug(&mut self, place: Place, hint: Hint) -> Box<Entry>
         requires held { holds_place self.old.entries place ≡ true }
         ensures entries { self.new.entries ≡ without_entry place self.old.entries }
         ensures entry { find (is_entry_at place) self.old.entries ≡ Some result.value }
     {
-        if self.busy.entry(place).is_some() {
-            self.busy.unplug(place)
+        if self.busy.entry_near(place, hint.busy).is_some() {
+            self.busy.unplug_near(place, hint.busy)
         } else {
-            self.idle.unplug(place)
+            self.idle.unplug_near(place, hint.idle)
         }
     }
 }

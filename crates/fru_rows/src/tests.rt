@@ -49,8 +49,9 @@ fn entry_on(alloc: Global, bus: u32, known: Known) -> Result<Box<Entry>, Fail> {
 fn plug(rows: &mut FruRows, alloc: Global, bus: u32, known: Known) -> Result<(), Fail> {
     let entry = entry_on(alloc, bus, known)?;
     rows.reserve(alloc)?;
-    if rows.entry(entry.place).is_none() {
-        rows.plug(entry);
+    let hint = rows.hint(entry.place);
+    if rows.entry(entry.place, hint).is_none() {
+        rows.plug(entry, hint);
     }
     Ok(())
 }
@@ -58,8 +59,9 @@ fn plug(rows: &mut FruRows, alloc: Global, bus: u32, known: Known) -> Result<(),
 // Takes out the entry on a bus, and returns its bus, if there is one.
 fn unplug(rows: &mut FruRows, bus: u32) -> Option<u8> {
     let place = Place::new(bus, 80)?;
-    if rows.entry(place).is_some() {
-        Some(rows.unplug(place).place.bus())
+    let hint = rows.hint(place);
+    if rows.entry(place, hint).is_some() {
+        Some(rows.unplug(place, hint).place.bus())
     } else {
         None
     }

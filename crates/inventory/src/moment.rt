@@ -37,12 +37,12 @@ impl<'a> Model for Moment<'a> {
     ghost invariant = { λ m. IsTrue (are_by_place (unboxed m.before.now ++ unboxed m.plus.now ++ unboxed m.behind.now)) };
 }
 
-// Borrows the entry at a place, if there is one, among entries that are by place.
-fn entry_at(entries: &[Box<Entry>], place: Place) -> Option<&Entry>
+// Borrows the entry at a place, if there is one, among entries that are by place. It looks first behind as many as the hint says.
+fn entry_at(entries: &[Box<Entry>], place: Place, hint: usize) -> Option<&Entry>
     requires { IsTrue (are_by_place (unboxed entries.now)) }
     ensures { option_map (λ entry. entry.now) result ≡ find (is_entry_at place) (unboxed entries.now) }
 {
-    let stored = entries.get(count_before(entries, place))?;
+    let stored = entries.get(count_before(entries, place, hint))?;
     let entry: &Entry = stored;
     if entry.place == place {
         Some(entry)
@@ -67,14 +67,19 @@ impl<'a> Moment<'a> {
     }
 
     /// Returns the moment of these entries, each of which comes before those behind it, with one more at its
-    /// place, which is free.
-    pub fn with(facts: Facts, entries: &'a [Box<Entry>], plus: &'a Box<Entry>) -> Moment<'a>
+    /// place, which is free. It looks first behind as many entries as the hint says.
+    pub fn with(
+        facts: Facts,
+        entries: &'a [Box<Entry>],
+        plus: &'a Box<Entry>,
+        hint: usize,
+    ) -> Moment<'a>
         requires order { IsTrue (are_by_place (unboxed entries.now)) }
         requires free { holds_place (unboxed entries.now) plus.now.value.place ≡ false }
         ensures facts { result.facts ≡ facts }
         ensures entries { result.entries ≡ with_entry plus.now.value (unboxed entries.now) }
     {
-        let at = count_before(entries, plus.place);
+        let at = count_before(entries, plus.place, hint);
         let (before, behind) = entries.split_at(at);
         Moment {
             facts,
@@ -84,13 +89,19 @@ impl<'a> Moment<'a> {
         }
     }
 
-    /// Returns the moment of these entries, each of which comes before those behind it, without the one at this place.
-    pub fn without(facts: Facts, entries: &'a [Box<Entry>], place: Place) -> Moment<'a>
+    /// Returns the moment of these entries, each of which comes before those behind it, without the one at this place. It looks
+    /// first behind as many entries as the hint says.
+    pub fn without(
+        facts: Facts,
+        entries: &'a [Box<Entry>],
+        place: Place,
+        hint: usize,
+    ) -> Moment<'a>
         requires { IsTrue (are_by_place (unboxed entries.now)) }
         ensures facts { result.facts ≡ facts }
         ensures entries { result.entries ≡ without_entry place (unboxed entries.now) }
     {
-        let at = count_before(entries, place);
+        let at = count_before(entries, place, hint);
         if at < entries.len() && entries[at].place == place {
             return Moment {
                 facts,
@@ -166,19 +177,20 @@ impl<'a> Moment<'a> {
         first_hit(self.behind, &self.facts, number)
     }
 
-    // Borrows the record of the FRU at a place, if there is one.
+    // Borrows the record of the FRU at a place, if there is one. Mostly that is the one that comes, which stands behind all that come
+    // before it.
     pub(crate) fn fru(&self, place: Place) -> Option<&FruRecord>
         ensures { option_map (λ fru. fru.now) result ≡ entry_fields self.now.entries place }
     {
-        let before = entry_at(self.before, place);
+        let before = entry_at(self.before, place, self.before.len());
         if let Some(entry) = before {
             return Some(&entry.fru);
         }
-        let plus = entry_at(self.plus, place);
+        let plus = entry_at(self.plus, place, 0);
         if let Some(entry) = plus {
             return Some(&entry.fru);
         }
-        let entry = entry_at(self.behind, place)?;
+        let entry = entry_at(self.behind, place, 0)?;
         Some(&entry.fru)
     }
 

@@ -1,5 +1,5 @@
 -- Entries in boxes.
-use Rattle.std.proofs.Common.{◌≡◌, ◌∙◌, ℕ, suc, ◌≤◌, ◌<◌, ◌+◌, true, false, cond, List, [], ◌∷◌, ◌++◌, length, take, drop}
+use Rattle.std.proofs.Common.{◌≡◌, ◌∙◌, ℕ, suc, ◌≤◌, ◌<◌, ◌+◌, ◌-◌, true, false, cond, List, [], ◌∷◌, ◌++◌, length, take, drop}
 use Rattle.std.proofs.Common.{get_or, slice_get, Some, None, option_map, refl, sym, ap, ap₂, subst, arith}
 use Rattle.std.specs.Global.{Box}
 use Rattle.std.specs.List.{insert, remove, prefix_len, take-map, drop-map}
@@ -13,7 +13,7 @@ use Rattle.probe_lang.specs.declared.rows.Entry.{Entry}
 use Rattle.probe_lang.specs.Presents.{unboxed, are_by_place}
 use Rattle.match_rows.specs.Rows.{count_before}
 use Rattle.match_rows.proofs.PlacesLemmas.{is_before}
-use Rattle.match_rows.proofs.RowsLemmas.{partitioned}
+use Rattle.match_rows.proofs.RowsLemmas.{partitioned, front_by_place, all_before, counted_front}
 
 abbrev pub value_of : Box Entry → Entry
 value_of entry = entry.value
@@ -69,3 +69,26 @@ pub unboxed_past : (boxes : List (Box Entry)) (old : List Entry) (position count
 unboxed_past boxes old position count same value past =
     ap₂ (λ (entries : List Entry) (n : ℕ). slice_get entries n) (sym same) (sym value) ∙ slice_get-map value_of boxes position
     ∙ ap (option_map value_of) (slice_get_past boxes position past)
+
+-- all boxes come before a place where the last of them does
+pub boxes_all_before : (place : Place) (boxes : List (Box Entry)) (last : Box Entry) → are_by_place (unboxed boxes) ≡ true
+    → slice_get boxes (length boxes - 1) ≡ Some last → is_before last.value.place place ≡ true → count_before place (unboxed boxes) ≡ length boxes
+boxes_all_before place boxes last order at before =
+    all_before place (unboxed boxes) (length boxes - 1) last.value order (ap (λ (count : ℕ). count - 1) (sym (length_unboxed boxes)))
+    (slice_get-map value_of boxes (length boxes - 1) ∙ ap (option_map value_of) at) before
+    ∙ length_unboxed boxes
+
+-- the boxes at the front of those that are by place are by place
+pub boxes_front_by_place : (boxes front back : List (Box Entry)) → boxes ≡ front ++ back → are_by_place (unboxed boxes) ≡ true
+    → are_by_place (unboxed front) ≡ true
+boxes_front_by_place boxes front back same order =
+    front_by_place (unboxed front) (unboxed back)
+    (sym (ap are_by_place (ap unboxed same ∙ map-append value_of front back)) ∙ order)
+
+-- where all boxes at the front come before a place, and none of the others, so many do
+pub boxes_counted : (place : Place) (boxes front back : List (Box Entry)) (count : ℕ) → boxes ≡ front ++ back → length front ≡ count
+    → count_before place (unboxed front) ≡ length front → count_before place (unboxed back) ≡ 0 → count ≡ count_before place (unboxed boxes)
+boxes_counted place boxes front back count same many all none =
+    sym (ap (count_before place) (ap unboxed same ∙ map-append value_of front back)
+    ∙ counted_front place (unboxed front) (unboxed back) (all ∙ sym (length_unboxed front)) none
+    ∙ length_unboxed front ∙ many)

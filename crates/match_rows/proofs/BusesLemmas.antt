@@ -1,6 +1,6 @@
 -- The bus that a template gives.
-use Rattle.std.proofs.Common.{◌≡◌, ◌∙◌, ℕ, ◌+◌, ◌<◌, ◌≤◌, List, [], ◌∷◌, ◌++◌, length, map, filter_map, take, get_or, Bool, true, false, Option, Some, None}
-use Rattle.std.proofs.Common.{if◌then◌else◌, nat_le, refl, sym, ap, subst, arith, append_assoc, append-nil}
+use Rattle.std.proofs.Common.{◌≡◌, ◌∙◌, ℕ, ◌+◌, ◌<◌, ◌≤◌, List, [], ◌∷◌, ◌++◌, length, map, take, get_or, Bool, true, false, Option, Some, None}
+use Rattle.std.proofs.Common.{if◌then◌else◌, nat_le, refl, sym, ap, arith, append_assoc, append-nil}
 use Rattle.std.specs.Prelude.{option_and_then, option_to_list, IfSome}
 use Rattle.std.specs.List.{flat_map, cons_option}
 use Rattle.std.proofs.lemmas.List.{take_more, map-append}

@@ -1,12 +1,14 @@
 -- Entries by place.
-use Rattle.std.proofs.Common.{◌≡◌, ◌∙◌, ℕ, zero, suc, ◌+◌, ◌<◌}
-use Rattle.std.proofs.Common.{Bool, true, false, not, cond, ◌||◌, List, [], ◌∷◌, length, slice_get, get_or, Option, Some, None}
+use Rattle.std.proofs.Common.{◌≡◌, ◌∙◌, ℕ, zero, suc, ◌+◌, ◌-◌, ◌<◌}
+use Rattle.std.proofs.Common.{Bool, true, false, not, cond, ◌||◌, List, [], ◌∷◌, ◌++◌, length, slice_get, get_or, Option, Some, None}
 use Rattle.std.proofs.Common.{refl, sym, ap, ap₂, arith}
 use Rattle.std.specs.List.{list_all, insert, remove, find}
 use Rattle.std.specs.Option.{is_some}
 use Rattle.std.specs.List.Sorted.{IsPartitionedBy}
 use Rattle.std.proofs.lemmas.Bool.{and_parts, and_from, or_parts, or_from}
+use Rattle.std.proofs.lemmas.List.Folds.{list_all-append}
 use Rattle.std.proofs.lemmas.Map.Entries.{option_filter}
+use Rattle.std.proofs.lemmas.Option.{same_Some}
 use Rattle.bmc_base.specs.Places.{Place, place_eq}
 use Rattle.probe_lang.specs.declared.rows.Entry.{Entry}
 use Rattle.probe_lang.specs.Presents.{is_entry_at, holds_place, with_entry, without_entry, are_by_place}
@@ -222,3 +224,49 @@ found_is_held place (entry ∷ entries) = by (is_entry_at place entry) (found_is
         → is_some (cond here (Some entry) (find (is_entry_at place) entries)) ≡ (here || holds_place entries place)
     by true rest = refl
     by false rest = rest
+
+-- ---- entries in two parts
+
+-- the entries at the front of those that are by place are by place
+pub front_by_place : (front back : List Entry) → are_by_place (front ++ back) ≡ true → are_by_place front ≡ true
+front_by_place [] back order = refl
+front_by_place (entry ∷ front) back order =
+    let parts = and_parts _ _ order in
+    let behind = and_parts _ _ (sym (list_all-append (λ (later : Entry). is_before entry.place later.place) front back) ∙ parts.0) in
+    and_from _ _ behind.0 (front_by_place front back parts.1)
+
+-- all entries come before a place where the last of them does
+pub all_before : (place : Place) (entries : List Entry) (n : ℕ) (last : Entry) → are_by_place entries ≡ true → n ≡ length entries - 1
+    → slice_get entries n ≡ Some last → is_before last.place place ≡ true → count_before place entries ≡ length entries
+all_before place [] n last order is at before = refl
+all_before place (entry ∷ []) zero last order is at before =
+    let same : entry ≡ last = same_Some _ _ at in
+    ap (λ (entry : Entry). cond (is_before entry.place place) 1 0) same ∙ ap (λ (first : Bool). cond first 1 0) before
+all_before place (entry ∷ []) (suc n) last order is at before = absurd (omega (arith, is))
+all_before place (entry ∷ next ∷ more) zero last order is at before = absurd (omega (arith, is))
+all_before place (entry ∷ next ∷ more) (suc n) last order is at before =
+    by (is_before next.place place) refl (all_before place (next ∷ more) n last (and_parts _ _ order).1 (omega (arith, is)) at before)
+  where
+    by : (first : Bool) → is_before next.place place ≡ first → count_before place (next ∷ more) ≡ suc (length more)
+        → count_before place (entry ∷ next ∷ more) ≡ suc (suc (length more))
+    by true passes rest =
+        let ahead : is_before entry.place next.place ≡ true = (and_parts _ _ (and_parts _ _ order).0).0 in
+        ap (λ (first : Bool). cond first (1 + count_before place (next ∷ more)) 0) (before_trans entry.place next.place place ahead passes)
+        ∙ omega (arith, rest)
+    by false late rest =
+        absurd (let none = sym (ap (λ (first : Bool). cond first (1 + count_before place more) 0) late) ∙ rest in omega (arith, none))
+
+-- where all entries at the front come before a place, and none of the others, it is the front that does
+pub counted_front : (place : Place) (front back : List Entry) → count_before place front ≡ length front → count_before place back ≡ 0
+    → count_before place (front ++ back) ≡ length front
+counted_front place [] back all none = none
+counted_front place (entry ∷ front) back all none = by (is_before entry.place place) all (λ here. counted_front place front back here none)
+  where
+    by : (first : Bool) → cond first (1 + count_before place front) 0 ≡ suc (length front)
+        → (count_before place front ≡ length front → count_before place (front ++ back) ≡ length front)
+        → cond first (1 + count_before place (front ++ back)) 0 ≡ suc (length front)
+    by true all rest =
+        let here : count_before place front ≡ length front = omega (arith, all) in
+        let later = rest here in
+        omega (arith, later)
+    by false all rest = absurd (omega (arith, all))

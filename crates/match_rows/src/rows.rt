@@ -1,5 +1,7 @@
 ghost use Rattle.std.specs.Prelude.{◌≡◌, ◌<◌, ◌≤◌, [], false, true, length, find, option_map, Some, IfOk, OnOk, IsTrue};
 ghost use Rattle.std.specs.Option.{is_some};
+ghost use Rattle.std.specs.Ordering.{is_lt};
+ghost use Rattle.bmc_base.specs.Places.{place_cmp};
 ghost use Rattle.probe_lang.specs.Presents.{unboxed, is_entry_at, holds_place, with_entry, without_entry, are_by_place};
 ghost use Rattle.match_rows.specs.Rows.{count_before};
 
@@ -63,8 +65,17 @@ impl Rows {
         ensures held { is_some result ≡ holds_place self.now.entries place }
         ensures order { IsTrue (are_by_place self.now.entries) }
     {
+        self.entry_near(place, 0)
+    }
+
+    /// As [`Rows::entry`], which looks first whether so many entries come before the place as the hint says.
+    pub fn entry_near(&self, place: Place, hint: usize) -> Option<&Entry>
+        ensures value { option_map (λ entry. entry.now) result ≡ find (is_entry_at place) self.now.entries }
+        ensures held { is_some result ≡ holds_place self.now.entries place }
+        ensures order { IsTrue (are_by_place self.now.entries) }
+    {
         let entries = self.entries();
-        let stored = entries.get(count_before(entries, place))?;
+        let stored = entries.get(count_before(entries, place, hint))?;
         let entry: &Entry = stored;
         if entry.place == place {
             Some(entry)
@@ -79,7 +90,16 @@ impl Rows {
         requires free { holds_place self.old.entries entry.value.place ≡ false }
         ensures { self.new.entries ≡ with_entry entry.value self.old.entries }
     {
-        let position = count_before(self.entries(), entry.place);
+        self.plug_near(entry, 0);
+    }
+
+    /// As [`Rows::plug`], which looks first whether so many entries come before the place as the hint says.
+    pub fn plug_near(&mut self, entry: Box<Entry>, hint: usize)
+        requires room { 0 < self.old.spare }
+        requires free { holds_place self.old.entries entry.value.place ≡ false }
+        ensures { self.new.entries ≡ with_entry entry.value self.old.entries }
+    {
+        let position = count_before(self.entries(), entry.place, hint);
         match self.entries.insert(position, entry) {
             Ok(()) => {}
             Err(_) => unreachable!(),
@@ -92,16 +112,73 @@ impl Rows {
         ensures entries { self.new.entries ≡ without_entry place self.old.entries }
         ensures entry { find (is_entry_at place) self.old.entries ≡ Some result.value }
     {
-        let position = count_before(self.entries(), place);
+        self.unplug_near(place, 0)
+    }
+
+    /// As [`Rows::unplug`], which looks first whether so many entries come before the place as the hint says.
+    pub fn unplug_near(&mut self, place: Place, hint: usize) -> Box<Entry>
+        requires held { holds_place self.old.entries place ≡ true }
+        ensures entries { self.new.entries ≡ without_entry place self.old.entries }
+        ensures entry { find (is_entry_at place) self.old.entries ≡ Some result.value }
+    {
+        let position = count_before(self.entries(), place, hint);
         self.entries.remove(position)
     }
 }
 
-/// Counts the entries that come before a place, among entries that are by place.
-pub fn count_before(entries: &[Box<Entry>], place: Place) -> usize
+// Whether an entry comes before a place.
+fn is_before(entry: &Entry, place: Place) -> bool
+    ensures { result ≡ is_lt (place_cmp entry.now.place place) }
+{
+    entry.place < place
+}
+
+// Whether the last of some entries, which are by place, comes before a place, and so all of them do.
+fn ends_before(entries: &[Box<Entry>], place: Place) -> bool
+    requires { IsTrue (are_by_place (unboxed entries.now)) }
+    ensures { result ≡ true → count_before place (unboxed entries.now) ≡ length entries.now }
+{
+    match entries.last() {
+        Some(last) => is_before(last, place),
+        None => true,
+    }
+}
+
+// Whether the first of some entries comes before a place.
+fn starts_before(entries: &[Box<Entry>], place: Place) -> bool
+    ensures { result ≡ false → count_before place (unboxed entries.now) ≡ 0 }
+{
+    match entries.first() {
+        Some(first) => is_before(first, place),
+        None => false,
+    }
+}
+
+// Whether it is seen at once that so many entries come before a place.
+fn come_before(entries: &[Box<Entry>], place: Place, count: usize) -> bool
+    requires { IsTrue (are_by_place (unboxed entries.now)) }
+    ensures value { result ≡ true → count ≡ count_before place (unboxed entries.now) }
+    ensures range { result ≡ true → count ≤ length entries.now }
+{
+    if count > entries.len() {
+        return false;
+    }
+    let (front, back) = entries.split_at(count);
+    if starts_before(back, place) {
+        return false;
+    }
+    ends_before(front, place)
+}
+
+/// Counts the entries that come before a place, among entries that are by place. It searches only where they are not as many as
+/// the hint says.
+pub fn count_before(entries: &[Box<Entry>], place: Place, hint: usize) -> usize
     requires { IsTrue (are_by_place (unboxed entries.now)) }
     ensures value { result ≡ count_before place (unboxed entries.now) }
     ensures range { result ≤ length entries.now }
 {
+    if come_before(entries, place, hint) {
+        return hint;
+    }
     entries.partition_point(|entry| entry.place < place)
 }

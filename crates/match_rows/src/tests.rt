@@ -1,4 +1,4 @@
-use crate::{Rows, entry_shows_record, make};
+use crate::{Rows, count_before, entry_shows_record, make};
 use bmc_base::{Place, Silent, Steps};
 use cfg_json::{Config, Shelf};
 use fru_record::FruRecord;
@@ -62,6 +62,22 @@ fn entries_come_by_place(rt: HostRuntime) -> Result<(), Fail> {
         plug(&mut rows, rt.alloc(), place, EMPTY)?;
     }
     assert_places(&rt, &rows, &[(0, 127), (1, 80), (1, 81), (2, 80), (255, 0)]);
+    Ok(())
+}
+
+#[test]
+fn no_hint_changes_a_count(rt: HostRuntime) -> Result<(), Fail> {
+    let mut rows = Rows::new(rt.alloc())?;
+    for bus in 1..4_u32 {
+        let place = Place::new(bus, 80).expect(&rt, "it is in range");
+        plug(&mut rows, rt.alloc(), place, EMPTY)?;
+    }
+    for (bus, address, count) in [(1, 79, 0), (1, 80, 0), (1, 81, 1), (3, 80, 2), (9, 0, 3)] {
+        let place = Place::new(bus, address).expect(&rt, "it is in range");
+        for hint in 0..6_usize {
+            assert_eq!(rt; count_before(rows.entries(), place, hint), count);
+        }
+    }
     Ok(())
 }
 

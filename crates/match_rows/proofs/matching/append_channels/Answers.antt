@@ -1,5 +1,4 @@
 -- An expose more.
-use Rattle.std.proofs.Common.{subst}
 use Rattle.match_rows.proofs.BusesLemmas.{expose_more}
 use Rattle.match_rows.proofs.matching.append_channels.Goals as goal
 

@@ -6,15 +6,15 @@ use Rattle.fru_rows.proofs.rows.FruRows.entry.Goals as goal
 
 pub returns-then-is_some-clause-value : goal.returns-then-is_some-clause-value
 returns-then-is_some-clause-value c =
-    c.entry-busy.ensures.value
+    c.entry_near-busy.ensures.value
     ∙ same_found c.args.place c.self.inside.busy.entries c.self.inside.idle.entries c.self.invariant.apart
-    (sym c.entry-busy.ensures.held ∙ sym c.is_some.ensures ∙ c.if-is_some.true)
+    (sym c.entry_near-busy.ensures.held ∙ sym c.is_some.ensures ∙ c.if-is_some.true)
     ∙ ap (λ (rows : RowsView). find (is_entry_at c.args.place) rows.entries) c.self.view_is
 
 pub returns-then-is_some-clause-held : goal.returns-then-is_some-clause-held
 returns-then-is_some-clause-held c =
-    let held = sym c.entry-busy.ensures.held ∙ sym c.is_some.ensures ∙ c.if-is_some.true in
-    c.entry-busy.ensures.held ∙ held
+    let held = sym c.entry_near-busy.ensures.held ∙ sym c.is_some.ensures ∙ c.if-is_some.true in
+    c.entry_near-busy.ensures.held ∙ held
     ∙ sym (held_in_first c.args.place c.self.inside.busy.entries c.self.inside.idle.entries held)
     ∙ ap (λ (rows : RowsView). holds_place rows.entries c.args.place) c.self.view_is
 
@@ -25,16 +25,16 @@ returns-then-is_some-clause-order c =
 
 pub returns-clause-value : goal.returns-clause-value
 returns-clause-value c =
-    c.entry.ensures.value
+    c.entry_near.ensures.value
     ∙ sym (found_in_other c.args.place c.self.inside.busy.entries c.self.inside.idle.entries
-    (sym c.entry-busy.ensures.held ∙ sym c.is_some.ensures ∙ c.if-is_some.false))
+    (sym c.entry_near-busy.ensures.held ∙ sym c.is_some.ensures ∙ c.if-is_some.false))
     ∙ ap (λ (rows : RowsView). find (is_entry_at c.args.place) rows.entries) c.self.view_is
 
 pub returns-clause-held : goal.returns-clause-held
 returns-clause-held c =
-    c.entry.ensures.held
+    c.entry_near.ensures.held
     ∙ sym (held_in_other c.args.place c.self.inside.busy.entries c.self.inside.idle.entries
-    (sym c.entry-busy.ensures.held ∙ sym c.is_some.ensures ∙ c.if-is_some.false))
+    (sym c.entry_near-busy.ensures.held ∙ sym c.is_some.ensures ∙ c.if-is_some.false))
     ∙ ap (λ (rows : RowsView). holds_place rows.entries c.args.place) c.self.view_is
 
 pub returns-clause-order : goal.returns-clause-order

@@ -6,7 +6,7 @@ use Rattle.probe_lang.specs.Presents.{unboxed, are_by_place}
 use Rattle.match_rows.specs.Rows.{RowsView, count_before}
 use Rattle.match_rows.proofs.RowsLemmas.{with_entry_at, with_entry_by_place}
 use Rattle.match_rows.proofs.BoxesLemmas.{unboxed_insert}
-use Rattle.match_rows.proofs.rows.Rows.plug.Goals as goal
+use Rattle.match_rows.proofs.rows.Rows.plug_near.Goals as goal
 
 pub returns : goal.returns
 returns c =

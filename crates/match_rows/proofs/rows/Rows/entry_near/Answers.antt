@@ -7,7 +7,7 @@ use Rattle.probe_lang.specs.Presents.{is_entry_at}
 use Rattle.match_rows.specs.Rows.{count_before}
 use Rattle.match_rows.proofs.RowsLemmas.{found_past, found_or_not, found_is_held}
 use Rattle.match_rows.proofs.BoxesLemmas.{unboxed_at, unboxed_past}
-use Rattle.match_rows.proofs.rows.Rows.entry.Goals as goal
+use Rattle.match_rows.proofs.rows.Rows.entry_near.Goals as goal
 
 not_found : (c : goal.After-from_residual) → find (is_entry_at c.args.place) c.args.self.now.entries ≡ None
 not_found c =

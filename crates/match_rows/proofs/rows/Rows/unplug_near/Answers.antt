@@ -7,7 +7,7 @@ use Rattle.probe_lang.specs.Presents.{unboxed, are_by_place, holds_place}
 use Rattle.match_rows.specs.Rows.{RowsView, count_before}
 use Rattle.match_rows.proofs.RowsLemmas.{count_below, find_held, without_entry_at, without_entry_by_place}
 use Rattle.match_rows.proofs.BoxesLemmas.{length_unboxed, unboxed_remove, unboxed_at}
-use Rattle.match_rows.proofs.rows.Rows.unplug.Goals as goal
+use Rattle.match_rows.proofs.rows.Rows.unplug_near.Goals as goal
 
 position_within : (place : Place) (boxes : List (Box Entry)) (old : List Entry) (position : ℕ) → unboxed boxes ≡ old → holds_place old place ≡ true
     → position ≡ count_before place old → position < length boxes
