@@ -12,7 +12,7 @@ use Rattle.found_set.specs.Rows.{holds_place, are_by_place}
 use Rattle.found_set.specs.Events.{Event, ConfigEvent, PlugEvent, UnplugEvent}
 
 abbrev pub event_of : {L : Type 0} → Held L → Event
-event_of (Config rule) = ConfigEvent rule
+event_of (Config rule) = ConfigEvent rule.value
 event_of (Plug row) = PlugEvent row
 event_of (Unplug place) = UnplugEvent place
 

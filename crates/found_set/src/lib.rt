@@ -25,5 +25,5 @@ mod tests;
 pub use facts::{Facts, MOST_RULES};
 pub use law::{idle_row, kept_is_scan, later_is_not_found, roots_are_reached};
 pub use marks::{Marks, mark_touched};
-pub use next_facts::{EventKey, NextFacts};
+pub use next_facts::{BoxedName, EventKey, NextFacts};
 pub use set::FoundSet;

@@ -10,7 +10,7 @@ use crate::earlier::Earlier;
 use crate::evaluate::{evaluate, no_facts, reevaluate};
 use crate::facts::Facts;
 use crate::names::Names;
-use crate::next_facts::{EventKey, NextFacts};
+use crate::next_facts::{BoxedName, EventKey, NextFacts};
 use crate::parts::Parts;
 use crate::row::{Row, position_at, position_for};
 use crate::rule::Rule;
@@ -96,9 +96,9 @@ impl<L: Ledger> FoundSet<L> {
         ensures { Prepares self.old self.new (ConfigEvent (rule_of name probe.now fixed.now)) result steps.old steps.new }
     {
         self.unstage();
-        let key = EventKey::Config(name.copied());
+        let key = EventKey::Config(BoxedName::of(alloc, &name)?);
         let rule = Rule::of(alloc, name, probe, fixed)?;
-        let facts = self.stage_config(rule, steps)?;
+        let facts = self.stage_config(alloc, rule, steps)?;
         Ok(NextFacts { key, facts })
     }
 
@@ -211,8 +211,13 @@ impl<L: Ledger> FoundSet<L> {
         )
     }
 
-    // Stages a rule, with room for it, and returns the facts with it.
-    fn stage_config(&mut self, rule: Rule<L>, steps: &mut Steps<L>) -> Result<Facts, OutOfMemory>
+    // Stages a rule, with room for it, and returns the facts with it. For want of memory nothing changes.
+    fn stage_config(
+        &mut self,
+        alloc: Global,
+        rule: Rule<L>,
+        steps: &mut Steps<L>,
+    ) -> Result<Facts, OutOfMemory>
         requires few { length self.old.rules < most_rules }
         requires new { number_of self.old.rules rule.name ≡ None }
         requires bare { self.old.staged ≡ None }
@@ -227,7 +232,8 @@ impl<L: Ledger> FoundSet<L> {
         let rows = Parts::of(&self.rows, &[]);
         let facts = evaluate(&self.rules, &self.names, &rows, &Earlier::nothing(), steps);
         let rule = self.rules.take_last();
-        self.staged = Some(Staged::of(Event::Config(rule), &facts));
+        let boxed = Box::new(alloc, rule)?;
+        self.staged = Some(Staged::of(Event::Config(boxed), &facts));
         Ok(facts)
     }
 

@@ -10,11 +10,11 @@ use crate::rule::Rule;
 use bmc_base::{Ledger, Place};
 use std::marker::Model;
 
-// What comes or goes.
+// What comes or goes. It is moved as it is staged and taken over, so a rule, which is large, is in a box.
 #[derive(Drop)]
 pub(crate) enum Event<L: Ledger> {
     // A configuration comes.
-    Config(Rule<L>),
+    Config(Box<Rule<L>>),
     // A FRU comes.
     Plug(Row),
     // The FRU at a place goes.
@@ -65,7 +65,7 @@ impl<L: Ledger> Staged<L> {
         match event {
             Event::Config(rule) => {
                 names.add(rule.name());
-                rules.push_reserved(rule);
+                rules.push_reserved(Box::into_inner(rule));
             }
             Event::Plug(row) => insert_row(rows, row),
             Event::Unplug(place) => discard_row(rows, place),
