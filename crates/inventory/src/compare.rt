@@ -15,8 +15,7 @@ use std::alloc::Global;
 // memory that serves for each in turn.
 #[derive(Drop)]
 struct Comparison {
-    gone: BoardKeys,
-    come: BoardKeys,
+    difference: Difference,
     before: Vec<Option<Place>>,
     after: Vec<Option<Place>>,
 }
@@ -24,12 +23,14 @@ struct Comparison {
 impl Comparison {
     // Returns a comparison of nothing yet.
     fn new(alloc: Global) -> Comparison
-        ensures gone { result.gone ≡ [] }
-        ensures come { result.come ≡ [] }
+        ensures gone { result.difference.gone_boards ≡ [] }
+        ensures come { result.difference.new_boards ≡ [] }
     {
         Comparison {
-            gone: BoardKeys::new(alloc),
-            come: BoardKeys::new(alloc),
+            difference: Difference {
+                gone_boards: BoardKeys::new(alloc),
+                new_boards: BoardKeys::new(alloc),
+            },
             before: Vec::new(alloc),
             after: Vec::new(alloc),
         }
@@ -37,13 +38,10 @@ impl Comparison {
 
     // Returns what was found.
     fn into_difference(self) -> Difference
-        ensures gone { result.gone_boards ≡ self.gone }
-        ensures new { result.new_boards ≡ self.come }
+        ensures gone { result.gone_boards ≡ self.difference.gone_boards }
+        ensures new { result.new_boards ≡ self.difference.new_boards }
     {
-        Difference {
-            gone_boards: self.gone,
-            new_boards: self.come,
-        }
+        self.difference
     }
 }
 
@@ -113,18 +111,20 @@ fn push_lists(
 ) -> Result<(), OutOfMemory>
     requires number { number < 256 }
     ensures gone { (found reach found_after reach_after : ℕ → Bool) → IsMarkedBy before.now.facts found reach
-        → IsMarkedBy after.now.facts found_after reach_after → OnOk result (comparison.new.gone ≡ comparison.old.gone ++ left number
+        → IsMarkedBy after.now.facts found_after reach_after
+        → OnOk result (comparison.new.difference.gone_boards ≡ comparison.old.difference.gone_boards ++ left number
         (boards_now match_one found reach before.now number) (boards_now match_one found_after reach_after after.now number)) }
     ensures come { (found reach found_after reach_after : ℕ → Bool) → IsMarkedBy before.now.facts found reach
-        → IsMarkedBy after.now.facts found_after reach_after → OnOk result (comparison.new.come ≡ comparison.old.come ++ left number
+        → IsMarkedBy after.now.facts found_after reach_after
+        → OnOk result (comparison.new.difference.new_boards ≡ comparison.old.difference.new_boards ++ left number
         (boards_now match_one found_after reach_after after.now number) (boards_now match_one found reach before.now number)) }
 {
     list_boards(&mut comparison.before, before, number, match_one)?;
     list_boards(&mut comparison.after, after, number, match_one)?;
     push_both(
         alloc,
-        &mut comparison.gone,
-        &mut comparison.come,
+        &mut comparison.difference.gone_boards,
+        &mut comparison.difference.new_boards,
         number,
         &comparison.before,
         &comparison.after,
@@ -145,18 +145,20 @@ fn push_config(
     requires number { number < 256 }
     requires changed { IsLoneIf (option_map (λ entry. entry.now) changed) before.now after.now }
     ensures gone { (found reach found_after reach_after : ℕ → Bool) → IsMarkedBy before.now.facts found reach
-        → IsMarkedBy after.now.facts found_after reach_after → OnOk result (comparison.new.gone ≡ comparison.old.gone ++ left number
+        → IsMarkedBy after.now.facts found_after reach_after
+        → OnOk result (comparison.new.difference.gone_boards ≡ comparison.old.difference.gone_boards ++ left number
         (boards_now match_one found reach before.now number) (boards_now match_one found_after reach_after after.now number)) }
     ensures come { (found reach found_after reach_after : ℕ → Bool) → IsMarkedBy before.now.facts found reach
-        → IsMarkedBy after.now.facts found_after reach_after → OnOk result (comparison.new.come ≡ comparison.old.come ++ left number
+        → IsMarkedBy after.now.facts found_after reach_after
+        → OnOk result (comparison.new.difference.new_boards ≡ comparison.old.difference.new_boards ++ left number
         (boards_now match_one found_after reach_after after.now number) (boards_now match_one found reach before.now number)) }
 {
     let Some(entry) = lone_of(changed, before, after, number) else {
         return push_lists(alloc, comparison, before, after, number, match_one);
     };
     let swap = lone_swap(entry, before, after, number, match_one);
-    push_key(alloc, &mut comparison.gone, swap.gone)?;
-    push_key(alloc, &mut comparison.come, swap.new)?;
+    push_key(alloc, &mut comparison.difference.gone_boards, swap.gone)?;
+    push_key(alloc, &mut comparison.difference.new_boards, swap.new)?;
     Ok(())
 }
 
@@ -175,10 +177,12 @@ fn push_shelf<L: Ledger>(
     requires apart { AreSameBut apart.now before.now after.now }
     requires changed { IsLoneIf (option_map (λ entry. entry.now) changed) before.now after.now }
     ensures gone { (found reach found_after reach_after : ℕ → Bool) → IsMarkedBy before.now.facts found reach
-        → IsMarkedBy after.now.facts found_after reach_after → OnOk result (comparison.new.gone ≡ comparison.old.gone ++ keys_left (length shelf.now)
+        → IsMarkedBy after.now.facts found_after reach_after
+        → OnOk result (comparison.new.difference.gone_boards ≡ comparison.old.difference.gone_boards ++ keys_left (length shelf.now)
         (boards_at shelf.now found reach before.now) (boards_at shelf.now found_after reach_after after.now)) }
     ensures come { (found reach found_after reach_after : ℕ → Bool) → IsMarkedBy before.now.facts found reach
-        → IsMarkedBy after.now.facts found_after reach_after → OnOk result (comparison.new.come ≡ comparison.old.come ++ keys_left (length shelf.now)
+        → IsMarkedBy after.now.facts found_after reach_after
+        → OnOk result (comparison.new.difference.new_boards ≡ comparison.old.difference.new_boards ++ keys_left (length shelf.now)
         (boards_at shelf.now found_after reach_after after.now) (boards_at shelf.now found reach before.now)) }
 {
     for number in 0..shelf.len() {
@@ -211,14 +215,21 @@ fn push_plus<L: Ledger>(
     after: &Moment<'_>,
 ) -> Result<(), OutOfMemory>
     requires { number + length (option_to_list (option_map (λ config. config.now) plus)) ≤ 256 }
-    ensures gone { comparison.new.gone ≡ comparison.old.gone }
-    ensures come { (found reach : ℕ → Bool) → IsMarkedBy after.now.facts found reach → OnOk result
-        (comparison.new.come ≡ comparison.old.come ++ plus_keys found reach after.now number (option_map (λ config. config.now) plus.entry)) }
+    ensures gone { comparison.new.difference.gone_boards ≡ comparison.old.difference.gone_boards }
+    ensures come { (found reach : ℕ → Bool) → IsMarkedBy after.now.facts found reach
+        → OnOk result (comparison.new.difference.new_boards ≡ comparison.old.difference.new_boards
+        ++ plus_keys found reach after.now number (option_map (λ config. config.now) plus.entry)) }
 {
     if let Some(config) = plus {
         let match_one = config.probe().match_one();
         list_boards(&mut comparison.after, after, number, match_one)?;
-        push_left(alloc, &mut comparison.come, number, &comparison.after, &[])?;
+        push_left(
+            alloc,
+            &mut comparison.difference.new_boards,
+            number,
+            &comparison.after,
+            &[],
+        )?;
     }
     Ok(())
 }

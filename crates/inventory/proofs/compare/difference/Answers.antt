@@ -16,9 +16,9 @@ returns g c =
       gone_all configs found reach found_after reach_after c.args.before.now c.args.after.now plus c.into_difference.result.gone_boards
           (c.into_difference.ensures.gone ∙ c.push_plus.ensures.gone
           ∙ from_none _ _ _ (c.in_ok-push_shelf.ensures.gone found reach found_after reach_after marked marked_after) c.new-comparison.ensures.gone),
-      come_all configs found reach found_after reach_after c.args.before.now c.args.after.now plus c.push_shelf.new.comparison.come
+      come_all configs found reach found_after reach_after c.args.before.now c.args.after.now plus c.push_shelf.new.comparison.difference.new_boards
           c.into_difference.result.new_boards
           (from_none _ _ _ (c.in_ok-push_shelf.ensures.come found reach found_after reach_after marked marked_after) c.new-comparison.ensures.come)
           (c.into_difference.ensures.new ∙ c.in_ok-push_plus.ensures.come found_after reach_after marked_after
-          ∙ ap (λ n. c.push_shelf.new.comparison.come ++ plus_keys found_after reach_after c.args.after.now n plus) c.len.ensures.value),
+          ∙ ap (λ n. c.push_shelf.new.comparison.difference.new_boards ++ plus_keys found_after reach_after c.args.after.now n plus) c.len.ensures.value),
     )
