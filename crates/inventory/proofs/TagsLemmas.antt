@@ -6,10 +6,11 @@ use Rattle.std.specs.Option.{option_or, unwrap_or}
 use Rattle.std.specs.List.{list_any}
 use Rattle.std.specs.Map.{lookup}
 use Rattle.std.specs.Cmp.Lexicographic.{bytes_decides}
+use Rattle.std.proofs.Math.Bool.{and_comm}
 use Rattle.std.proofs.lemmas.Bool.{eqb-true}
 use Rattle.indexmap.specs.IndexMap.{insert_entry}
 use Rattle.cfg_json.specs.declared.item.ItemId.{ItemId}
-use Rattle.inventory.specs.Bearers.{ids_in, ids_over, tag_eq}
+use Rattle.inventory.specs.Bearers.{ids_in, ids_over, role_eq, tag_eq}
 use Rattle.inventory.specs.declared.tag.Tag.{Tag}
 use Rattle.inventory.proofs.BoardLemmas.{and_both, and_first, and_second}
 use Rattle.inventory.proofs.HoldersLemmas.{role_itself, role_same, role_test, role_test_is}
@@ -17,10 +18,12 @@ use Rattle.inventory.proofs.HoldersLemmas.{role_itself, role_same, role_test, ro
 -- ---- tags
 
 abbrev pub tag_test : Tag → Tag → Bool
-tag_test = λ tag other. role_test tag.role other.role && bytes_eq tag.name other.name
+tag_test = λ tag other. bytes_eq tag.name other.name && role_test tag.role other.role
 
 pub tag_test_is : tag_test ≡ tag_eq
-tag_test_is = λ i. λ tag other. role_test_is tag.role other.role i && bytes_eq tag.name other.name
+tag_test_is =
+    (λ i. λ tag other. bytes_eq tag.name other.name && role_test_is tag.role other.role i)
+    ∙ (λ i. λ tag other. and_comm (bytes_eq tag.name other.name) (role_eq tag.role other.role) i)
 
 pub tag_same : (tag other : Tag) → tag_eq tag other ≡ true → tag ≡ other
 tag_same tag other same =

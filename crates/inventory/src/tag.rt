@@ -19,11 +19,12 @@ pub(crate) enum Role {
     Member,
 }
 
-/// Under what items are noted: a name that they bear in their family, or the name of the zone that they are in.
+/// Under what items are noted: a name that they bear in their family, or the name of the zone that they are in. The name stands
+/// first, so that a tag is moved in pieces that are aligned.
 #[derive(Drop, PartialEq, Eq)]
 pub(crate) struct Tag {
-    pub(crate) role: Role,
     pub(crate) name: Name,
+    pub(crate) role: Role,
 }
 
 // A tag is hashed by its name alone: at most four have the same.
