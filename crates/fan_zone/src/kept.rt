@@ -1,4 +1,4 @@
-ghost use Rattle.std.specs.Prelude.{◌≡◌, ◌+◌, ◌-◌, ◌≤◌, ◌++◌, [], Some, if◌then◌else◌, length, take, drop, reverse, slice_range};
+ghost use Rattle.std.specs.Prelude.{◌≡◌, ◌+◌, ◌-◌, ◌≤◌, ◌++◌, [], Some, if◌then◌else◌, length, take, drop, slice_range};
 ghost use Rattle.std.specs.Vec.{vec_capacity};
 ghost use Rattle.fan_zone.specs.Live.{controls, fan_id, fans, items_of, id_eq};
 ghost use Rattle.fan_zone.specs.Sound.{HaveOwnIds, fan_plan_id};
@@ -144,17 +144,38 @@ pub(crate) fn keep_ends(
     }
 }
 
-// Reverses the elements from this position on.
-fn reverse_from<T>(list: &mut Vec<T>, start: usize)
-    requires { start ≤ length list.old.items }
-    ensures items { list.new.items ≡ take start list.old.items ++ reverse (drop start list.old.items) }
+// Cuts out the elements from `start` to `end`: they are rotated to the end first.
+fn cut_out<T: Drop>(list: &mut Vec<T>, start: usize, end: usize)
+    requires start { start ≤ end }
+    requires end { end ≤ length list.old.items }
+    ensures items { list.new.items ≡ take start list.old.items ++ drop end list.old.items }
     ensures room { vec_capacity list.new ≡ vec_capacity list.old }
 {
-    list[start..].reverse();
+    list[start..].rotate_left(end - start);
+    let left = list.len() - (end - start);
+    list.truncate(left);
 }
 
-/// Puts the elements of a spare in place of those from `start` to `end`, and empties the spare. The elements behind them are
-/// moved by reversing them twice: a rotation would clear 4,096 bytes of stack each time.
+// Puts the elements of a spare in at `start`, and empties the spare: they are appended, and then rotated into their place.
+fn put_in<T: Drop>(list: &mut Vec<T>, start: usize, spare: &mut Vec<T>)
+    requires start { start ≤ length list.old.items }
+    requires room { length list.old.items + length spare.old.items ≤ vec_capacity list.old }
+    ensures items { list.new.items ≡ take start list.old.items ++ (spare.old.items ++ drop start list.old.items) }
+    ensures empty { spare.new.items ≡ [] }
+    ensures room { vec_capacity list.old ≤ vec_capacity list.new }
+    ensures spare_room { vec_capacity spare.new ≡ vec_capacity spare.old }
+{
+    let added = spare.len();
+    match list.append(spare) {
+        Ok(()) => {}
+        Err(_) => unreachable!(),
+    }
+    list[start..].rotate_right(added);
+}
+
+/// Puts the elements of a spare in place of those from `start` to `end`, and empties the spare. What goes is rotated behind the
+/// list and cut off, and then what comes is appended and rotated into its place. A rotation clears 4,096 bytes of stack, and is
+/// faster than to reverse the elements twice all the same. One by nothing does nothing.
 pub(crate) fn replace<T: Drop>(list: &mut Vec<T>, start: usize, end: usize, spare: &mut Vec<T>)
     requires start { start ≤ end }
     requires end { end ≤ length list.old.items }
@@ -164,13 +185,6 @@ pub(crate) fn replace<T: Drop>(list: &mut Vec<T>, start: usize, end: usize, spar
     ensures room { vec_capacity list.old ≤ vec_capacity list.new }
     ensures spare_room { vec_capacity spare.new ≡ vec_capacity spare.old }
 {
-    reverse_from(list, start);
-    let left = list.len() - (end - start);
-    list.truncate(left);
-    spare.reverse();
-    match list.append(spare) {
-        Ok(()) => {}
-        Err(_) => unreachable!(),
-    }
-    reverse_from(list, start);
+    cut_out(list, start, end);
+    put_in(list, start, spare);
 }
