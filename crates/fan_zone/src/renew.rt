@@ -1,10 +1,11 @@
 ghost use Rattle.std.specs.Prelude.{◌≡◌, ◌+◌, ◌≤◌, ◌<◌, ◌++◌, bytes_eq, [], ◌∷◌, None, Some, length, map, option_copied};
 ghost use Rattle.std.specs.Option.{MatchOption};
 ghost use Rattle.std.specs.Vec.{vec_capacity};
-ghost use Rattle.std.specs.List.{list_any};
+ghost use Rattle.std.specs.List.{All, list_any};
 ghost use Rattle.fan_zone.specs.Live.{controls, fan_id, fans, items_of, zones};
 ghost use Rattle.fan_zone.specs.Sound.{HaveOwnIds, fan_plan_id, zone_plan_id};
 ghost use Rattle.fan_zone.specs.SetRows.{commands_fans, outputs_to, first_from};
+ghost use Rattle.fan_zone.specs.Settings.{HasZone};
 ghost use Rattle.inventory.specs.Items.{is_control};
 ghost use Rattle.fan_zone.specs.SetRows.{fan_plan_of, fan_row_of, find_fan, find_zone, kept_zone, plan_of, zone_row_of};
 
@@ -172,11 +173,25 @@ fn to_last<'l, 'i>(live: &'l [&'i Item]) -> &'l [&'i Item]
     &[]
 }
 
-/// The items from the first controller to the last one.
-pub(crate) fn around_controllers<'l, 'i>(live: &'l [&'i Item]) -> &'l [&'i Item]
+// The items from the first controller to the last one.
+fn around_controllers<'l, 'i>(live: &'l [&'i Item]) -> &'l [&'i Item]
     ensures { controls (items_of result.now) ≡ controls (items_of live.now) }
 {
     to_last(from_first(live))
+}
+
+/// The items from the first controller to the last one, where these are the rows of the zones. Each controller is in a zone, so
+/// where there is no zone there is none to look for.
+#[tactic(auto, using(crate::proofs::ControlsLemmas::without_zones))]
+pub(crate) fn controllers_of<'l, 'i>(rows: &[ZoneRow], live: &'l [&'i Item]) -> &'l [&'i Item]
+    requires rows { length rows.now ≡ length (zones (items_of live.now)) }
+    requires placed { All (HasZone (items_of live.now)) (controls (items_of live.now)) }
+    ensures { controls (items_of result.now) ≡ controls (items_of live.now) }
+{
+    if rows.is_empty() {
+        return &[];
+    }
+    around_controllers(live)
 }
 
 /// The number of the controller that holds a fan.

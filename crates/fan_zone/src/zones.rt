@@ -15,7 +15,7 @@ use crate::bank::Bank;
 use crate::held::Held;
 use crate::passes::{step_fans, step_thermals};
 use crate::reading::good_until;
-use crate::renew::{around_controllers, renew_fans, renew_zones};
+use crate::renew::{controllers_of, renew_fans, renew_zones};
 use crate::rows::{FanPlan, FanRow, ZonePlan, ZoneRow};
 use crate::seats::renew_seats;
 use crate::showing::{grow_ages, is_some_due, show_fans, show_zones};
@@ -115,7 +115,6 @@ impl<C: Controller> Zones<C> {
         ensures means { IsSet self.old (items_of live.now) sensors.now self.new }
         ensures exact { self.new ≡ set_to (items_of live.now) sensors.now self.old }
     {
-        let controllers = around_controllers(live);
         renew_zones(
             &mut self.zone_plans,
             &mut self.zone_rows,
@@ -123,6 +122,7 @@ impl<C: Controller> Zones<C> {
             &mut self.next_zone_rows,
             live,
         );
+        let controllers = controllers_of(&self.zone_rows, live);
         renew_fans(
             &mut self.fan_plans,
             &mut self.fan_rows,

@@ -22,7 +22,7 @@ renew_seats-requires-clause-roomy g c =
     let old = view_of i.bank i.held.items i.zone_plans.items i.zone_rows.items i.fan_plans.items i.fan_rows.items in
     let taken = kept_numbers i.held.items in
     subst (λ (cs : List LiveControl). IsRoomy i.held.items (seating [] (taken cs) (cleared (taken cs) i.bank)) cs)
-    (sym c.around_controllers-controllers.ensures)
+    (sym c.controllers_of-controllers.ensures)
     (roomy_start old live c.self.invariant.0 (subst (λ (v : ZonesView). CanSet v live) (sym c.self.view_is) c.requires))
 
 pub invariant_of-self : goal.invariant_of-self
@@ -33,23 +33,23 @@ invariant_of-self g c =
     let old = view_of i.bank i.held.items i.zone_plans.items i.zone_rows.items i.fan_plans.items i.fan_rows.items in
     let new = view_of c.renew_seats.new.bank c.renew_seats.new.held.items c.renew_zones.new.plans.items c.renew_zones.new.rows.items
     c.renew_fans.new.plans.items c.renew_fans.new.rows.items in
-    let same = c.around_controllers-controllers.ensures in
+    let same = c.controllers_of-controllers.ensures in
     let seats = λ (rows : List ZoneRow) (cs : List LiveControl). seats_by rows sensors i.held.items i.bank cs in
-    let controllers = controls (items_of c.around_controllers-controllers.result.now) in
+    let controllers = controls (items_of c.controllers_of-controllers.result.now) in
     let renews : Renews live sensors old new = record {
       zone_plans = c.renew_zones.ensures.plans;
       zone_rows = c.renew_zones.ensures.rows;
       fan_plans = c.renew_fans.ensures.plans ∙ ap (λ (cs : List LiveControl). map (fan_plan_of cs) (fans live)) same;
       fan_rows = c.renew_fans.ensures.rows;
-      bank = c.renew_seats.ensures.bank ∙ (ap (λ (rows : List ZoneRow). (seats rows controllers).bank) c.deref.ensures.value
+      bank = c.renew_seats.ensures.bank ∙ (ap (λ (rows : List ZoneRow). (seats rows controllers).bank) c.deref-2.ensures.value
           ∙ ap (λ (cs : List LiveControl). (seats c.renew_zones.new.rows.items cs).bank) same);
-      held = c.renew_seats.ensures.held ∙ (ap (λ (rows : List ZoneRow). (seats rows controllers).held) c.deref.ensures.value
+      held = c.renew_seats.ensures.held ∙ (ap (λ (rows : List ZoneRow). (seats rows controllers).held) c.deref-2.ensures.value
           ∙ ap (λ (cs : List LiveControl). (seats c.renew_zones.new.rows.items cs).held) same);
     } in
     let can = subst (λ (v : ZonesView). CanSet v live) (sym c.self.view_is) c.requires in
     let boxes : length c.renew_seats.new.bank ≡ length i.bank = ap length c.renew_seats.ensures.bank
-    ∙ length_renewed c.deref.result.now sensors i.held.items i.bank
-    (items_of c.around_controllers-controllers.result.now) in
+    ∙ length_renewed c.deref-2.result.now sensors i.held.items i.bank
+    (items_of c.controllers_of-controllers.result.now) in
     let held = c.self.invariant.1 in
     let taken = c.self.invariant.2 in
     let zone_plans = c.self.invariant.3 in
@@ -99,17 +99,17 @@ returns g c =
     let old = view_of i.bank i.held.items i.zone_plans.items i.zone_rows.items i.fan_plans.items i.fan_rows.items in
     let new = view_of c.renew_seats.new.bank c.renew_seats.new.held.items c.renew_zones.new.plans.items c.renew_zones.new.rows.items
     c.renew_fans.new.plans.items c.renew_fans.new.rows.items in
-    let same = c.around_controllers-controllers.ensures in
+    let same = c.controllers_of-controllers.ensures in
     let seats = λ (rows : List ZoneRow) (cs : List LiveControl). seats_by rows sensors i.held.items i.bank cs in
-    let controllers = controls (items_of c.around_controllers-controllers.result.now) in
+    let controllers = controls (items_of c.controllers_of-controllers.result.now) in
     let renews : Renews live sensors old new = record {
       zone_plans = c.renew_zones.ensures.plans;
       zone_rows = c.renew_zones.ensures.rows;
       fan_plans = c.renew_fans.ensures.plans ∙ ap (λ (cs : List LiveControl). map (fan_plan_of cs) (fans live)) same;
       fan_rows = c.renew_fans.ensures.rows;
-      bank = c.renew_seats.ensures.bank ∙ (ap (λ (rows : List ZoneRow). (seats rows controllers).bank) c.deref.ensures.value
+      bank = c.renew_seats.ensures.bank ∙ (ap (λ (rows : List ZoneRow). (seats rows controllers).bank) c.deref-2.ensures.value
           ∙ ap (λ (cs : List LiveControl). (seats c.renew_zones.new.rows.items cs).bank) same);
-      held = c.renew_seats.ensures.held ∙ (ap (λ (rows : List ZoneRow). (seats rows controllers).held) c.deref.ensures.value
+      held = c.renew_seats.ensures.held ∙ (ap (λ (rows : List ZoneRow). (seats rows controllers).held) c.deref-2.ensures.value
           ∙ ap (λ (cs : List LiveControl). (seats c.renew_zones.new.rows.items cs).held) same);
     } in
     let exact = set_is live sensors old new renews ∙ ap (set_to live sensors) c.self.view_is in
