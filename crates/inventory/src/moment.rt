@@ -91,12 +91,7 @@ impl<'a> Moment<'a> {
 
     /// Returns the moment of these entries, each of which comes before those behind it, without the one at this place. It looks
     /// first behind as many entries as the hint says.
-    pub fn without(
-        facts: Facts,
-        entries: &'a [Box<Entry>],
-        place: Place,
-        hint: usize,
-    ) -> Moment<'a>
+    pub fn without(facts: Facts, entries: &'a [Box<Entry>], place: Place, hint: usize) -> Moment<'a>
         requires { IsTrue (are_by_place (unboxed entries.now)) }
         ensures facts { result.facts ≡ facts }
         ensures entries { result.entries ≡ without_entry place (unboxed entries.now) }

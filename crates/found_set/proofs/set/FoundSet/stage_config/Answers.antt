@@ -101,5 +101,9 @@ returns-in_err-boxed-clause-err g c =
     ∙ ap (λ (rs : List Rule). rs ++ c.args.rule ∷ []) c.reserve-2.ensures.items in
     let kept = back c.self.inside.rules.items _ c.take_last-rule.new.self.items c.args.rule c.take_last-rule.result pushed c.take_last-rule.ensures.items in
     let failed = err_from_is_err_and c.from_residual-in_err-boxed.result c.from_residual-in_err-boxed.ensures.1 in
-    rw failed.1 (ap (λ (rs : List Rule). let seen : SetView = record { rules = rs; rows = c.self.inside.rows.items; facts = c.self.inside.facts;
-    staged = c.self.inside.staged } in seen) kept.0 ∙ c.self.view_is)
+    rw failed.1 (ap (λ (rs : List Rule). let seen : SetView = record {
+      rules = rs;
+      rows = c.self.inside.rows.items;
+      facts = c.self.inside.facts;
+      staged = c.self.inside.staged;
+    } in seen) kept.0 ∙ c.self.view_is)
