@@ -1,20 +1,22 @@
 -- The tags that are noted, one after another.
-use Rattle.std.proofs.Common.{◌≡◌, ◌∙◌, ℕ, zero, suc, ◌+◌, ◌<◌, List, [], ◌∷◌, ◌++◌, length, map, take}
-use Rattle.std.proofs.Common.{Option, Some, None, option_map, slice_get, refl, sym, ap, arith}
+use Rattle.std.proofs.Common.{◌≡◌, ◌∙◌, ℕ, zero, suc, ◌+◌, ◌<◌, Bool, false, List, [], ◌∷◌, ◌++◌, length, map, take}
+use Rattle.std.proofs.Common.{Option, Some, None, option_map, slice_get, refl, sym, ap, subst, arith}
 use Rattle.std.specs.Prelude.{filter_map, option_to_list}
-use Rattle.std.specs.List.{cons_option, flat_map, list_any}
-use Rattle.std.specs.List.Sorted.{IsStrictlySortedBy}
+use Rattle.std.specs.List.{cons_option, flat_map}
 use Rattle.std.proofs.lemmas.Grind.{flat_map-append}
 use Rattle.std.proofs.lemmas.List.{append-nil}
-use Rattle.std.proofs.lemmas.List.Folds.{list_any-append}
 use Rattle.std.proofs.lemmas.Option.{slice_get-map}
 use Rattle.cfg_json.specs.declared.item.ItemId.{ItemId}
-use Rattle.inventory.specs.Bearers.{ids_in, leads, leads_less, Lists}
-use Rattle.inventory.specs.Leads.{AreFirst, ListsMore}
+use Rattle.inventory.specs.Bearers.{ids_in, leads, Lists}
+use Rattle.inventory.specs.Leads.{AreFirst, AreTold, ListsMore}
+use Rattle.inventory.specs.declared.leads.Leads.{Leads}
 use Rattle.inventory.specs.declared.tag.Tag.{Tag}
 use Rattle.inventory.specs.declared.tags.Notes.{Notes}
+use Rattle.inventory.proofs.AmongLemmas.{more_alike, no_order}
 use Rattle.inventory.proofs.IdListsLemmas.{lists_alike}
 use Rattle.inventory.proofs.LessLemmas.{take_at}
+use Rattle.inventory.proofs.TagsLemmas.{or_none}
+use Rattle.inventory.proofs.ToldLemmas.{told_as, told_both}
 
 pub key_at : (entries : List (Tag × List ItemId)) (n : ℕ) (tag key : Tag) (ids : List ItemId)
     → slice_get (map (λ (entry : Tag × List ItemId). entry.0) entries) n ≡ Some tag → Some (key, ids) ≡ slice_get entries n → key ≡ tag
@@ -38,22 +40,41 @@ firsts_at notes tags n tag key ids firsts at entry =
     ∙ ap (option_map (λ (entry : Tag × List ItemId). slice_get (ids_in tags entry.0) 0)) (sym entry)
     ∙ ap (λ (tag : Tag). Some (slice_get (ids_in tags tag) 0)) (key_at notes.over.entries n tag key ids at entry)
 
-pub no_leads : (here there : Tag → List ItemId) → Lists [] (leads here there [])
-unfolding IsStrictlySortedBy
-no_leads here there = record { order = tt; each = λ id. refl }
+-- ---- what is told
+
+pub none_told : (here there : Tag → List ItemId) (told : Leads) → AreTold here there [] told told
+none_told here there told = record {
+  gone = λ test lists. lists_alike told.gone.items test _ lists (λ id. sym (or_none (test id)));
+  new = λ test lists. lists_alike told.new.items test _ lists (λ id. sym (or_none (test id)));
+}
 
 -- one tag more
-pub told_more : (here there : Tag → List ItemId) (compares : Tag → List Tag) (tags : List Tag) (i : ℕ) (tag : Tag) (found more : List ItemId)
-    → slice_get tags i ≡ Some tag → ListsMore found more (leads here there (compares tag))
-    → Lists found (leads here there (flat_map compares (take i tags))) → Lists more (leads here there (flat_map compares (take (i + 1) tags)))
-told_more here there compares tags i tag found more at gives lists =
-    lists_alike more _ (leads here there (flat_map compares (take (i + 1) tags))) (gives (leads here there (flat_map compares (take i tags))) lists) (λ id.
-    sym (ap (λ (tags : List Tag). leads here there (flat_map compares tags) id) (take_at tags i tag at)
-    ∙ ap (list_any (leads_less here there id))
-    (flat_map-append compares (take i tags) (tag ∷ []) ∙ ap (λ (last : List Tag). flat_map compares (take i tags) ++ last) (append-nil (compares tag)))
-    ∙ list_any-append (leads_less here there id) (flat_map compares (take i tags)) (compares tag)))
+pub told_more : (here there : Tag → List ItemId) (compares : Tag → List Tag) (tags : List Tag) (i : ℕ) (tag : Tag) (told more most : Leads)
+    → slice_get tags i ≡ Some tag → AreTold here there (flat_map compares (take i tags)) told more → AreTold here there (compares tag) more most
+    → AreTold here there (flat_map compares (take (i + 1) tags)) told most
+told_more here there compares tags i tag told more most at one two =
+    told_as here there (flat_map compares (take i tags) ++ compares tag) (flat_map compares (take (i + 1) tags)) told most
+    (sym (ap (flat_map compares) (take_at tags i tag at) ∙ flat_map-append compares (take i tags) (tag ∷ [])
+    ∙ ap (λ (last : List Tag). flat_map compares (take i tags) ++ last) (append-nil (compares tag))))
+    (told_both here there (flat_map compares (take i tags)) (compares tag) told more most one two)
 
--- one more of what is picked
+-- other tags with the same leads
+pub told_alike : (here there : Tag → List ItemId) (tags others : List Tag) (told more : Leads)
+    → ((id : ItemId) → leads here there tags id ≡ leads here there others id) → ((id : ItemId) → leads there here tags id ≡ leads there here others id)
+    → AreTold here there tags told more → AreTold here there others told more
+told_alike here there tags others told more gone new is = record {
+  gone = more_alike told.gone.items more.gone.items _ _ is.gone gone;
+  new = more_alike told.new.items more.new.items _ _ is.new new;
+}
+
+-- what is told where nothing was
+pub told_alone : (old more : List ItemId) (test : ItemId → Bool) → old ≡ [] → ListsMore old more test → Lists more test
+told_alone old more test none gives =
+    gives (λ id. false) (subst (λ (ids : List ItemId). Lists ids (λ id. false)) (sym none) (record { order = no_order; each = λ id. refl }))
+
+-- ---- what is picked
+
+-- one more
 pub picked_more : {X Y : Type 0} (pick : X → Option Y) (xs : List X) (x : X) → filter_map pick (xs ++ x ∷ []) ≡ filter_map pick xs ++ option_to_list (pick x)
 picked_more pick [] x = one (pick x)
   where

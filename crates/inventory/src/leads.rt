@@ -1,11 +1,11 @@
-ghost use Rattle.std.specs.Prelude.{◌≡◌, ◌++◌, ◌∷◌, ◌<◌, [], length, slice_get, Some, filter_map, option_map, option_to_list, not, ◌&&◌, IfOk, OnOk};
+ghost use Rattle.std.specs.Prelude.{◌≡◌, ◌++◌, ◌∷◌, ◌<◌, [], length, slice_get, Some, filter_map, option_map, option_to_list, not, ◌&&◌, OnOk};
 ghost use Rattle.std.specs.Prelude.{if◌then◌else◌, is_some, List, Option};
 ghost use Rattle.std.specs.List.{list_any};
 ghost use Rattle.std.specs.List.Sorted.{IsStrictlySortedBy};
 ghost use Rattle.std.specs.Option.{option_or};
 ghost use Rattle.indexmap.specs.IndexMap.{keys};
 ghost use Rattle.cfg_json.specs.declared.item.ItemId.{ItemId};
-ghost use Rattle.inventory.specs.Bearers.{ids_in, ids_or_none, ids_over, is_empty, is_id, leads, member_tag, name_tag, touched, Lists};
+ghost use Rattle.inventory.specs.Bearers.{ids_in, ids_or_none, ids_over, is_empty, is_id, member_tag, name_tag, touched};
 ghost use Rattle.inventory.specs.Follows.{item_of};
 ghost use Rattle.inventory.specs.Items.{id_eq};
 ghost use Rattle.inventory.specs.Leads.{compared, is_held, AreFirst, AreInOrder, AreTold, IsLead, ListsMore};
@@ -125,6 +125,17 @@ fn are_some(ids: Option<&Ids>) -> bool
 }
 
 impl Leads {
+    /// Returns the ids of no items.
+    pub(crate) fn none(alloc: Global) -> Leads
+        ensures gone { result.gone.items ≡ [] }
+        ensures new { result.new.items ≡ [] }
+    {
+        Leads {
+            gone: Vec::new(alloc),
+            new: Vec::new(alloc),
+        }
+    }
+
     // Tells the first ids for a name.
     fn add_lead(&mut self, lead: Lead) -> Result<(), OutOfMemory>
         ensures gone { OnOk result (ListsMore self.entry.now.gone.items self.exit.now.gone.items
@@ -205,23 +216,18 @@ impl Leads {
             }
         }
     }
-}
 
-/// Compares the ids that are noted for each tag with those that are kept.
-pub(crate) fn find_leads(alloc: Global, notes: &Notes, tags: &Tags) -> Result<Leads, OutOfMemory>
-    ensures gone { AreInOrder notes.now tags.now.entries → IfOk result (λ found. Lists found.gone.items
-        (leads (ids_in tags.now.entries) (ids_over notes.now.over.entries tags.now.entries) (touched (keys notes.now.over)))) }
-    ensures new { AreInOrder notes.now tags.now.entries → IfOk result (λ found. Lists found.new.items
-        (leads (ids_over notes.now.over.entries tags.now.entries) (ids_in tags.now.entries) (touched (keys notes.now.over)))) }
-{
-    let mut found = Leads {
-        gone: Vec::new(alloc),
-        new: Vec::new(alloc),
-    };
-    for i in 0..notes.over.len() {
-        found.add_tag(notes, tags, i)?;
+    /// Compares the ids that are noted for each tag with those that are kept, and tells what changes.
+    pub(crate) fn find(&mut self, notes: &Notes, tags: &Tags) -> Result<(), OutOfMemory>
+        ensures { let here = ids_in tags.now.entries in let there = ids_over notes.now.over.entries tags.now.entries in
+            AreInOrder notes.now tags.now.entries
+            → OnOk result (AreTold here there (touched (keys notes.now.over)) self.entry.now self.exit.now) }
+    {
+        for i in 0..notes.over.len() {
+            self.add_tag(notes, tags, i)?;
+        }
+        Ok(())
     }
-    Ok(found)
 }
 
 // Borrows the item with an id, which is in the first boards or else in the others.
@@ -245,19 +251,19 @@ fn copy_item(alloc: Global, list: &mut ItemList, item: Option<&Item>) -> Result<
     Ok(())
 }
 
-/// Lists copies of the items with these ids, which are in the first boards or else in the others.
-pub(crate) fn copy_items(
+/// Appends copies of the items with these ids, which are in the first boards or else in the others.
+pub(crate) fn append_copies(
     alloc: Global,
+    list: &mut ItemList,
     ids: &[ItemId],
     boards: &[Shown],
     others: &[Shown],
-) -> Result<ItemList, OutOfMemory>
-    ensures { AreShown boards.now → AreShown others.now → IfOk result (λ list. list
-        ≡ filter_map (λ id. option_or (item_of (items_of boards.now) id) (item_of (items_of others.now) id)) ids.now) }
+) -> Result<(), OutOfMemory>
+    ensures { AreShown boards.now → AreShown others.now → OnOk result (list.new ≡ list.old
+        ++ filter_map (λ id. option_or (item_of (items_of boards.now) id) (item_of (items_of others.now) id)) ids.now) }
 {
-    let mut list = ItemList::new(alloc);
     for id in ids {
-        copy_item(alloc, &mut list, item_in(boards, others, id))?;
+        copy_item(alloc, list, item_in(boards, others, id))?;
     }
-    Ok(list)
+    Ok(())
 }

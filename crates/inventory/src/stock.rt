@@ -16,7 +16,7 @@ ghost use Rattle.inventory.specs.declared.tag.Tag.{Tag};
 
 use crate::coming::show_coming;
 use crate::ids::is_same;
-use crate::leads::{copy_items, find_leads};
+use crate::leads::{Leads, append_copies};
 use crate::shown::Shown;
 use crate::shown_boards::{insert_boards, item_at, remove_boards};
 use crate::tag::name_tag;
@@ -71,6 +71,19 @@ pub struct ItemDifference {
     pub new: ItemList,
 }
 
+impl ItemDifference {
+    // Returns a difference of no items.
+    fn none(alloc: Global) -> ItemDifference
+        ensures gone { result.gone ≡ [] }
+        ensures new { result.new ≡ [] }
+    {
+        ItemDifference {
+            gone: ItemList::new(alloc),
+            new: ItemList::new(alloc),
+        }
+    }
+}
+
 // Copies keys.
 fn copy_keys(alloc: Global, keys: &[BoardKey]) -> Result<Vec<BoardKey>, OutOfMemory>
     ensures { IfOk result (λ copy. copy.items ≡ keys.now) }
@@ -117,11 +130,12 @@ pub(crate) fn compare(
         → IfOk result (λ difference. difference.new
         ≡ filter_map (λ id. option_or (item_of (items_of new.now) id) (item_of (items_of boards.now) id)) ids) }
 {
-    let leads = find_leads(alloc, notes, tags)?;
-    Ok(ItemDifference {
-        gone: copy_items(alloc, &leads.gone, boards, new)?,
-        new: copy_items(alloc, &leads.new, new, boards)?,
-    })
+    let mut leads = Leads::none(alloc);
+    leads.find(notes, tags)?;
+    let mut difference = ItemDifference::none(alloc);
+    append_copies(alloc, &mut difference.gone, &leads.gone, boards, new)?;
+    append_copies(alloc, &mut difference.new, &leads.new, new, boards)?;
+    Ok(difference)
 }
 
 impl Stock {
