@@ -33,5 +33,6 @@ pub mod FollowsLemmas
 pub mod StepLemmas
 pub mod SoundLemmas
 pub mod ComingLemmas
+pub mod NamingKeysLemmas
 pub mod CallersLemmas
 pub mod OwnNamesLemmas

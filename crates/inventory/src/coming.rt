@@ -49,12 +49,14 @@ fn list_coming<L: Ledger>(
     let mut number = None;
     let mut last = 0;
     for key in keys {
+        // All boards of a configuration are naming or none is, so the others need no index.
+        if !is_naming(shelf, plus, key) {
+            continue;
+        }
         last = last_of(keep, number, last, key.config);
         number = Some(key.config);
         let index = give_index(keep, key, &mut last)?;
-        if is_naming(shelf, plus, key) {
-            boards.push(Board { key: *key, index })?;
-        }
+        boards.push(Board { key: *key, index })?;
     }
     Ok(boards)
 }
