@@ -1,7 +1,7 @@
 -- Rows by place: with one more, and without one.
 use Rattle.std.proofs.Common.{◌≡◌, ◌∙◌, ℕ, suc, ◌+◌, ◌-◌, ◌≤◌, ◌<◌, Bool, true, false, cond, not, ◌&&◌, ◌||◌, List, [], ◌∷◌, ◌++◌, length, get_or}
-use Rattle.std.proofs.Common.{take, drop, Some, None, refl, nat_lt, ap, ap₂, sym, arith}
-use Rattle.std.specs.Prelude.{position, filter}
+use Rattle.std.proofs.Common.{take, drop, Option, Some, None, refl, nat_lt, ap, ap₂, sym, arith}
+use Rattle.std.specs.Prelude.{position, filter, IsSome}
 use Rattle.std.specs.List.{list_all, list_any, insert, remove, position_or_len}
 use Rattle.std.specs.Ordering.{is_lt, is_eq, ordering_reverse}
 use Rattle.std.specs.declared.cmp.Ordering.{Ordering}
@@ -176,11 +176,16 @@ by_place_without place (row ∷ rows) ordered =
     by true first rest = both_true _ _ first rest
     by false first rest = rest
 
--- a place without a number is not there
-pub none_without : (place : Place) (rows : List Row) → position (is_row_at place) rows ≡ None → rows ≡ without_row place rows
-none_without place rows told = sym (none_filtered (is_row_at place) rows (not_among (is_row_at place) rows told))
+-- where a row passes, the first that does has a position
+pub is_there : (test : Row → Bool) (rows : List Row) → list_any test rows ≡ true → IsSome (position test rows)
+is_there test rows passes = by (position test rows) refl
+  where
+    by : (found : Option ℕ) → position test rows ≡ found → IsSome found
+    by None absent = absurd (cc (not_among test rows absent))
+    by (Some at) told = refl
 
-within : (test : Row → Bool) (rows : List Row) → position_or_len test rows ≤ length rows
+-- the first that passes, or the end, is within
+pub within : (test : Row → Bool) (rows : List Row) → position_or_len test rows ≤ length rows
 within test [] = omega arith
 within test (row ∷ rows) = by (test row) (within test rows)
   where

@@ -1,6 +1,6 @@
-ghost use Rattle.std.specs.Prelude.{◌≡◌, ◌≤◌, IfOk, length, position};
+ghost use Rattle.std.specs.Prelude.{◌≡◌, ◌≤◌, true, IfOk, Some, length, position};
 ghost use Rattle.std.specs.List.{position_or_len};
-ghost use Rattle.found_set.specs.Rows.{row_of, is_idle, is_row_at, is_row_after};
+ghost use Rattle.found_set.specs.Rows.{row_of, is_idle, is_row_at, is_row_after, holds_place};
 
 use bmc_base::{OutOfMemory, Place};
 use probe_lang::{Channels, Entry, Hits};
@@ -56,8 +56,17 @@ pub(crate) fn position_for(rows: &[Row], place: Place) -> usize
 }
 
 // Returns where the row at this place is, or `None`.
-pub(crate) fn position_at(rows: &[Row], place: Place) -> Option<usize>
+fn find_at(rows: &[Row], place: Place) -> Option<usize>
     ensures { result ≡ position (is_row_at place) rows.now }
 {
     rows.iter().position(|row| row.place == place)
+}
+
+// Returns where the row at this place is. One is there.
+#[tactic(auto, using(crate::proofs::RowsLemmas::is_there))]
+pub(crate) fn position_at(rows: &[Row], place: Place) -> usize
+    requires { holds_place rows.now place ≡ true }
+    ensures { position (is_row_at place) rows.now ≡ Some result }
+{
+    find_at(rows, place).unwrap()
 }

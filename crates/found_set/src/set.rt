@@ -1,8 +1,9 @@
-ghost use Rattle.std.specs.Prelude.{◌≡◌, ◌<◌, ◌+◌, ◌*◌, [], None, true, false, length, IfOk, OnOk, OnErr};
+ghost use Rattle.std.specs.Prelude.{◌≡◌, ◌<◌, ◌+◌, ◌*◌, [], Some, None, true, false, length, position, IfOk, OnOk, OnErr};
+ghost use Rattle.std.specs.List.{position_or_len};
 ghost use Rattle.bmc_base.specs.Steps.{IsWithin};
 ghost use Rattle.found_set.specs.Marks.{most_rules};
 ghost use Rattle.found_set.specs.Found.{facts, rule_of, number_of};
-ghost use Rattle.found_set.specs.Rows.{row_of, sights_of, holds_place, IsKnown};
+ghost use Rattle.found_set.specs.Rows.{row_of, sights_of, is_row_at, is_row_after, holds_place, IsKnown};
 ghost use Rattle.found_set.specs.Events.{facts_after, most_evals, ConfigEvent, PlugEvent, UnplugEvent};
 ghost use Rattle.found_set.specs.Sets.{Prepares, IsStaged, committed, empty_set, after, as_staged};
 
@@ -118,8 +119,9 @@ impl<L: Ledger> FoundSet<L> {
     {
         self.unstage();
         let row = Row::of(alloc, entry)?;
-        let facts = self.facts_with(&row, steps);
-        self.stage_plug(row, &facts)?;
+        let at = position_for(&self.rows, row.place);
+        let facts = self.facts_with(at, &row, steps);
+        self.stage_plug(at, row, &facts)?;
         let key = EventKey::Plug(entry.place);
         Ok(NextFacts { key, facts })
     }
@@ -137,8 +139,9 @@ impl<L: Ledger> FoundSet<L> {
         ensures { Prepares self.old self.new (UnplugEvent place) result steps.old steps.new }
     {
         self.unstage();
-        let facts = self.facts_without(place, steps);
-        self.stage_unplug(place, &facts);
+        let at = position_at(&self.rows, place);
+        let facts = self.facts_without(at, place, steps);
+        self.stage_unplug(at, place, &facts);
         let key = EventKey::Unplug(place);
         Ok(NextFacts { key, facts })
     }
@@ -171,12 +174,13 @@ impl<L: Ledger> FoundSet<L> {
         self.staged = None;
     }
 
-    // Returns the facts with one row more.
-    fn facts_with(&self, row: &Row, steps: &mut Steps<L>) -> Facts
+    // Returns the facts with one row more, which belongs here.
+    #[tactic(auto, using(crate::proofs::RowsLemmas::within))]
+    fn facts_with(&self, at: usize, row: &Row, steps: &mut Steps<L>) -> Facts
+        requires here { at ≡ position_or_len (is_row_after row.now.place) self.now.rows }
         ensures facts { result ≡ facts_after (PlugEvent row.now) self.now.rules self.now.rows }
         ensures counted { IsWithin steps.old steps.new (most_evals (PlugEvent row.now) self.now.rules self.now.rows) }
     {
-        let at = position_for(&self.rows, row.place);
         let others = Parts::of(&self.rows[..at], &self.rows[at..]);
         let rows = Parts::with(&self.rows[..at], row, &self.rows[at..]);
         reevaluate(
@@ -190,14 +194,12 @@ impl<L: Ledger> FoundSet<L> {
         )
     }
 
-    // Returns the facts without the row at a place.
-    fn facts_without(&self, place: Place, steps: &mut Steps<L>) -> Facts
+    // Returns the facts without the row at a place, which is here.
+    fn facts_without(&self, at: usize, place: Place, steps: &mut Steps<L>) -> Facts
+        requires here { position (is_row_at place) self.now.rows ≡ Some at }
         ensures facts { result ≡ facts_after (UnplugEvent place) self.now.rules self.now.rows }
         ensures counted { IsWithin steps.old steps.new (most_evals (UnplugEvent place) self.now.rules self.now.rows) }
     {
-        let Some(at) = position_at(&self.rows, place) else {
-            return self.facts.copied();
-        };
         let row = &self.rows[at];
         let others = Parts::of(&self.rows[..at], &self.rows[at + 1..]);
         reevaluate(
@@ -237,25 +239,27 @@ impl<L: Ledger> FoundSet<L> {
         Ok(facts)
     }
 
-    // Stages a row, with room for it, and the facts with it.
-    fn stage_plug(&mut self, row: Row, facts: &Facts) -> Result<(), OutOfMemory>
+    // Stages a row that belongs here, with room for it, and the facts with it.
+    fn stage_plug(&mut self, at: usize, row: Row, facts: &Facts) -> Result<(), OutOfMemory>
         requires bare { self.old.staged ≡ None }
+        requires here { at ≡ position_or_len (is_row_after row.place) self.old.rows }
         requires new { holds_place self.old.rows row.place ≡ false }
         requires facts { facts.now ≡ facts_after (PlugEvent row) self.old.rules self.old.rows }
         ensures ok { OnOk result (self.new ≡ as_staged self.old (Some (after (PlugEvent row) self.old))) }
         ensures err { OnErr result (self.new ≡ self.old) }
     {
         self.rows.reserve(1)?;
-        self.staged = Some(Staged::of(Event::Plug(row), facts));
+        self.staged = Some(Staged::of(Event::Plug { at, row }, facts));
         Ok(())
     }
 
-    // Stages that the row at a place goes, and the facts without it.
-    fn stage_unplug(&mut self, place: Place, facts: &Facts)
+    // Stages that the row at a place, which is here, goes, and the facts without it.
+    fn stage_unplug(&mut self, at: usize, place: Place, facts: &Facts)
         requires bare { self.old.staged ≡ None }
+        requires here { position (is_row_at place) self.old.rows ≡ Some at }
         requires facts { facts.now ≡ facts_after (UnplugEvent place) self.old.rules self.old.rows }
         ensures { self.new ≡ as_staged self.old (Some (after (UnplugEvent place) self.old)) }
     {
-        self.staged = Some(Staged::of(Event::Unplug(place), facts));
+        self.staged = Some(Staged::of(Event::Unplug { at, place }, facts));
     }
 }

@@ -1,24 +1,24 @@
-ghost use Rattle.std.specs.Prelude.{◌≡◌, ◌<◌, true, vec_len, vec_capacity};
-ghost use Rattle.found_set.specs.Rows.{with_row, without_row, are_by_place};
+ghost use Rattle.std.specs.Prelude.{◌≡◌, ◌<◌, vec_len, vec_capacity};
+ghost use Rattle.std.specs.List.{position_or_len};
+ghost use Rattle.found_set.specs.Rows.{with_row, is_row_after};
 ghost use Rattle.found_set.specs.Staging.{event_of, HasRoom};
 ghost use Rattle.found_set.specs.Events.{names_after, rules_after, rows_after};
 
 use crate::facts::Facts;
 use crate::names::Names;
-use crate::row::{Row, position_at, position_for};
+use crate::row::Row;
 use crate::rule::Rule;
 use bmc_base::{Ledger, Place};
-use std::marker::Model;
 
 // What comes or goes. It is moved as it is staged and taken over, so a rule, which is large, is in a box.
 #[derive(Drop)]
 pub(crate) enum Event<L: Ledger> {
     // A configuration comes.
     Config(Box<Rule<L>>),
-    // A FRU comes.
-    Plug(Row),
-    // The FRU at a place goes.
-    Unplug(Place),
+    // A FRU comes. Its row belongs here.
+    Plug { at: usize, row: Row },
+    // The FRU at a place goes. Its row is here.
+    Unplug { at: usize, place: Place },
 }
 
 // An event that is staged, and the facts after it.
@@ -28,19 +28,10 @@ pub(crate) struct Staged<L: Ledger> {
     facts: Facts,
 }
 
-impl<L: Ledger> Model for Staged<L> {
-    ghost use Rattle.found_set.specs.Events.{Staged};
-    ghost use Rattle.found_set.specs.Staging.{event_of};
-
-    ghost Value = { Staged };
-
-    ghost view = { λ s. record { event = event_of s.event; facts = s.facts } };
-}
-
 impl<L: Ledger> Staged<L> {
     // Returns an event with a copy of the facts after it.
     pub(crate) fn of(event: Event<L>, facts: &Facts) -> Staged<L>
-        ensures { result ≡ record { event = event_of event; facts = facts.now } }
+        ensures { result ≡ record { event = event; facts = facts.now } }
     {
         Staged {
             event,
@@ -57,9 +48,9 @@ impl<L: Ledger> Staged<L> {
     ) -> Facts
         requires { HasRoom self.event names.old rules.old rows.old }
         ensures facts { result ≡ self.facts }
-        ensures names { names.new.names ≡ names_after self.event names.old.names }
-        ensures rules { rules.new.items ≡ rules_after self.event rules.old.items }
-        ensures rows { rows.new.items ≡ rows_after self.event rows.old.items }
+        ensures names { names.new.names ≡ names_after (event_of self.event) names.old.names }
+        ensures rules { rules.new.items ≡ rules_after (event_of self.event) rules.old.items }
+        ensures rows { rows.new.items ≡ rows_after (event_of self.event) rows.old.items }
     {
         let Staged { event, facts } = self;
         match event {
@@ -67,30 +58,23 @@ impl<L: Ledger> Staged<L> {
                 names.add(rule.name());
                 rules.push_reserved(Box::into_inner(rule));
             }
-            Event::Plug(row) => insert_row(rows, row),
-            Event::Unplug(place) => discard_row(rows, place),
+            Event::Plug { at, row } => insert_row(rows, at, row),
+            Event::Unplug { at, .. } => {
+                let _row = rows.remove(at);
+            }
         }
         facts
     }
 }
 
-// Inserts a row by place. Takes no memory.
-fn insert_row(rows: &mut Vec<Row>, row: Row)
-    requires { vec_len rows.old < vec_capacity rows.old }
+// Inserts a row where it belongs. Takes no memory.
+fn insert_row(rows: &mut Vec<Row>, at: usize, row: Row)
+    requires room { vec_len rows.old < vec_capacity rows.old }
+    requires here { at ≡ position_or_len (is_row_after row.place) rows.old.items }
     ensures { rows.new.items ≡ with_row row rows.old.items }
 {
-    match rows.insert(position_for(rows, row.place), row) {
+    match rows.insert(at, row) {
         Ok(()) => {}
         Err(_) => unreachable!(),
-    }
-}
-
-// Discards the row at a place. Takes no memory.
-fn discard_row(rows: &mut Vec<Row>, place: Place)
-    requires { are_by_place rows.old.items ≡ true }
-    ensures { rows.new.items ≡ without_row place rows.old.items }
-{
-    if let Some(at) = position_at(rows, place) {
-        let _row = rows.remove(at);
     }
 }

@@ -1,34 +1,36 @@
 -- A rule is pushed, evaluated with, and popped again.
-use Rattle.std.proofs.Common.{◌≡◌, ◌∙◌, ◌+◌, ◌<◌, ◌≤◌, List, [], ◌∷◌, ◌++◌, length, ap, ap₂, sym, refl, subst, None, arith, append-nil, length-append}
+use Rattle.std.proofs.Common.{◌≡◌, ◌∙◌, ℕ, ◌+◌, ◌*◌, ◌<◌, ◌≤◌, List, [], ◌∷◌, ◌++◌, length, ap, ap₂, sym, refl, subst, None, arith, append-nil, length-append}
 use Rattle.std.proofs.Common.{vec_len, vec_capacity}
-use Rattle.std.specs.Prelude.{bytes_eq, position}
+use Rattle.std.specs.Prelude.{bytes_eq, option_map, position}
 use Rattle.std.proofs.lemmas.Result.{err_from_is_err_and}
+use Rattle.bmc_base.specs.Steps.{IsWithin}
 use Rattle.found_set.specs.declared.facts.Facts.{Facts}
 use Rattle.found_set.specs.declared.row.Row.{Row}
 use Rattle.found_set.specs.Found.{Rule, facts, matched_by, number_of, roots}
 use Rattle.found_set.specs.Rows.{sights_of}
 use Rattle.found_set.specs.Sets.{SetView}
 use Rattle.found_set.specs.Events.{Staged, ConfigEvent, facts_after}
+use Rattle.found_set.specs.Staging.{staged_of}
 use Rattle.found_set.proofs.NamedLemmas.{number_by_name}
 use Rattle.found_set.proofs.EarlierLemmas.{nothing_holds}
-use Rattle.found_set.proofs.InsidesLemmas.{bare_as, only, sound_with, seen_with, back}
+use Rattle.found_set.proofs.InsidesLemmas.{bare_as, unstaged, only, sound_with, seen_with, back}
 use Rattle.found_set.proofs.set.FoundSet.stage_config.Goals as goal
 
 pub invariant_of-self : goal.invariant_of-self
 invariant_of-self g c =
-    let none = ap (λ (v : SetView). v.staged) c.self.view_is ∙ c.requires.bare in
+    let none = unstaged c.self.inside.staged (ap (λ (v : SetView). v.staged) c.self.view_is ∙ c.requires.bare) in
     sound_with c.self.inside c.reserve.new.self c.self.inside.rules c.self.inside.rows c.self.inside.staged c.self.invariant c.reserve.ensures.names refl refl
     (bare_as _ _ none) (bare_as _ _ none)
 
 pub invariant_of-self-in_err-reserve-2 : goal.invariant_of-self-in_err-reserve-2
 invariant_of-self-in_err-reserve-2 g c =
-    let none = ap (λ (v : SetView). v.staged) c.self.view_is ∙ c.requires.bare in
+    let none = unstaged c.self.inside.staged (ap (λ (v : SetView). v.staged) c.self.view_is ∙ c.requires.bare) in
     sound_with c.self.inside c.reserve.new.self c.reserve-2.new.self c.self.inside.rows c.self.inside.staged c.self.invariant
     c.reserve.ensures.names c.reserve-2.ensures.items refl (bare_as _ _ none) (bare_as _ _ none)
 
 pub invariant_of-self-in_err-boxed : goal.invariant_of-self-in_err-boxed
 invariant_of-self-in_err-boxed g c =
-    let none = ap (λ (v : SetView). v.staged) c.self.view_is ∙ c.requires.bare in
+    let none = unstaged c.self.inside.staged (ap (λ (v : SetView). v.staged) c.self.view_is ∙ c.requires.bare) in
     let pushed : c.push_reserved.new.self.items ≡ c.self.inside.rules.items ++ c.args.rule ∷ [] = c.push_reserved.ensures.items
     ∙ ap (λ (rs : List Rule). rs ++ c.args.rule ∷ []) c.reserve-2.ensures.items in
     let kept = back c.self.inside.rules.items _ c.take_last-rule.new.self.items c.args.rule c.take_last-rule.result pushed c.take_last-rule.ensures.items in
@@ -91,9 +93,9 @@ returns-clause-staged g c =
     ∙ ap₂ (λ (rs : List Rule) (ws : List Row). facts rs (sights_of ws)) (c.deref-2.ensures.value ∙ pushed)
     (c.of-rows.ensures ∙ append-nil _ ∙ c.deref.ensures.value)
     ∙ ap (λ (v : SetView). facts_after (ConfigEvent c.args.rule) v.rules v.rows) c.self.view_is in
-    seen_with c.args.self.now c.take_last-rule.new.self.items c.self.inside.rows.items c.self.inside.facts c.of.result _ (kept.0
+    seen_with c.args.self.now c.take_last-rule.new.self.items c.self.inside.rows.items c.self.inside.facts (staged_of c.of.result) _ (kept.0
     ∙ ap (λ (v : SetView). v.rules) c.self.view_is) (ap (λ (v : SetView). v.rows) c.self.view_is) (ap (λ (v : SetView). v.facts) c.self.view_is)
-    (c.of.ensures ∙ ap₂ (λ (r : Rule) (f : Facts). let s : Staged = record { event = ConfigEvent r; facts = f } in s) held told)
+    (ap staged_of c.of.ensures ∙ ap₂ (λ (r : Rule) (f : Facts). let s : Staged = record { event = ConfigEvent r; facts = f } in s) held told)
 
 pub returns-in_err-boxed-clause-err : goal.returns-in_err-boxed-clause-err
 returns-in_err-boxed-clause-err g c =
@@ -105,5 +107,14 @@ returns-in_err-boxed-clause-err g c =
       rules = rs;
       rows = c.self.inside.rows.items;
       facts = c.self.inside.facts;
-      staged = c.self.inside.staged;
+      staged = option_map staged_of c.self.inside.staged;
     } in seen) kept.0 ∙ c.self.view_is)
+
+pub returns-clause-counted : goal.returns-clause-counted
+returns-clause-counted g c =
+    let pushed : c.push_reserved.new.self.items ≡ c.args.self.now.rules ++ c.args.rule ∷ [] =
+    c.push_reserved.ensures.items ∙ ap (λ (rs : List Rule). rs ++ c.args.rule ∷ []) c.reserve-2.ensures.items
+    ∙ ap (λ (v : SetView). v.rules ++ c.args.rule ∷ []) c.self.view_is in
+    let more : length c.deref-2.result.now ≡ length c.args.self.now.rules + 1 =
+    ap length (c.deref-2.ensures.value ∙ pushed) ∙ length-append c.args.self.now.rules (c.args.rule ∷ []) in
+    subst (λ (n : ℕ). IsWithin c.args.steps.now c.evaluate-facts.new.steps (2 * n)) more c.evaluate-facts.ensures.counted
