@@ -25,7 +25,7 @@ use Rattle.bmc_watch.specs.ItemSteps.{Continues}
 use Rattle.bmc_watch.specs.Settling.{Settles, SettlesUnless}
 use Rattle.bmc_watch.specs.Watches.{WatchView, view_refusal}
 use Rattle.bmc_watch.specs.Steps.{AddsFru, AddsUnless, with_fru}
-use Rattle.bmc_watch.proofs.EventsLemmas.{IsSeen, on_err, new_place, known_entry, free_there, plug_among, busy_plugged, seen, difference_is, gone_within}
+use Rattle.bmc_watch.proofs.EventsLemmas.{IsSeen, on_err, not_ok, new_place, known_entry, free_there, plug_among, busy_plugged, seen, difference_is, gone_within}
 use Rattle.bmc_watch.proofs.EventsLemmas.{staged_within, tells_those}
 use Rattle.bmc_watch.proofs.EventsLemmas.{set_after, rows_plugged}
 use Rattle.match_rows.proofs.RowsLemmas.{with_entry_by_place}
@@ -189,6 +189,19 @@ invariant_of-self-in_err-items g c = record {
   room = c.self.invariant.room;
 }
 
+pub returns-in_err-difference-clause-same : goal.returns-in_err-difference-clause-same
+returns-in_err-difference-clause-same g c =
+    on_err c.from_residual-in_err-difference.result (
+      record {
+        configs = ap (λ (view : WatchView). view.configs) c.self.view_is;
+        entries = c.in_ok-reserve.ensures.entries ∙ ap (λ (view : WatchView). view.entries) c.self.view_is;
+        plugged = ap (λ (view : WatchView). view.plugged) c.self.view_is;
+        kept = λ number. ap (λ (view : WatchView). kept_of view.kept number) c.self.view_is;
+        changes = ap (λ (view : WatchView). view.changes) c.self.view_is;
+      },
+      record { names = refl; slots = refl },
+    )
+
 pub returns-in_err-items-clause-same : goal.returns-in_err-items-clause-same
 returns-in_err-items-clause-same g c =
     on_err c.from_residual-in_err-items.result (
@@ -215,6 +228,9 @@ invariant_of-self-in_err-gone g c = record {
       c.self.inside.stock.items c.stage_changes.ensures.kept c.self.invariant.stock);
   room = omega (arith, c.self.invariant.room, c.stage_changes.ensures.more);
 }
+
+pub returns-in_err-gone-clause-ok : goal.returns-in_err-gone-clause-ok
+returns-in_err-gone-clause-ok g c = not_ok _ _ c.from_residual-in_err-gone.result c.from_residual-in_err-gone.ensures.1
 
 pub returns-in_err-gone-clause-same : goal.returns-in_err-gone-clause-same
 returns-in_err-gone-clause-same g c =
