@@ -3,6 +3,7 @@ pub mod BoardLemmas
 pub mod BoardsLemmas
 pub mod IndexesLemmas
 pub mod MomentsLemmas
+pub mod OtherwiseLemmas
 pub mod KeepingLemmas
 pub mod DifferencesLemmas
 pub mod OrderLemmas

@@ -1,5 +1,7 @@
 -- The entries of a moment, and the boards of one configuration.
-use Rattle.std.specs.Prelude.{ℕ, ◌≡◌, ◌<◌, ◌&&◌, Bool, false, IsTrue, ⊤, ◌⊎◌, if◌then◌else◌, List, [], ◌∷◌, ◌++◌, map, Option, Some, None}
+use Rattle.std.specs.Prelude.{ℕ, ◌≡◌, ◌<◌, ◌&&◌, ◌||◌, not, Bool, true, false, IsTrue, IsSome, ⊤, ◌⊎◌, if◌then◌else◌, List, [], ◌∷◌, ◌++◌, filter, map, slice_get, Option, Some, None}
+use Rattle.std.proofs.Math.Bool.{beq}
+use Rattle.std.specs.Borrow.{Bor}
 use Rattle.std.specs.List.{AllByRecursion}
 use Rattle.std.specs.List.Sorted.{IsStrictlySortedBy}
 use Rattle.std.specs.Option.{option_eq, option_cmp}
@@ -13,6 +15,9 @@ use Rattle.found_set.specs.declared.facts.Facts.{Facts}
 use Rattle.inventory.specs.Boards.{has_board, hit_places, places_or_none}
 use Rattle.inventory.specs.Indexes.{except}
 use Rattle.inventory.specs.Differences.{Moment, IsMarkedBy, key_of}
+use Rattle.inventory.specs.declared.apart.Apart.{Apart}
+use Rattle.inventory.specs.declared.apart.Apart.TheVariants as known
+use Rattle.inventory.specs.declared.apart.Otherwise.{Otherwise}
 use Rattle.inventory.specs.declared.board.BoardKey.{BoardKey}
 
 -- the places of the entries on reachable buses that a pattern of a configuration matches
@@ -30,6 +35,12 @@ boards_now match_one found reach moment number = if found number then found_boar
 -- the keys of the boards of a configuration that are here and not there
 abbrev pub left : ℕ → List (Option Place) → List (Option Place) → List BoardKey
 left number here there = map (key_of number) (except (has_board there) here)
+
+-- the new keys are the old ones, and behind them those of the boards of a configuration that are here and not there
+abbrev pub PushesLeft : ℕ → Bool → Moment → Moment → List BoardKey → List BoardKey → Type 0
+PushesLeft number match_one here there old new =
+    (found reach found_there reach_there : ℕ → Bool) → IsMarkedBy here.facts found reach → IsMarkedBy there.facts found_there reach_there
+    → new ≡ old ++ left number (boards_now match_one found reach here number) (boards_now match_one found_there reach_there there number)
 
 -- the keys of the boards of one more configuration, if there is one
 abbrev pub plus_keys : (ℕ → Bool) → (ℕ → Bool) → Moment → ℕ → Option Config → List BoardKey
@@ -70,15 +81,51 @@ MarksSeenOtherwise old new facts facts_after entries =
     → (is_marked old number ≡ false) × ((reach reach_after : ℕ → Bool) → AreMarked facts.reach reach → AreMarked facts_after.reach reach_after
     → AreHitAlike reach reach_after number entries)
 
+-- the entries behind some references
+abbrev pub entries_of : List (Bor Entry) → List Entry
+entries_of refs = map (λ (ref : Bor Entry). ref.now) refs
+
+-- whether a place is this one, or on a bus of which both tests do not say the same
+abbrev pub is_otherwise : (ℕ → Bool) → (ℕ → Bool) → Place → Place → Bool
+is_otherwise reach reach_after changed place = place_eq place changed || not (beq (reach place.bus) (reach_after place.bus))
+
+-- the entries at such places
+abbrev pub otherwise_of : (ℕ → Bool) → (ℕ → Bool) → Place → List Entry → List Entry
+otherwise_of reach reach_after changed entries = filter (λ (entry : Entry). is_otherwise reach reach_after changed entry.place) entries
+
+-- the references are to such entries of the first moment
+abbrev pub AreOtherwise : List (Bor Entry) → Moment → Moment → Place → Type 0
+AreOtherwise refs moment other changed =
+    (reach reach_other : ℕ → Bool) → AreMarked moment.facts.reach reach → AreMarked other.facts.reach reach_other
+    → entries_of refs ≡ otherwise_of reach reach_other changed moment.entries
+
 -- this entry alone comes or goes, and each other is seen as before
 pub record IsLone (entry : Entry) (before after : Moment) : Type 0 where
   pub apart : IsApartBy entry before.entries after.entries
   pub alike : AreAllSeenAlike before after
 
--- the same, if an entry is given
-abbrev pub IsLoneIf : Option Entry → Moment → Moment → Type 0
-IsLoneIf None before after = ⊤
-IsLoneIf (Some entry) before after = IsLone entry before after
+-- this entry alone comes or goes, and these of both moments are it, or are seen at one of them alone
+pub record AreApart (seen : Otherwise) (before after : Moment) : Type 0 where
+  pub changed : Entry
+  pub apart : IsApartBy changed before.entries after.entries
+  pub otherwise : AreOtherwise seen.before.items before after changed.place
+  pub otherwise_after : AreOtherwise seen.after.items after before changed.place
+
+-- this is known of two moments
+abbrev pub IsApart : Apart → Moment → Moment → Type 0
+IsApart known.Unknown before after = ⊤
+IsApart (known.Lone entry) before after = IsLone entry.now before after
+IsApart (known.Several seen) before after = AreApart seen before after
+
+-- a configuration is found at both moments
+abbrev pub AreBothFound : ℕ → Moment → Moment → Type 0
+AreBothFound number before after = (is_marked before.facts.found number ≡ true) × (is_marked after.facts.found number ≡ true)
+
+-- and it has a hit at both
+pub record HasBoth (number : ℕ) (before after : Moment) : Type 0 where
+  pub found : AreBothFound number before after
+  pub hit : (reach : ℕ → Bool) → AreMarked before.facts.reach reach → IsSome (slice_get (hit_places reach (map entry_sight before.entries) number) 0)
+  pub hit_after : (reach : ℕ → Bool) → AreMarked after.facts.reach reach → IsSome (slice_get (hit_places reach (map entry_sight after.entries) number) 0)
 
 -- each configuration that is not marked has the same boards at both moments
 abbrev pub AreSameBut : List Bool → Moment → Moment → Type 0

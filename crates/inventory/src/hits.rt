@@ -3,7 +3,7 @@ ghost use Rattle.found_set.specs.Marks.{AreMarked};
 ghost use Rattle.probe_lang.specs.Sights.{entry_sight, has_config};
 ghost use Rattle.inventory.specs.Boards.{hit_places};
 ghost use Rattle.probe_lang.specs.Presents.{unboxed};
-ghost use Rattle.inventory.specs.Moments.{hits_in, AreSeenAlike, MarksSeenOtherwise};
+ghost use Rattle.inventory.specs.Moments.{entries_of, hits_in, is_otherwise, otherwise_of, AreSeenAlike, MarksSeenOtherwise};
 
 use bmc_base::{OutOfMemory, Place};
 use found_set::{Facts, Marks, mark_touched};
@@ -45,6 +45,65 @@ pub fn push_hits(
 {
     for entry in entries {
         push_hit(places, entry, facts, number)?;
+    }
+    Ok(())
+}
+
+/// Appends the places of those of these FRUs that are on reachable buses and that a pattern of this configuration matches.
+pub fn push_hits_among(
+    places: &mut Vec<Option<Place>>,
+    entries: &[&Entry],
+    facts: &Facts,
+    number: u32,
+) -> Result<(), OutOfMemory>
+    ensures { (reach : ℕ → Bool) → AreMarked facts.now.reach reach
+        → OnOk result (places.new.items ≡ places.old.items ++ hits_in reach (entries_of entries.now) number) }
+{
+    for entry in entries {
+        push_hit(places, entry, facts, number)?;
+    }
+    Ok(())
+}
+
+// Whether a FRU stands at this place, or is on a bus that is reachable in one of both cases alone.
+fn is_otherwise(entry: &Entry, changed: Place, facts: &Facts, facts_after: &Facts) -> bool
+    ensures { (reach reach_after : ℕ → Bool) → AreMarked facts.now.reach reach → AreMarked facts_after.now.reach reach_after
+        → result ≡ is_otherwise reach reach_after changed entry.now.place }
+{
+    let bus = entry.place.bus();
+    entry.place == changed || facts.reach(bus) != facts_after.reach(bus)
+}
+
+// Appends a FRU, if it stands at this place or is on a bus that is reachable in one of both cases alone.
+fn push_if_otherwise<'e>(
+    list: &mut Vec<&'e Entry>,
+    entry: &'e Entry,
+    changed: Place,
+    facts: &Facts,
+    facts_after: &Facts,
+) -> Result<(), OutOfMemory>
+    ensures { (reach reach_after : ℕ → Bool) → AreMarked facts.now.reach reach → AreMarked facts_after.now.reach reach_after
+        → OnOk result (entries_of list.new.items ≡ entries_of list.old.items ++ otherwise_of reach reach_after changed (entry.now ∷ [])) }
+{
+    if is_otherwise(entry, changed, facts, facts_after) {
+        list.push(entry)?;
+    }
+    Ok(())
+}
+
+/// Appends the FRUs that stand at this place or are on a bus that is reachable in one of both cases alone.
+pub fn push_otherwise<'e>(
+    list: &mut Vec<&'e Entry>,
+    entries: &'e [Box<Entry>],
+    changed: Place,
+    facts: &Facts,
+    facts_after: &Facts,
+) -> Result<(), OutOfMemory>
+    ensures { (reach reach_after : ℕ → Bool) → AreMarked facts.now.reach reach → AreMarked facts_after.now.reach reach_after
+        → OnOk result (entries_of list.new.items ≡ entries_of list.old.items ++ otherwise_of reach reach_after changed (unboxed entries.now)) }
+{
+    for entry in entries {
+        push_if_otherwise(list, entry, changed, facts, facts_after)?;
     }
     Ok(())
 }

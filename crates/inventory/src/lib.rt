@@ -2,6 +2,7 @@
 //! boards expose, and which of it is live.
 #![tactic(auto)]
 
+mod apart;
 mod board;
 mod boards;
 mod changed;

@@ -1,18 +1,22 @@
-ghost use Rattle.std.specs.Prelude.{◌≡◌, ◌++◌, ◌≤◌, ℕ, Bool, true, false, not, ◌&&◌, IsTrue, OnOk, length, map, slice_get, find, option_map};
+ghost use Rattle.std.specs.Prelude.{◌≡◌, ◌++◌, ◌≤◌, ℕ, Bool, true, false, not, ◌&&◌, IsTrue, IfOk, OnOk, length, map, slice_get, find, option_map};
 ghost use Rattle.std.proofs.Math.Bool.{beq};
 ghost use Rattle.found_set.specs.Marks.{AreMarked, is_marked};
 ghost use Rattle.probe_lang.specs.Presents.{unboxed, is_entry_at, are_by_place, holds_place, with_entry, without_entry};
 ghost use Rattle.probe_lang.specs.Sights.{entry_sight, has_config};
 ghost use Rattle.inventory.specs.Boards.{hit_places};
 ghost use Rattle.inventory.specs.Items.{entry_fields};
-ghost use Rattle.inventory.specs.Moments.{hits_in, AreSeenAlike, MarksSeenOtherwise};
+ghost use Rattle.inventory.specs.Moments.{entries_of, hits_in, AreOtherwise, AreSeenAlike, MarksSeenOtherwise};
 
-use crate::hits::{are_seen_alike, first_hit, is_hit, mark_seen_otherwise, push_hits};
+use crate::hits::{
+    are_seen_alike, first_hit, is_hit, mark_seen_otherwise, push_hits, push_hits_among,
+    push_otherwise,
+};
 use bmc_base::{OutOfMemory, Place};
 use found_set::{Facts, Marks};
 use fru_record::FruRecord;
 use match_rows::count_before;
 use probe_lang::Entry;
+use std::alloc::Global;
 use std::marker::Model;
 use std::slice;
 
@@ -145,6 +149,37 @@ impl<'a> Moment<'a> {
         push_hits(places, self.plus, &self.facts, number)?;
         push_hits(places, self.behind, &self.facts, number)?;
         Ok(())
+    }
+
+    // Appends the places of those of these FRUs that are on reachable buses and that a pattern of this configuration matches.
+    pub(crate) fn push_hits_among(
+        &self,
+        places: &mut Vec<Option<Place>>,
+        entries: &[&Entry],
+        number: u32,
+    ) -> Result<(), OutOfMemory>
+        ensures hits { (reach : ℕ → Bool) → AreMarked self.now.facts.reach reach
+            → OnOk result (places.new.items ≡ places.old.items ++ hits_in reach (entries_of entries.now) number) }
+        ensures order { IsTrue (are_by_place self.now.entries) }
+    {
+        push_hits_among(places, entries, &self.facts, number)
+    }
+
+    // Lists the FRUs that stand at this place or are on a bus that is reachable at one of both moments alone.
+    pub(crate) fn list_otherwise(
+        &self,
+        alloc: Global,
+        changed: Place,
+        other: &Moment<'_>,
+    ) -> Result<Vec<&'a Entry>, OutOfMemory>
+        ensures { IfOk result (λ list. AreOtherwise list.items self.now other.now changed) }
+    {
+        let (here, there) = (&self.facts, &other.facts);
+        let mut list = Vec::new(alloc);
+        push_otherwise(&mut list, self.before, changed, here, there)?;
+        push_otherwise(&mut list, self.plus, changed, here, there)?;
+        push_otherwise(&mut list, self.behind, changed, here, there)?;
+        Ok(list)
     }
 
     // Whether this FRU is on a bus that is reachable and a pattern of this configuration matches it.

@@ -5,8 +5,8 @@ use Rattle.inventory.proofs.DifferencesLemmas.{from_none, gone_all, come_all}
 use Rattle.inventory.proofs.compare.difference.Goals as goal
 
 -- each configuration is marked
-pub push_shelf-requires-clause-apart : goal.push_shelf-requires-clause-apart
-push_shelf-requires-clause-apart g c = λ number small none. absurd (true≢false (sym (c.all-apart.ensures number small) ∙ none))
+pub push_shelf-requires-clause-marks : goal.push_shelf-requires-clause-marks
+push_shelf-requires-clause-marks g c = λ number small none. absurd (true≢false (sym (c.all-marks.ensures number small) ∙ none))
 
 pub returns : goal.returns
 returns g c =

@@ -1,23 +1,16 @@
-use Rattle.std.proofs.Common.{◌∙◌, ◌++◌, List, ap, ap₂}
-use Rattle.inventory.specs.declared.board.BoardKey.{BoardKey}
-use Rattle.inventory.specs.Moments.{left}
-use Rattle.inventory.proofs.MomentsLemmas.{boards_found}
+use Rattle.std.proofs.Common.{Bool, sym, subst}
+use Rattle.std.specs.Prelude.{OnOk}
+use Rattle.inventory.specs.Moments.{PushesLeft}
 use Rattle.inventory.proofs.compare.push_config.Goals as goal
 
-pub returns-clause-gone : goal.returns-clause-gone
-returns-clause-gone c =
-    λ found reach found_after reach_after marked marked_after.
-    let both = c.in-Some.ensures.found found reach found_after reach_after marked marked_after in
-    c.in_ok-push_key.ensures ∙ ap (λ (keys : List BoardKey). c.args.comparison.now.difference.gone_boards ++ keys)
-    (c.lone_swap-swap.ensures.gone reach reach_after marked.reach marked_after.reach
-    ∙ ap₂ (left c.args.number) (boards_found c.args.match_one found reach c.args.before.now c.args.number both.0)
-    (boards_found c.args.match_one found_after reach_after c.args.after.now c.args.number both.1))
+pub returns-in-Several-clause-gone : goal.returns-in-Several-clause-gone
+returns-in-Several-clause-gone c =
+    subst (λ (match_one : Bool). OnOk c.push_among.result (PushesLeft c.args.number match_one c.args.before.now c.args.after.now
+    c.args.comparison.now.difference.gone_boards c.push_among.new.comparison.difference.gone_boards))
+    (sym c.if-not-match_one.true) c.push_among.ensures.gone
 
-pub returns-clause-come : goal.returns-clause-come
-returns-clause-come c =
-    λ found reach found_after reach_after marked marked_after.
-    let both = c.in-Some.ensures.found found reach found_after reach_after marked marked_after in
-    c.in_ok-push_key-2.ensures ∙ ap (λ (keys : List BoardKey). c.args.comparison.now.difference.new_boards ++ keys)
-    (c.lone_swap-swap.ensures.new reach reach_after marked.reach marked_after.reach
-    ∙ ap₂ (left c.args.number) (boards_found c.args.match_one found_after reach_after c.args.after.now c.args.number both.1)
-    (boards_found c.args.match_one found reach c.args.before.now c.args.number both.0))
+pub returns-in-Several-clause-come : goal.returns-in-Several-clause-come
+returns-in-Several-clause-come c =
+    subst (λ (match_one : Bool). OnOk c.push_among.result (PushesLeft c.args.number match_one c.args.after.now c.args.before.now
+    c.args.comparison.now.difference.new_boards c.push_among.new.comparison.difference.new_boards))
+    (sym c.if-not-match_one.true) c.push_among.ensures.come

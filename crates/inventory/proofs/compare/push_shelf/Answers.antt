@@ -22,7 +22,7 @@ loop-number-preserved g c =
           (there found_after reach_after c.args.after.now);
       come = λ found reach found_after reach_after marked marked_after. config_more number (boards_at configs found_after reach_after c.args.after.now)
           (boards_at configs found reach c.args.before.now) _ _ _ _ _ (c.loop-number.invariant.come found reach found_after reach_after marked marked_after)
-          (c.in_ok-push_config.ensures.come found reach found_after reach_after marked marked_after) (there found_after reach_after c.args.after.now)
+          (c.in_ok-push_config.ensures.come found_after reach_after found reach marked_after marked) (there found_after reach_after c.args.after.now)
           (there found reach c.args.before.now);
     }
 
@@ -31,13 +31,13 @@ loop-number-preserved-then-not-has g c =
     let number = c.loop-number.number in
     let configs = c.args.shelf.now in
     let small : number < 256 = omega (arith, c.loop-number-test.true, c.len-number-end.ensures.value, c.requires.few) in
-    let none : is_marked c.args.apart.now number ≡ false = sym c.has.ensures.value ∙ c.if-not-has.true in
+    let none : is_marked c.args.marks.now number ≡ false = sym c.has.ensures.value ∙ c.if-not-has.true in
     let same : (found reach found_after reach_after : ℕ → Bool) → IsMarkedBy c.args.before.now.facts found reach
     → IsMarkedBy c.args.after.now.facts found_after reach_after
     → boards_at configs found reach c.args.before.now number ≡ boards_at configs found_after reach_after c.args.after.now number =
     λ found reach found_after reach_after marked marked_after.
     same_there configs found reach found_after reach_after c.args.before.now c.args.after.now number
-    (c.requires.apart number small none found reach found_after reach_after marked marked_after) in
+    (c.requires.marks number small none found reach found_after reach_after marked marked_after) in
     record {
       gone = λ found reach found_after reach_after marked marked_after. config_skipped number (boards_at configs found reach c.args.before.now)
           (boards_at configs found_after reach_after c.args.after.now) _ _
