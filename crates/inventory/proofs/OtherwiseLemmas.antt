@@ -1,6 +1,6 @@
 -- The boards of a configuration that go and come, by the FRUs that are seen otherwise.
-use Rattle.std.proofs.Common.{◌≡◌, ℕ, List, [], ◌∷◌, ◌++◌, Bool, true, false, not, cond, ◌&&◌, ◌||◌, Option, Some, map, filter, take, length, get_or, ◌+◌, ◌<◌, true≢false}
-use Rattle.std.proofs.Common.{refl, sym, ap, ap₂, ◌∙◌, append_assoc, subst, inl, inr}
+use Rattle.std.proofs.Common.{◌≡◌, ℕ, ◌+◌, ◌<◌, List, [], ◌∷◌, ◌++◌, Bool, true, false, not, cond, ◌&&◌, ◌||◌, Option, Some}
+use Rattle.std.proofs.Common.{map, filter, take, length, get_or, refl, sym, ap, ap₂, ◌∙◌, append_assoc, subst, true≢false, inl, inr}
 use Rattle.std.specs.Prelude.{slice_get, IsSome}
 use Rattle.std.specs.List.Sorted.{IsStrictlySortedBy}
 use Rattle.std.specs.Option.{option_cmp}
@@ -167,7 +167,8 @@ module _ (reach reach_after : ℕ → Bool) (changed : Entry) (number : ℕ) whe
       same true rest = ap (λ (places : List Place). cond (alike entry.place) (entry.place ∷ places) places) rest
       same false rest = rest
 
-      by : (b : Bool) → otherwise entry.place ≡ b → filter alike one ≡ filter alike other → filter alike (cond (reach entry.place.bus && has) (entry.place ∷ one) one)
+      by : (b : Bool) → otherwise entry.place ≡ b → filter alike one ≡ filter alike other
+          → filter alike (cond (reach entry.place.bus && has) (entry.place ∷ one) one)
           ≡ filter alike (cond (reach_after entry.place.bus && has) (entry.place ∷ other) other)
       by true is rest =
           dropped one (reach entry.place.bus && has) is ∙ rest ∙ sym (dropped other (reach_after entry.place.bus && has) is)
@@ -322,8 +323,8 @@ among_ascend reach seen test entries number order is =
         map-map (first ∷ xs) = ap (λ (rest : List Place). first.place ∷ rest) (map-map xs)
 
 module _ (seen : Otherwise) (before after : Moment) (number : ℕ) (apart : AreApart seen before after) (both : HasBoth number before after)
-    (found reach found_after reach_after : ℕ → Bool) (marked : IsMarkedBy before.facts found reach) (marked_after : IsMarkedBy after.facts found_after reach_after)
-    (small : number < 256) where
+    (found reach found_after reach_after : ℕ → Bool) (marked : IsMarkedBy before.facts found reach)
+    (marked_after : IsMarkedBy after.facts found_after reach_after) (small : number < 256) where
   otherwise_both : entries_of seen.before.items ≡ otherwise_of reach reach_after apart.changed.place before.entries
   otherwise_both = apart.otherwise reach reach_after marked.reach marked_after.reach
 
@@ -334,7 +335,9 @@ module _ (seen : Otherwise) (before after : Moment) (number : ℕ) (apart : AreA
   boards_before = boards_hits found reach before number (sym (marked.found number small) ∙ both.found.0) (both.hit reach marked.reach)
 
   boards_after : hits_in reach_after after.entries number ≡ boards_now false found_after reach_after after number
-  boards_after = boards_hits found_after reach_after after number (sym (marked_after.found number small) ∙ both.found.1) (both.hit_after reach_after marked_after.reach)
+  boards_after =
+      boards_hits found_after reach_after after number (sym (marked_after.found number small) ∙ both.found.1)
+      (both.hit_after reach_after marked_after.reach)
 
   pub gone_among : left number (hits_in reach (entries_of seen.before.items) number) (hits_in reach_after (entries_of seen.after.items) number)
       ≡ left number (boards_now false found reach before number) (boards_now false found_after reach_after after number)

@@ -1,23 +1,40 @@
-ghost use Rattle.std.specs.Prelude.{◌≡◌, ◌<◌, ◌∷◌, ◌++◌, ℕ, Bool, List, [], if◌then◌else◌, map, Some, OnOk};
+ghost use Rattle.std.specs.Prelude.{◌≡◌, ◌<◌, ◌∷◌, ◌++◌, ℕ, Bool, true, false, [], if◌then◌else◌, OnOk};
 ghost use Rattle.std.specs.Option.{option_cmp};
 ghost use Rattle.std.specs.Ordering.{is_lt};
-ghost use Rattle.bmc_base.specs.Places.{Place, place_cmp};
-ghost use Rattle.inventory.specs.Boards.{places_or_none};
+ghost use Rattle.bmc_base.specs.Places.{place_cmp};
+ghost use Rattle.found_set.specs.Marks.{AreMarked};
 ghost use Rattle.inventory.specs.Differences.{IsMarkedBy, key_of};
-ghost use Rattle.inventory.specs.Moments.{boards_now, left, skip_before, is_first, AreAscending};
+ghost use Rattle.inventory.specs.Moments.{boards_now, found_boards, left, skip_before, is_first, AreAscending};
 
 use crate::{BoardKey, BoardKeys, Moment};
 use bmc_base::{OutOfMemory, Place};
 use std::alloc::Global;
 
-// Leaves the first of these places alone where one counts, and puts a board without a place where there is none.
-fn keep_places(places: &mut Vec<Option<Place>>, match_one: bool) -> Result<(), OutOfMemory>
-    ensures { (hits : List Place) → places.old.items ≡ map Some hits → OnOk result (places.new.items ≡ places_or_none match_one hits) }
+// Lists the board of a configuration that is found at a moment, where one counts: at the first hit, or without a place.
+fn list_first(
+    places: &mut Vec<Option<Place>>,
+    moment: &Moment<'_>,
+    number: u32,
+) -> Result<(), OutOfMemory>
+    requires { places.old.items ≡ [] }
+    ensures { (reach : ℕ → Bool) → AreMarked moment.now.facts.reach reach → OnOk result (places.new.items ≡ found_boards true reach moment.now number) }
 {
+    places.push(moment.first_hit(number))?;
+    Ok(())
+}
+
+// Lists the boards of a configuration that is found at a moment, where each counts: at the hits, or one without a place.
+fn list_each(
+    places: &mut Vec<Option<Place>>,
+    moment: &Moment<'_>,
+    number: u32,
+) -> Result<(), OutOfMemory>
+    requires { places.old.items ≡ [] }
+    ensures { (reach : ℕ → Bool) → AreMarked moment.now.facts.reach reach → OnOk result (places.new.items ≡ found_boards false reach moment.now number) }
+{
+    moment.push_hits(places, number)?;
     if places.is_empty() {
         places.push(None)?;
-    } else if match_one {
-        places.truncate(1);
     }
     Ok(())
 }
@@ -35,11 +52,14 @@ pub fn list_boards(
         → OnOk result (places.new.items ≡ boards_now match_one found reach moment.now number) }
 {
     places.clear();
-    if moment.found(number) {
-        moment.push_hits(places, number)?;
-        keep_places(places, match_one)?;
+    if !moment.found(number) {
+        return Ok(());
     }
-    Ok(())
+    if match_one {
+        list_first(places, moment, number)
+    } else {
+        list_each(places, moment, number)
+    }
 }
 
 // Whether a board comes before another. One without a place comes first.

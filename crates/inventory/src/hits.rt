@@ -17,6 +17,7 @@ pub fn is_hit(entry: &Entry, facts: &Facts, number: u32) -> bool
 }
 
 // Appends the place of a FRU, if it is on a reachable bus and a pattern of this configuration matches it.
+#[inline(always)]
 #[tactic(auto, using(crate::proofs::MomentsLemmas::hit_one))]
 fn push_hit(
     places: &mut Vec<Option<Place>>,

@@ -1,7 +1,5 @@
-use Rattle.std.proofs.Common.{◌≡◌, List, ap, sym, subst}
-use Rattle.std.specs.Borrow.{Bor}
+use Rattle.std.proofs.Common.{◌≡◌, ap, sym, subst}
 use Rattle.found_set.specs.Marks.{AreMarked}
-use Rattle.probe_lang.specs.declared.rows.Entry.{Entry}
 use Rattle.probe_lang.specs.Presents.{unboxed}
 use Rattle.inventory.specs.Differences.{Moment}
 use Rattle.inventory.specs.Moments.{entries_of, otherwise_of}
