@@ -25,8 +25,8 @@ use Rattle.bmc_watch.specs.ItemSteps.{Continues}
 use Rattle.bmc_watch.specs.Settling.{Settles, SettlesUnless}
 use Rattle.bmc_watch.specs.Watches.{WatchView, view_refusal}
 use Rattle.bmc_watch.specs.Steps.{AddsFru, AddsUnless, with_fru}
-use Rattle.bmc_watch.proofs.EventsLemmas.{IsSeen, on_err, not_ok, new_place, known_entry, free_there, plug_among, busy_plugged, seen, difference_is, gone_within}
-use Rattle.bmc_watch.proofs.EventsLemmas.{staged_within, tells_those}
+use Rattle.bmc_watch.proofs.EventsLemmas.{IsSeen, on_err, not_ok, new_place, known_entry, free_there, plug_among, busy_plugged, seen, difference_is}
+use Rattle.bmc_watch.proofs.EventsLemmas.{gone_within, staged_within, tells_those}
 use Rattle.bmc_watch.proofs.EventsLemmas.{set_after, rows_plugged}
 use Rattle.match_rows.proofs.RowsLemmas.{with_entry_by_place}
 use Rattle.bmc_watch.proofs.BusyLemmas.{busy_with}
