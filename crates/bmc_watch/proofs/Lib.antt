@@ -9,6 +9,7 @@ pub mod ItemsLemmas
 pub mod RowsLemmas
 pub mod EventsLemmas
 pub mod StockLemmas
+pub mod LeftLemmas
 pub mod ListedLemmas
 pub mod GrowthLemmas
 pub mod CountingLemmas

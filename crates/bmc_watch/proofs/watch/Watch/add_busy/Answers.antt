@@ -1,7 +1,8 @@
-use Rattle.std.proofs.Common.{arith, ◌≡◌, ◌∙◌, List, [], true, false, Option, Some, map, length, ◌==◌, ◌||◌, refl}
-use Rattle.std.proofs.Common.{ap, ap₂, sym, subst, subst₂, append-nil, inl}
+use Rattle.std.proofs.Common.{arith, ◌≡◌, ◌∙◌, List, [], true, false, Option, Some, map, length, refl}
+use Rattle.std.proofs.Common.{ap, ap₂, sym, subst, append-nil, inl}
 use Rattle.cfg_json.specs.declared.item.Item.{Item}
 use Rattle.std.specs.Prelude.{option_map}
+use Rattle.bmc_base.specs.Steps.{IsWithin}
 use Rattle.probe_lang.specs.Sights.{entry_sight}
 use Rattle.probe_lang.specs.declared.rows.Entry.{Entry}
 use Rattle.probe_lang.specs.Presents.{with_entry, are_by_place, holds_place}
@@ -14,12 +15,11 @@ use Rattle.found_set.specs.Rows.{row_of, sights_of}
 use Rattle.found_set.specs.Events.{PlugEvent}
 use Rattle.found_set.proofs.EventsLemmas.{none_within}
 use Rattle.inventory.specs.Boards.{boards_in, rules_of}
-use Rattle.inventory.specs.Indexes.{kept_of}
 use Rattle.inventory.specs.Limits.{limit_of, passed_limit, totals_after}
 use Rattle.inventory.specs.Lists.{keys_of}
 use Rattle.bmc_report.specs.declared.refusal.Refusal.{Refusal}
 use Rattle.bmc_machine.specs.Refusals.{limit_refusal}
-use Rattle.bmc_watch.specs.Insides.{IsStocked}
+use Rattle.bmc_watch.specs.Insides.{IsStocked, view_of}
 use Rattle.bmc_watch.specs.Changes.{IsDifference}
 use Rattle.bmc_watch.specs.ItemSteps.{Continues}
 use Rattle.bmc_watch.specs.Settling.{Settles, SettlesUnless}
@@ -32,11 +32,12 @@ use Rattle.match_rows.proofs.RowsLemmas.{with_entry_by_place}
 use Rattle.bmc_watch.proofs.BusyLemmas.{busy_with}
 use Rattle.bmc_watch.proofs.ItemsLemmas.{busy_apart, free_apart}
 use Rattle.bmc_watch.proofs.StockLemmas.{IsNext, counted_then, items_with, limit_named, no_refusal}
-use Rattle.bmc_watch.proofs.StockLemmas.{plug_continues, stock_is, stocked_kept, settles, taken_over, told_of}
+use Rattle.bmc_watch.proofs.StockLemmas.{plug_continues, stock_is, settles, taken_over, told_of}
 use Rattle.bmc_watch.specs.Counting.{most_evals}
 use Rattle.bmc_watch.proofs.CountingLemmas.{within_rules}
+use Rattle.bmc_watch.proofs.LeftLemmas.{left_same, left_sound}
 use Rattle.bmc_watch.proofs.watch.Watch.add_busy.Given.{Over}
-use Rattle.bmc_watch.proofs.watch.Watch.add_busy.Goals.{In_ok-difference, After-commit-2}
+use Rattle.bmc_watch.proofs.watch.Watch.add_busy.Goals.{In_ok-next, In_ok-difference, After-commit-2}
 use Rattle.bmc_watch.proofs.watch.Watch.add_busy.Goals as goal
 
 pub prepare_plug-requires-clause-new : goal.prepare_plug-requires-clause-new
@@ -157,77 +158,36 @@ stage_items-requires g c = (_, items_continue g (goal.at.stage_items-requires g 
 -- ---- want of memory
 
 pub invariant_of-self-in_err-difference : goal.invariant_of-self-in_err-difference
-invariant_of-self-in_err-difference g c = record {
-  rules = ap (λ (set : SetView). set.rules) c.in_ok-next.ensures.ok ∙ c.self.invariant.rules;
-  rows = ap (λ (set : SetView). set.rows) c.in_ok-next.ensures.ok ∙ c.self.invariant.rows
-      ∙ sym (ap (λ (entries : List Entry). map row_of (busy entries)) c.in_ok-reserve.ensures.entries);
-  none = ap (λ (entries : List Entry). c.self.inside.plugged || (length entries == 0)) c.in_ok-reserve.ensures.entries ∙ c.self.invariant.none;
-  stock = subst (λ (entries : List Entry). IsStocked c.self.inside.shelf entries c.self.inside.keep.kept c.self.inside.totals c.self.inside.stock.items)
-      (sym c.in_ok-reserve.ensures.entries) c.self.invariant.stock;
-  room = c.self.invariant.room;
-}
+invariant_of-self-in_err-difference g c =
+    left_sound c.self.inside _ c.self.invariant refl c.in_ok-next.ensures.ok c.in_ok-reserve.ensures.entries refl (λ number. refl) refl refl (omega arith)
 
 pub invariant_of-self-in-Err : goal.invariant_of-self-in-Err
-invariant_of-self-in-Err g c = record {
-  rules = ap (λ (set : SetView). set.rules) c.in_ok-next.ensures.ok ∙ c.self.invariant.rules;
-  rows = ap (λ (set : SetView). set.rows) c.in_ok-next.ensures.ok ∙ c.self.invariant.rows
-      ∙ sym (ap (λ (entries : List Entry). map row_of (busy entries)) c.in_ok-reserve.ensures.entries);
-  none = ap (λ (entries : List Entry). c.self.inside.plugged || (length entries == 0)) c.in_ok-reserve.ensures.entries ∙ c.self.invariant.none;
-  stock = subst (λ (entries : List Entry). IsStocked c.self.inside.shelf entries c.self.inside.keep.kept c.self.inside.totals c.self.inside.stock.items)
-      (sym c.in_ok-reserve.ensures.entries) c.self.invariant.stock;
-  room = c.self.invariant.room;
-}
+invariant_of-self-in-Err g c =
+    left_sound c.self.inside _ c.self.invariant refl c.in_ok-next.ensures.ok c.in_ok-reserve.ensures.entries refl (λ number. refl) refl refl (omega arith)
 
 pub invariant_of-self-in_err-items : goal.invariant_of-self-in_err-items
-invariant_of-self-in_err-items g c = record {
-  rules = ap (λ (set : SetView). set.rules) c.in_ok-next.ensures.ok ∙ c.self.invariant.rules;
-  rows = ap (λ (set : SetView). set.rows) c.in_ok-next.ensures.ok ∙ c.self.invariant.rows
-      ∙ sym (ap (λ (entries : List Entry). map row_of (busy entries)) c.in_ok-reserve.ensures.entries);
-  none = ap (λ (entries : List Entry). c.self.inside.plugged || (length entries == 0)) c.in_ok-reserve.ensures.entries ∙ c.self.invariant.none;
-  stock = subst₂ (λ (entries : List Entry) (items : List Item). IsStocked c.self.inside.shelf entries c.self.inside.keep.kept c.self.inside.totals items)
-      (sym c.in_ok-reserve.ensures.entries) (sym c.stage_items.ensures.items) c.self.invariant.stock;
-  room = c.self.invariant.room;
-}
+invariant_of-self-in_err-items g c =
+    left_sound c.self.inside _ c.self.invariant refl c.in_ok-next.ensures.ok c.in_ok-reserve.ensures.entries refl
+    (λ number. refl) refl c.stage_items.ensures.items (omega arith)
 
 pub returns-in_err-difference-clause-same : goal.returns-in_err-difference-clause-same
 returns-in_err-difference-clause-same g c =
     on_err c.from_residual-in_err-difference.result (
-      record {
-        configs = ap (λ (view : WatchView). view.configs) c.self.view_is;
-        entries = c.in_ok-reserve.ensures.entries ∙ ap (λ (view : WatchView). view.entries) c.self.view_is;
-        plugged = ap (λ (view : WatchView). view.plugged) c.self.view_is;
-        kept = λ number. ap (λ (view : WatchView). kept_of view.kept number) c.self.view_is;
-        changes = ap (λ (view : WatchView). view.changes) c.self.view_is;
-      },
+      left_same (view_of c.self.inside) _ _ c.self.view_is refl c.in_ok-reserve.ensures.entries refl (λ number. refl) refl,
       record { names = refl; slots = refl },
     )
 
 pub returns-in_err-items-clause-same : goal.returns-in_err-items-clause-same
 returns-in_err-items-clause-same g c =
     on_err c.from_residual-in_err-items.result (
-      record {
-        configs = ap (λ (view : WatchView). view.configs) c.self.view_is;
-        entries = c.in_ok-reserve.ensures.entries ∙ ap (λ (view : WatchView). view.entries) c.self.view_is;
-        plugged = ap (λ (view : WatchView). view.plugged) c.self.view_is;
-        kept = λ number. ap (λ (view : WatchView). kept_of view.kept number) c.self.view_is;
-        changes = ap (λ (view : WatchView). view.changes) c.self.view_is;
-      },
+      left_same (view_of c.self.inside) _ _ c.self.view_is refl c.in_ok-reserve.ensures.entries refl (λ number. refl) refl,
       record { names = refl; slots = refl },
     )
 
 pub invariant_of-self-in_err-gone : goal.invariant_of-self-in_err-gone
-invariant_of-self-in_err-gone g c = record {
-  rules = ap (λ (set : SetView). set.rules) c.in_ok-next.ensures.ok ∙ c.self.invariant.rules;
-  rows = ap (λ (set : SetView). set.rows) c.in_ok-next.ensures.ok ∙ c.self.invariant.rows
-      ∙ sym (ap (λ (entries : List Entry). map row_of (busy entries)) c.in_ok-reserve.ensures.entries);
-  none = ap (λ (entries : List Entry). c.self.inside.plugged || (length entries == 0)) c.in_ok-reserve.ensures.entries ∙ c.self.invariant.none;
-  stock = subst₂ (λ (entries : List Entry) (items : List Item). IsStocked c.self.inside.shelf entries c.stage_changes.new.keep.kept c.self.inside.totals
-      items)
-      (sym c.in_ok-reserve.ensures.entries) (sym c.stage_items.ensures.items)
-      (stocked_kept c.self.inside.shelf c.self.inside.rows.entries c.self.inside.keep.kept c.stage_changes.new.keep.kept c.self.inside.totals
-      c.self.inside.stock.items c.stage_changes.ensures.kept c.self.invariant.stock);
-  room = omega (arith, c.self.invariant.room, c.stage_changes.ensures.more);
-}
+invariant_of-self-in_err-gone g c =
+    left_sound c.self.inside _ c.self.invariant refl c.in_ok-next.ensures.ok c.in_ok-reserve.ensures.entries refl
+    c.stage_changes.ensures.kept refl c.stage_items.ensures.items c.stage_changes.ensures.more
 
 pub returns-in_err-gone-clause-ok : goal.returns-in_err-gone-clause-ok
 returns-in_err-gone-clause-ok g c = not_ok _ _ c.from_residual-in_err-gone.result c.from_residual-in_err-gone.ensures.1
@@ -235,13 +195,8 @@ returns-in_err-gone-clause-ok g c = not_ok _ _ c.from_residual-in_err-gone.resul
 pub returns-in_err-gone-clause-same : goal.returns-in_err-gone-clause-same
 returns-in_err-gone-clause-same g c =
     on_err c.from_residual-in_err-gone.result (
-      record {
-        configs = ap (λ (view : WatchView). view.configs) c.self.view_is;
-        entries = c.in_ok-reserve.ensures.entries ∙ ap (λ (view : WatchView). view.entries) c.self.view_is;
-        plugged = ap (λ (view : WatchView). view.plugged) c.self.view_is;
-        kept = λ number. c.stage_changes.ensures.kept number ∙ ap (λ (view : WatchView). kept_of view.kept number) c.self.view_is;
-        changes = c.stage_changes.ensures.changes ∙ ap (λ (view : WatchView). view.changes) c.self.view_is;
-      },
+      left_same (view_of c.self.inside) _ _ c.self.view_is refl c.in_ok-reserve.ensures.entries refl c.stage_changes.ensures.kept
+          c.stage_changes.ensures.changes,
       c.stage_changes.ensures.sensors,
     )
 
@@ -261,13 +216,7 @@ tell_changes-requires-clause-gone g c =
 
 module _ (g : Over) (c : After-commit-2 g) where
   abbrev before : WatchView
-  before = record {
-    configs = c.self.inside.shelf;
-    entries = c.self.inside.rows.entries;
-    plugged = c.self.inside.plugged;
-    kept = c.self.inside.keep.kept;
-    changes = c.self.inside.changes.items;
-  }
+  before = view_of c.self.inside
 
   abbrev behind : List Entry → WatchView
   behind entries = record {
@@ -355,6 +304,11 @@ returns-clause-ok g c =
 
 -- ---- the work
 
+counted_within : (g : Over) (c : In_ok-next g) → IsWithin c.args.steps.now c.prepare_plug.new.steps (most_evals c.args.self.now.configs)
+counted_within g c =
+    within_rules (PlugEvent (row_of c.deref-entry.result.now)) c.args.steps.now c.prepare_plug.new.steps c.self.inside.set.rules c.self.inside.set.rows
+    c.args.self.now.configs (c.self.invariant.rules ∙ ap (λ (view : WatchView). rules_of view.configs) c.self.view_is) c.in_ok-next.ensures.counted
+
 pub returns-in_err-reserve-clause-counted : goal.returns-in_err-reserve-clause-counted
 returns-in_err-reserve-clause-counted g c =
     none_within c.args.steps.now (most_evals c.args.self.now.configs)
@@ -365,26 +319,16 @@ returns-in_err-next-clause-counted g c =
     c.args.self.now.configs (c.self.invariant.rules ∙ ap (λ (view : WatchView). rules_of view.configs) c.self.view_is) c.in_err-next.ensures.counted
 
 pub returns-in_err-difference-clause-counted : goal.returns-in_err-difference-clause-counted
-returns-in_err-difference-clause-counted g c =
-    within_rules (PlugEvent (row_of c.deref-entry.result.now)) c.args.steps.now c.prepare_plug.new.steps c.self.inside.set.rules c.self.inside.set.rows
-    c.args.self.now.configs (c.self.invariant.rules ∙ ap (λ (view : WatchView). rules_of view.configs) c.self.view_is) c.in_ok-next.ensures.counted
+returns-in_err-difference-clause-counted g c = counted_within g (goal.at.returns-in_err-difference-clause-counted g c).In_ok-next
 
 pub returns-in-Err-clause-counted : goal.returns-in-Err-clause-counted
-returns-in-Err-clause-counted g c =
-    within_rules (PlugEvent (row_of c.deref-entry.result.now)) c.args.steps.now c.prepare_plug.new.steps c.self.inside.set.rules c.self.inside.set.rows
-    c.args.self.now.configs (c.self.invariant.rules ∙ ap (λ (view : WatchView). rules_of view.configs) c.self.view_is) c.in_ok-next.ensures.counted
+returns-in-Err-clause-counted g c = counted_within g (goal.at.returns-in-Err-clause-counted g c).In_ok-next
 
 pub returns-in_err-items-clause-counted : goal.returns-in_err-items-clause-counted
-returns-in_err-items-clause-counted g c =
-    within_rules (PlugEvent (row_of c.deref-entry.result.now)) c.args.steps.now c.prepare_plug.new.steps c.self.inside.set.rules c.self.inside.set.rows
-    c.args.self.now.configs (c.self.invariant.rules ∙ ap (λ (view : WatchView). rules_of view.configs) c.self.view_is) c.in_ok-next.ensures.counted
+returns-in_err-items-clause-counted g c = counted_within g (goal.at.returns-in_err-items-clause-counted g c).In_ok-next
 
 pub returns-in_err-gone-clause-counted : goal.returns-in_err-gone-clause-counted
-returns-in_err-gone-clause-counted g c =
-    within_rules (PlugEvent (row_of c.deref-entry.result.now)) c.args.steps.now c.prepare_plug.new.steps c.self.inside.set.rules c.self.inside.set.rows
-    c.args.self.now.configs (c.self.invariant.rules ∙ ap (λ (view : WatchView). rules_of view.configs) c.self.view_is) c.in_ok-next.ensures.counted
+returns-in_err-gone-clause-counted g c = counted_within g (goal.at.returns-in_err-gone-clause-counted g c).In_ok-next
 
 pub returns-clause-counted : goal.returns-clause-counted
-returns-clause-counted g c =
-    within_rules (PlugEvent (row_of c.deref-entry.result.now)) c.args.steps.now c.prepare_plug.new.steps c.self.inside.set.rules c.self.inside.set.rows
-    c.args.self.now.configs (c.self.invariant.rules ∙ ap (λ (view : WatchView). rules_of view.configs) c.self.view_is) c.in_ok-next.ensures.counted
+returns-clause-counted g c = counted_within g (goal.at.returns-clause-counted g c).In_ok-next

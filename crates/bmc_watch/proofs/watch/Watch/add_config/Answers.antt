@@ -1,7 +1,8 @@
-use Rattle.std.proofs.Common.{arith, ◌≡◌, ◌∙◌, List, [], ◌∷◌, ◌++◌, map, length, Option, Some, None, refl, ap, sym, subst, subst₂}
+use Rattle.std.proofs.Common.{arith, ◌≡◌, ◌∙◌, List, [], ◌∷◌, ◌++◌, map, length, Option, Some, None, refl, ap, sym, subst}
 use Rattle.std.proofs.lemmas.Bool.{lt-leb}
 use Rattle.std.proofs.lemmas.List.{length-append}
 use Rattle.cfg_json.specs.Shelves.{most_configs, number_of}
+use Rattle.bmc_base.specs.Steps.{IsWithin}
 use Rattle.probe_lang.specs.Sights.{entry_sight}
 use Rattle.cfg_json.specs.Configs.{Config}
 use Rattle.found_set.specs.Found.{rule_of, facts}
@@ -11,14 +12,13 @@ use Rattle.found_set.specs.Rows.{sights_of}
 use Rattle.found_set.specs.Sets.{SetView}
 use Rattle.found_set.specs.declared.next_facts.NextFacts.{NextFacts}
 use Rattle.inventory.specs.Boards.{rules_of, boards_in}
-use Rattle.inventory.specs.Indexes.{kept_of}
 use Rattle.inventory.specs.Limits.{limit_of, totals_after, totals_of}
 use Rattle.inventory.specs.Lists.{keys_of}
 use Rattle.inventory.specs.declared.limits.Totals.{Totals}
 use Rattle.cfg_json.specs.declared.item.Item.{Item}
 use Rattle.bmc_report.specs.declared.refusal.Refusal.{Refusal}
 use Rattle.bmc_machine.specs.Histories.{Configure}
-use Rattle.bmc_watch.specs.Insides.{IsStocked}
+use Rattle.bmc_watch.specs.Insides.{IsStocked, view_of}
 use Rattle.bmc_watch.specs.Settling.{Settles, SettlesUnless}
 use Rattle.bmc_watch.specs.Watches.{WatchView}
 use Rattle.bmc_watch.specs.Changes.{IsDifference, AreWithin}
@@ -28,11 +28,12 @@ use Rattle.bmc_watch.proofs.StepsLemmas.{configured, config_over_limit}
 use Rattle.bmc_watch.proofs.EventsLemmas.{IsSeen, on_err, not_ok, new_name, rules_more, seen, difference_is, gone_within, within_more, staged_within}
 use Rattle.bmc_watch.proofs.EventsLemmas.{tells_those, set_after, no_entries}
 use Rattle.bmc_watch.proofs.GrowthLemmas.{config_continues, config_counted}
-use Rattle.bmc_watch.proofs.StockLemmas.{IsNext, items_with, limit_named, no_refusal, stock_is, stocked_kept, settles, taken_over, told_by}
+use Rattle.bmc_watch.proofs.StockLemmas.{IsNext, items_with, limit_named, no_refusal, stock_is, settles, taken_over, told_by}
 use Rattle.bmc_watch.specs.Counting.{most_evals}
 use Rattle.bmc_watch.proofs.CountingLemmas.{within_rules}
+use Rattle.bmc_watch.proofs.LeftLemmas.{left_same, left_sound}
 use Rattle.bmc_watch.proofs.watch.Watch.add_config.Given.{Over}
-use Rattle.bmc_watch.proofs.watch.Watch.add_config.Goals.{In_ok-difference, After-commit-2}
+use Rattle.bmc_watch.proofs.watch.Watch.add_config.Goals.{In_ok-next, In_ok-difference, After-commit-2}
 use Rattle.bmc_watch.proofs.watch.Watch.add_config.Goals as goal
 
 pub prepare_config-requires-clause-new : goal.prepare_config-requires-clause-new
@@ -94,13 +95,7 @@ module _ (g : Over) (c : In_ok-difference g) where
 
 pub returns-in-Err-clause-tried : goal.returns-in-Err-clause-tried
 returns-in-Err-clause-tried g c =
-    let old : WatchView = record {
-      configs = c.self.inside.shelf;
-      entries = c.self.inside.rows.entries;
-      plugged = c.self.inside.plugged;
-      kept = c.self.inside.keep.kept;
-      changes = c.self.inside.changes.items;
-    } in
+    let old = view_of c.self.inside in
     let compared = (goal.at.returns-in-Err-clause-tried g c).In_ok-difference in
     let limit = limit_named (c.self.inside.shelf ++ c.args.config ∷ []) c.self.inside.rows.entries _ c.in-Err.fault
     (counted g compared _ refl) c.in-Err.ensures
@@ -142,106 +137,48 @@ pub returns-in_err-difference-clause-tried : goal.returns-in_err-difference-clau
 returns-in_err-difference-clause-tried g c = not_ok _ _ c.from_residual-in_err-difference.result c.from_residual-in_err-difference.ensures.1
 
 pub invariant_of-self-in_err-difference : goal.invariant_of-self-in_err-difference
-invariant_of-self-in_err-difference g c = record {
-  rules = ap (λ (set : SetView). set.rules) c.in_ok-next.ensures.ok ∙ c.self.invariant.rules;
-  rows = ap (λ (set : SetView). set.rows) c.in_ok-next.ensures.ok ∙ c.self.invariant.rows;
-  none = c.self.invariant.none;
-  stock = c.self.invariant.stock;
-  room = c.self.invariant.room;
-}
+invariant_of-self-in_err-difference g c =
+    left_sound c.self.inside _ c.self.invariant refl c.in_ok-next.ensures.ok refl refl (λ number. refl) refl refl (omega arith)
 
 pub returns-in_err-difference-clause-same : goal.returns-in_err-difference-clause-same
 returns-in_err-difference-clause-same g c =
-    on_err c.from_residual-in_err-difference.result (
-      record {
-        configs = ap (λ (view : WatchView). view.configs) c.self.view_is;
-        entries = ap (λ (view : WatchView). view.entries) c.self.view_is;
-        plugged = ap (λ (view : WatchView). view.plugged) c.self.view_is;
-        kept = λ number. ap (λ (view : WatchView). kept_of view.kept number) c.self.view_is;
-        changes = ap (λ (view : WatchView). view.changes) c.self.view_is;
-      },
-      record { names = refl; slots = refl },
-    )
+    on_err c.from_residual-in_err-difference.result
+    (left_same (view_of c.self.inside) _ _ c.self.view_is refl refl refl (λ number. refl) refl, record { names = refl; slots = refl })
 
 pub invariant_of-self-in-Err : goal.invariant_of-self-in-Err
-invariant_of-self-in-Err g c = record {
-  rules = ap (λ (set : SetView). set.rules) c.in_ok-next.ensures.ok ∙ c.self.invariant.rules;
-  rows = ap (λ (set : SetView). set.rows) c.in_ok-next.ensures.ok ∙ c.self.invariant.rows;
-  none = c.self.invariant.none;
-  stock = c.self.invariant.stock;
-  room = c.self.invariant.room;
-}
+invariant_of-self-in-Err g c =
+    left_sound c.self.inside _ c.self.invariant refl c.in_ok-next.ensures.ok refl refl (λ number. refl) refl refl (omega arith)
 
 pub invariant_of-self-in_err-items : goal.invariant_of-self-in_err-items
-invariant_of-self-in_err-items g c = record {
-  rules = ap (λ (set : SetView). set.rules) c.in_ok-next.ensures.ok ∙ c.self.invariant.rules;
-  rows = ap (λ (set : SetView). set.rows) c.in_ok-next.ensures.ok ∙ c.self.invariant.rows;
-  none = c.self.invariant.none;
-  stock = subst (IsStocked c.self.inside.shelf c.self.inside.rows.entries c.self.inside.keep.kept c.self.inside.totals) (sym c.prepare.ensures.items)
-      c.self.invariant.stock;
-  room = c.self.invariant.room;
-}
+invariant_of-self-in_err-items g c =
+    left_sound c.self.inside _ c.self.invariant refl c.in_ok-next.ensures.ok refl refl (λ number. refl) refl c.prepare.ensures.items (omega arith)
 
 pub returns-in_err-items-clause-same : goal.returns-in_err-items-clause-same
 returns-in_err-items-clause-same g c =
-    on_err c.from_residual-in_err-items.result (
-      record {
-        configs = ap (λ (view : WatchView). view.configs) c.self.view_is;
-        entries = ap (λ (view : WatchView). view.entries) c.self.view_is;
-        plugged = ap (λ (view : WatchView). view.plugged) c.self.view_is;
-        kept = λ number. ap (λ (view : WatchView). kept_of view.kept number) c.self.view_is;
-        changes = ap (λ (view : WatchView). view.changes) c.self.view_is;
-      },
-      record { names = refl; slots = refl },
-    )
+    on_err c.from_residual-in_err-items.result
+    (left_same (view_of c.self.inside) _ _ c.self.view_is refl refl refl (λ number. refl) refl, record { names = refl; slots = refl })
 
 pub invariant_of-self-in_err-gone : goal.invariant_of-self-in_err-gone
-invariant_of-self-in_err-gone g c = record {
-  rules = ap (λ (set : SetView). set.rules) c.in_ok-next.ensures.ok ∙ c.self.invariant.rules;
-  rows = ap (λ (set : SetView). set.rows) c.in_ok-next.ensures.ok ∙ c.self.invariant.rows;
-  none = c.self.invariant.none;
-  stock = subst (IsStocked c.self.inside.shelf c.self.inside.rows.entries c.stage_changes.new.keep.kept c.self.inside.totals) (sym c.prepare.ensures.items)
-      (stocked_kept c.self.inside.shelf c.self.inside.rows.entries c.self.inside.keep.kept c.stage_changes.new.keep.kept c.self.inside.totals
-      c.self.inside.stock.items c.stage_changes.ensures.kept c.self.invariant.stock);
-  room = omega (arith, c.self.invariant.room, c.stage_changes.ensures.more);
-}
+invariant_of-self-in_err-gone g c =
+    left_sound c.self.inside _ c.self.invariant refl c.in_ok-next.ensures.ok refl refl
+    c.stage_changes.ensures.kept refl c.prepare.ensures.items c.stage_changes.ensures.more
 
 pub returns-in_err-gone-clause-same : goal.returns-in_err-gone-clause-same
 returns-in_err-gone-clause-same g c =
     on_err c.from_residual-in_err-gone.result (
-      record {
-        configs = ap (λ (view : WatchView). view.configs) c.self.view_is;
-        entries = ap (λ (view : WatchView). view.entries) c.self.view_is;
-        plugged = ap (λ (view : WatchView). view.plugged) c.self.view_is;
-        kept = λ number. c.stage_changes.ensures.kept number ∙ ap (λ (view : WatchView). kept_of view.kept number) c.self.view_is;
-        changes = c.stage_changes.ensures.changes ∙ ap (λ (view : WatchView). view.changes) c.self.view_is;
-      },
+      left_same (view_of c.self.inside) _ _ c.self.view_is refl refl refl c.stage_changes.ensures.kept c.stage_changes.ensures.changes,
       c.stage_changes.ensures.sensors,
     )
 
 pub invariant_of-self-in_err-add : goal.invariant_of-self-in_err-add
-invariant_of-self-in_err-add g c = record {
-  rules = ap (λ (set : SetView). set.rules) c.in_ok-next.ensures.ok ∙ c.self.invariant.rules ∙ sym (ap rules_of c.in_err-add.ensures.err);
-  rows = ap (λ (set : SetView). set.rows) c.in_ok-next.ensures.ok ∙ c.self.invariant.rows;
-  none = c.self.invariant.none;
-  stock = subst₂ (λ (configs : List Config) (items : List Item). IsStocked configs c.self.inside.rows.entries c.stage_changes.new.keep.kept
-      c.self.inside.totals items)
-      (sym c.in_err-add.ensures.err) (sym c.prepare.ensures.items)
-      (stocked_kept c.self.inside.shelf c.self.inside.rows.entries c.self.inside.keep.kept c.stage_changes.new.keep.kept c.self.inside.totals
-      c.self.inside.stock.items c.stage_changes.ensures.kept c.self.invariant.stock);
-  room = omega (arith, c.self.invariant.room, c.stage_changes.ensures.more);
-}
+invariant_of-self-in_err-add g c =
+    left_sound c.self.inside _ c.self.invariant c.in_err-add.ensures.err c.in_ok-next.ensures.ok refl refl
+    c.stage_changes.ensures.kept refl c.prepare.ensures.items c.stage_changes.ensures.more
 
 pub returns-in_err-add-clause-same : goal.returns-in_err-add-clause-same
 returns-in_err-add-clause-same g c =
     on_err c.from_residual-in_err-add.result (
-      record {
-        configs = c.in_err-add.ensures.err ∙ ap (λ (view : WatchView). view.configs) c.self.view_is;
-        entries = ap (λ (view : WatchView). view.entries) c.self.view_is;
-        plugged = ap (λ (view : WatchView). view.plugged) c.self.view_is;
-        kept = λ number. c.stage_changes.ensures.kept number ∙ ap (λ (view : WatchView). kept_of view.kept number) c.self.view_is;
-        changes = c.stage_changes.ensures.changes ∙ ap (λ (view : WatchView). view.changes) c.self.view_is;
-      },
+      left_same (view_of c.self.inside) _ _ c.self.view_is c.in_err-add.ensures.err refl refl c.stage_changes.ensures.kept c.stage_changes.ensures.changes,
       c.stage_changes.ensures.sensors,
     )
 
@@ -265,13 +202,7 @@ tell_changes-requires-clause-gone g c =
 
 module _ (g : Over) (c : After-commit-2 g) where
   abbrev before : WatchView
-  before = record {
-    configs = c.self.inside.shelf;
-    entries = c.self.inside.rows.entries;
-    plugged = c.self.inside.plugged;
-    kept = c.self.inside.keep.kept;
-    changes = c.self.inside.changes.items;
-  }
+  before = view_of c.self.inside
 
   abbrev behind : List Config → WatchView
   behind configs = record {
@@ -358,6 +289,15 @@ returns-clause-tried g c =
 
 -- ---- the work
 
+counted_within : (g : Over) (c : In_ok-next g)
+    → IsWithin c.args.steps.now c.prepare_config.new.steps (most_evals (c.args.self.now.configs ++ c.args.config ∷ []))
+counted_within g c =
+    within_rules (ConfigEvent (rule_of c.name.result c.probe.result.now c.as_slice.result.now)) c.args.steps.now c.prepare_config.new.steps
+    c.self.inside.set.rules c.self.inside.set.rows (c.args.self.now.configs ++ c.args.config ∷ [])
+    (rules_more c.self.inside.set.rules c.self.inside.shelf c.args.config c.name.result c.probe.result.now c.as_slice.result.now c.self.invariant.rules
+    c.name.ensures c.probe.ensures (c.as_slice.ensures ∙ c.in_ok-fixed.ensures)
+    ∙ ap (λ (view : WatchView). rules_of (view.configs ++ c.args.config ∷ [])) c.self.view_is) c.in_ok-next.ensures.counted
+
 pub returns-in_err-fixed-clause-counted : goal.returns-in_err-fixed-clause-counted
 returns-in_err-fixed-clause-counted g c =
     none_within c.args.steps.now (most_evals (c.args.self.now.configs ++ c.args.config ∷ []))
@@ -371,49 +311,19 @@ returns-in_err-next-clause-counted g c =
     ∙ ap (λ (view : WatchView). rules_of (view.configs ++ c.args.config ∷ [])) c.self.view_is) c.in_err-next.ensures.counted
 
 pub returns-in_err-difference-clause-counted : goal.returns-in_err-difference-clause-counted
-returns-in_err-difference-clause-counted g c =
-    within_rules (ConfigEvent (rule_of c.name.result c.probe.result.now c.as_slice.result.now)) c.args.steps.now c.prepare_config.new.steps
-    c.self.inside.set.rules c.self.inside.set.rows (c.args.self.now.configs ++ c.args.config ∷ [])
-    (rules_more c.self.inside.set.rules c.self.inside.shelf c.args.config c.name.result c.probe.result.now c.as_slice.result.now c.self.invariant.rules
-    c.name.ensures c.probe.ensures (c.as_slice.ensures ∙ c.in_ok-fixed.ensures)
-    ∙ ap (λ (view : WatchView). rules_of (view.configs ++ c.args.config ∷ [])) c.self.view_is) c.in_ok-next.ensures.counted
+returns-in_err-difference-clause-counted g c = counted_within g (goal.at.returns-in_err-difference-clause-counted g c).In_ok-next
 
 pub returns-in-Err-clause-counted : goal.returns-in-Err-clause-counted
-returns-in-Err-clause-counted g c =
-    within_rules (ConfigEvent (rule_of c.name.result c.probe.result.now c.as_slice.result.now)) c.args.steps.now c.prepare_config.new.steps
-    c.self.inside.set.rules c.self.inside.set.rows (c.args.self.now.configs ++ c.args.config ∷ [])
-    (rules_more c.self.inside.set.rules c.self.inside.shelf c.args.config c.name.result c.probe.result.now c.as_slice.result.now c.self.invariant.rules
-    c.name.ensures c.probe.ensures (c.as_slice.ensures ∙ c.in_ok-fixed.ensures)
-    ∙ ap (λ (view : WatchView). rules_of (view.configs ++ c.args.config ∷ [])) c.self.view_is) c.in_ok-next.ensures.counted
+returns-in-Err-clause-counted g c = counted_within g (goal.at.returns-in-Err-clause-counted g c).In_ok-next
 
 pub returns-in_err-items-clause-counted : goal.returns-in_err-items-clause-counted
-returns-in_err-items-clause-counted g c =
-    within_rules (ConfigEvent (rule_of c.name.result c.probe.result.now c.as_slice.result.now)) c.args.steps.now c.prepare_config.new.steps
-    c.self.inside.set.rules c.self.inside.set.rows (c.args.self.now.configs ++ c.args.config ∷ [])
-    (rules_more c.self.inside.set.rules c.self.inside.shelf c.args.config c.name.result c.probe.result.now c.as_slice.result.now c.self.invariant.rules
-    c.name.ensures c.probe.ensures (c.as_slice.ensures ∙ c.in_ok-fixed.ensures)
-    ∙ ap (λ (view : WatchView). rules_of (view.configs ++ c.args.config ∷ [])) c.self.view_is) c.in_ok-next.ensures.counted
+returns-in_err-items-clause-counted g c = counted_within g (goal.at.returns-in_err-items-clause-counted g c).In_ok-next
 
 pub returns-in_err-gone-clause-counted : goal.returns-in_err-gone-clause-counted
-returns-in_err-gone-clause-counted g c =
-    within_rules (ConfigEvent (rule_of c.name.result c.probe.result.now c.as_slice.result.now)) c.args.steps.now c.prepare_config.new.steps
-    c.self.inside.set.rules c.self.inside.set.rows (c.args.self.now.configs ++ c.args.config ∷ [])
-    (rules_more c.self.inside.set.rules c.self.inside.shelf c.args.config c.name.result c.probe.result.now c.as_slice.result.now c.self.invariant.rules
-    c.name.ensures c.probe.ensures (c.as_slice.ensures ∙ c.in_ok-fixed.ensures)
-    ∙ ap (λ (view : WatchView). rules_of (view.configs ++ c.args.config ∷ [])) c.self.view_is) c.in_ok-next.ensures.counted
+returns-in_err-gone-clause-counted g c = counted_within g (goal.at.returns-in_err-gone-clause-counted g c).In_ok-next
 
 pub returns-in_err-add-clause-counted : goal.returns-in_err-add-clause-counted
-returns-in_err-add-clause-counted g c =
-    within_rules (ConfigEvent (rule_of c.name.result c.probe.result.now c.as_slice.result.now)) c.args.steps.now c.prepare_config.new.steps
-    c.self.inside.set.rules c.self.inside.set.rows (c.args.self.now.configs ++ c.args.config ∷ [])
-    (rules_more c.self.inside.set.rules c.self.inside.shelf c.args.config c.name.result c.probe.result.now c.as_slice.result.now c.self.invariant.rules
-    c.name.ensures c.probe.ensures (c.as_slice.ensures ∙ c.in_ok-fixed.ensures)
-    ∙ ap (λ (view : WatchView). rules_of (view.configs ++ c.args.config ∷ [])) c.self.view_is) c.in_ok-next.ensures.counted
+returns-in_err-add-clause-counted g c = counted_within g (goal.at.returns-in_err-add-clause-counted g c).In_ok-next
 
 pub returns-clause-counted : goal.returns-clause-counted
-returns-clause-counted g c =
-    within_rules (ConfigEvent (rule_of c.name.result c.probe.result.now c.as_slice.result.now)) c.args.steps.now c.prepare_config.new.steps
-    c.self.inside.set.rules c.self.inside.set.rows (c.args.self.now.configs ++ c.args.config ∷ [])
-    (rules_more c.self.inside.set.rules c.self.inside.shelf c.args.config c.name.result c.probe.result.now c.as_slice.result.now c.self.invariant.rules
-    c.name.ensures c.probe.ensures (c.as_slice.ensures ∙ c.in_ok-fixed.ensures)
-    ∙ ap (λ (view : WatchView). rules_of (view.configs ++ c.args.config ∷ [])) c.self.view_is) c.in_ok-next.ensures.counted
+returns-clause-counted g c = counted_within g (goal.at.returns-clause-counted g c).In_ok-next

@@ -1,6 +1,7 @@
 use Rattle.std.proofs.Common.{arith, ◌≡◌, ◌∙◌, map, true, false, refl, ap, sym, subst}
 use Rattle.std.specs.Result.{is_err}
 use Rattle.probe_lang.specs.declared.rows.Entry.{Entry}
+use Rattle.bmc_watch.specs.Insides.{view_of}
 use Rattle.bmc_watch.specs.Settling.{Settles}
 use Rattle.bmc_watch.specs.Watches.{WatchView}
 use Rattle.bmc_watch.specs.Steps.{AddsFru}
@@ -37,13 +38,7 @@ invariant_of-self-2 g c =
 
 pub returns-clause-ok : goal.returns-clause-ok
 returns-clause-ok g c =
-    let old : WatchView = record {
-      configs = c.self.inside.shelf;
-      entries = c.self.inside.rows.entries;
-      plugged = c.self.inside.plugged;
-      kept = c.self.inside.keep.kept;
-      changes = c.self.inside.changes.items;
-    } in
+    let old = view_of c.self.inside in
     let new : WatchView = record {
       configs = c.self.inside.shelf;
       entries = c.plug.new.self.entries;

@@ -1,5 +1,6 @@
 use Rattle.std.proofs.Common.{arith, ◌≡◌, ◌∙◌, List, [], true, false, Some, find, length, map, option_map, refl, ap, sym, subst, append-nil, inr}
 use Rattle.std.specs.List.{AllByRecursion}
+use Rattle.bmc_base.specs.Steps.{IsWithin}
 use Rattle.probe_lang.specs.Presents.{without_entry, is_entry_at, are_by_place}
 use Rattle.fru_rows.specs.Idle.{busy}
 use Rattle.found_set.specs.Found.{facts}
@@ -10,10 +11,10 @@ use Rattle.found_set.specs.declared.next_facts.NextFacts.{NextFacts}
 use Rattle.inventory.specs.Boards.{boards_in, rules_of}
 use Rattle.probe_lang.specs.Sights.{entry_sight}
 use Rattle.bmc_watch.specs.Changes.{IsDifference}
-use Rattle.inventory.specs.Indexes.{kept_of}
 use Rattle.bmc_watch.specs.Settling.{Settles}
 use Rattle.bmc_watch.specs.Watches.{WatchView}
 use Rattle.bmc_watch.specs.Steps.{RemovesFru}
+use Rattle.bmc_watch.specs.Counting.{most_evals}
 use Rattle.bmc_watch.proofs.BusyLemmas.{busy_found, busy_without}
 use Rattle.bmc_watch.proofs.EventsLemmas.{IsSeen, on_err, busy_at, busy_none, held_place, unplug_among, seen, difference_is, gone_within, staged_within}
 use Rattle.bmc_watch.proofs.EventsLemmas.{tells_those, set_after}
@@ -23,12 +24,13 @@ use Rattle.cfg_json.specs.declared.item.Item.{Item}
 use Rattle.bmc_watch.specs.ItemSteps.{Continues}
 use Rattle.match_rows.proofs.RowsLemmas.{without_entry_by_place}
 use Rattle.inventory.specs.Limits.{limit_of, totals_after}
-use Rattle.bmc_watch.specs.Insides.{IsStocked}
+use Rattle.bmc_watch.specs.Insides.{IsStocked, view_of}
 use Rattle.bmc_watch.proofs.ItemsLemmas.{gone_apart}
-use Rattle.bmc_watch.proofs.StockLemmas.{IsNext, counted_then, items_with, none_passed, stock_is, stocked_kept, settles, taken_over, told_of, unplug_continues}
+use Rattle.bmc_watch.proofs.StockLemmas.{IsNext, counted_then, items_with, none_passed, stock_is, settles, taken_over, told_of, unplug_continues}
 use Rattle.bmc_watch.proofs.CountingLemmas.{within_rules}
+use Rattle.bmc_watch.proofs.LeftLemmas.{left_same, left_sound}
 use Rattle.bmc_watch.proofs.watch.Watch.remove_busy.Given.{Over}
-use Rattle.bmc_watch.proofs.watch.Watch.remove_busy.Goals.{In_ok-difference, After-commit-2}
+use Rattle.bmc_watch.proofs.watch.Watch.remove_busy.Goals.{In_ok-next, In_ok-difference, After-commit-2}
 use Rattle.bmc_watch.proofs.watch.Watch.remove_busy.Goals as goal
 
 pub prepare_unplug-requires : goal.prepare_unplug-requires
@@ -99,59 +101,27 @@ stage_items-requires g c = (_, items_continue g (goal.at.stage_items-requires g 
 -- ---- want of memory
 
 pub invariant_of-self-in_err-difference : goal.invariant_of-self-in_err-difference
-invariant_of-self-in_err-difference g c = record {
-  rules = ap (λ (set : SetView). set.rules) c.in_ok-next.ensures.ok ∙ c.self.invariant.rules;
-  rows = ap (λ (set : SetView). set.rows) c.in_ok-next.ensures.ok ∙ c.self.invariant.rows;
-  none = c.self.invariant.none;
-  stock = c.self.invariant.stock;
-  room = c.self.invariant.room;
-}
+invariant_of-self-in_err-difference g c =
+    left_sound c.self.inside _ c.self.invariant refl c.in_ok-next.ensures.ok refl refl (λ number. refl) refl refl (omega arith)
 
 pub invariant_of-self-in_err-items : goal.invariant_of-self-in_err-items
-invariant_of-self-in_err-items g c = record {
-  rules = ap (λ (set : SetView). set.rules) c.in_ok-next.ensures.ok ∙ c.self.invariant.rules;
-  rows = ap (λ (set : SetView). set.rows) c.in_ok-next.ensures.ok ∙ c.self.invariant.rows;
-  none = c.self.invariant.none;
-  stock = subst (IsStocked c.self.inside.shelf c.self.inside.rows.entries c.self.inside.keep.kept c.self.inside.totals) (sym c.stage_items.ensures.items)
-      c.self.invariant.stock;
-  room = c.self.invariant.room;
-}
+invariant_of-self-in_err-items g c =
+    left_sound c.self.inside _ c.self.invariant refl c.in_ok-next.ensures.ok refl refl (λ number. refl) refl c.stage_items.ensures.items (omega arith)
 
 pub invariant_of-self-in_err-gone : goal.invariant_of-self-in_err-gone
-invariant_of-self-in_err-gone g c = record {
-  rules = ap (λ (set : SetView). set.rules) c.in_ok-next.ensures.ok ∙ c.self.invariant.rules;
-  rows = ap (λ (set : SetView). set.rows) c.in_ok-next.ensures.ok ∙ c.self.invariant.rows;
-  none = c.self.invariant.none;
-  stock = subst (IsStocked c.self.inside.shelf c.self.inside.rows.entries c.stage_changes.new.keep.kept c.self.inside.totals)
-      (sym c.stage_items.ensures.items)
-      (stocked_kept c.self.inside.shelf c.self.inside.rows.entries c.self.inside.keep.kept c.stage_changes.new.keep.kept c.self.inside.totals
-      c.self.inside.stock.items c.stage_changes.ensures.kept c.self.invariant.stock);
-  room = omega (arith, c.self.invariant.room, c.stage_changes.ensures.more);
-}
+invariant_of-self-in_err-gone g c =
+    left_sound c.self.inside _ c.self.invariant refl c.in_ok-next.ensures.ok refl refl
+    c.stage_changes.ensures.kept refl c.stage_items.ensures.items c.stage_changes.ensures.more
 
 pub returns-in_err-items-clause-same : goal.returns-in_err-items-clause-same
 returns-in_err-items-clause-same g c =
-    on_err c.from_residual-in_err-items.result (
-      record {
-        configs = ap (λ (view : WatchView). view.configs) c.self.view_is;
-        entries = ap (λ (view : WatchView). view.entries) c.self.view_is;
-        plugged = ap (λ (view : WatchView). view.plugged) c.self.view_is;
-        kept = λ number. ap (λ (view : WatchView). kept_of view.kept number) c.self.view_is;
-        changes = ap (λ (view : WatchView). view.changes) c.self.view_is;
-      },
-      record { names = refl; slots = refl },
-    )
+    on_err c.from_residual-in_err-items.result
+    (left_same (view_of c.self.inside) _ _ c.self.view_is refl refl refl (λ number. refl) refl, record { names = refl; slots = refl })
 
 pub returns-in_err-gone-clause-same : goal.returns-in_err-gone-clause-same
 returns-in_err-gone-clause-same g c =
     on_err c.from_residual-in_err-gone.result (
-      record {
-        configs = ap (λ (view : WatchView). view.configs) c.self.view_is;
-        entries = ap (λ (view : WatchView). view.entries) c.self.view_is;
-        plugged = ap (λ (view : WatchView). view.plugged) c.self.view_is;
-        kept = λ number. c.stage_changes.ensures.kept number ∙ ap (λ (view : WatchView). kept_of view.kept number) c.self.view_is;
-        changes = c.stage_changes.ensures.changes ∙ ap (λ (view : WatchView). view.changes) c.self.view_is;
-      },
+      left_same (view_of c.self.inside) _ _ c.self.view_is refl refl refl c.stage_changes.ensures.kept c.stage_changes.ensures.changes,
       c.stage_changes.ensures.sensors,
     )
 
@@ -172,13 +142,7 @@ tell_changes-requires-clause-gone g c =
 -- ---- what is known once all is taken over
 
 abbrev before : (g : Over) (c : After-commit-2 g) → WatchView
-before g c = record {
-  configs = c.self.inside.shelf;
-  entries = c.self.inside.rows.entries;
-  plugged = c.self.inside.plugged;
-  kept = c.self.inside.keep.kept;
-  changes = c.self.inside.changes.items;
-}
+before g c = view_of c.self.inside
 
 abbrev behind : (g : Over) (c : After-commit-2 g) → List Entry → WatchView
 behind g c there = record {
@@ -284,27 +248,24 @@ unreachable-requires-in-Err g c =
 
 -- ---- the work
 
+counted_within : (g : Over) (c : In_ok-next g) → IsWithin c.args.steps.now c.prepare_unplug.new.steps (most_evals c.args.self.now.configs)
+counted_within g c =
+    within_rules (UnplugEvent c.args.place) c.args.steps.now c.prepare_unplug.new.steps c.self.inside.set.rules c.self.inside.set.rows
+    c.args.self.now.configs (c.self.invariant.rules ∙ ap (λ (view : WatchView). rules_of view.configs) c.self.view_is) c.in_ok-next.ensures.counted
+
 pub returns-in_err-next-clause-counted : goal.returns-in_err-next-clause-counted
 returns-in_err-next-clause-counted g c =
     within_rules (UnplugEvent c.args.place) c.args.steps.now c.prepare_unplug.new.steps c.self.inside.set.rules c.self.inside.set.rows
     c.args.self.now.configs (c.self.invariant.rules ∙ ap (λ (view : WatchView). rules_of view.configs) c.self.view_is) c.in_err-next.ensures.counted
 
 pub returns-in_err-difference-clause-counted : goal.returns-in_err-difference-clause-counted
-returns-in_err-difference-clause-counted g c =
-    within_rules (UnplugEvent c.args.place) c.args.steps.now c.prepare_unplug.new.steps c.self.inside.set.rules c.self.inside.set.rows
-    c.args.self.now.configs (c.self.invariant.rules ∙ ap (λ (view : WatchView). rules_of view.configs) c.self.view_is) c.in_ok-next.ensures.counted
+returns-in_err-difference-clause-counted g c = counted_within g (goal.at.returns-in_err-difference-clause-counted g c).In_ok-next
 
 pub returns-in_err-items-clause-counted : goal.returns-in_err-items-clause-counted
-returns-in_err-items-clause-counted g c =
-    within_rules (UnplugEvent c.args.place) c.args.steps.now c.prepare_unplug.new.steps c.self.inside.set.rules c.self.inside.set.rows
-    c.args.self.now.configs (c.self.invariant.rules ∙ ap (λ (view : WatchView). rules_of view.configs) c.self.view_is) c.in_ok-next.ensures.counted
+returns-in_err-items-clause-counted g c = counted_within g (goal.at.returns-in_err-items-clause-counted g c).In_ok-next
 
 pub returns-in_err-gone-clause-counted : goal.returns-in_err-gone-clause-counted
-returns-in_err-gone-clause-counted g c =
-    within_rules (UnplugEvent c.args.place) c.args.steps.now c.prepare_unplug.new.steps c.self.inside.set.rules c.self.inside.set.rows
-    c.args.self.now.configs (c.self.invariant.rules ∙ ap (λ (view : WatchView). rules_of view.configs) c.self.view_is) c.in_ok-next.ensures.counted
+returns-in_err-gone-clause-counted g c = counted_within g (goal.at.returns-in_err-gone-clause-counted g c).In_ok-next
 
 pub returns-clause-counted : goal.returns-clause-counted
-returns-clause-counted g c =
-    within_rules (UnplugEvent c.args.place) c.args.steps.now c.prepare_unplug.new.steps c.self.inside.set.rules c.self.inside.set.rows
-    c.args.self.now.configs (c.self.invariant.rules ∙ ap (λ (view : WatchView). rules_of view.configs) c.self.view_is) c.in_ok-next.ensures.counted
+returns-clause-counted g c = counted_within g (goal.at.returns-clause-counted g c).In_ok-next

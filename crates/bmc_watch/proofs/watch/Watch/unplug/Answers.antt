@@ -4,6 +4,7 @@ use Rattle.found_set.specs.Rows.{row_of}
 use Rattle.found_set.proofs.EventsLemmas.{none_within}
 use Rattle.bmc_report.specs.declared.refusal.Refusal.{Refusal}
 use Rattle.bmc_machine.specs.Histories.{Unplug}
+use Rattle.bmc_watch.specs.Insides.{view_of}
 use Rattle.bmc_watch.specs.Settling.{Settles, SettlesUnless}
 use Rattle.bmc_watch.specs.Watches.{WatchView}
 use Rattle.bmc_watch.specs.Steps.{Tries}
@@ -53,13 +54,7 @@ invariant_of-self g c =
 
 pub returns-then-is_idle-clause-tried : goal.returns-then-is_idle-clause-tried
 returns-then-is_idle-clause-tried g c =
-    let old : WatchView = record {
-      configs = c.self.inside.shelf;
-      entries = c.self.inside.rows.entries;
-      plugged = c.self.inside.plugged;
-      kept = c.self.inside.keep.kept;
-      changes = c.self.inside.changes.items;
-    } in
+    let old = view_of c.self.inside in
     let new : WatchView = record {
       configs = c.self.inside.shelf;
       entries = c.unplug.new.self.entries;
